@@ -6,7 +6,8 @@ USAGE = (
     b"usage: noticed batch HOST"
     b" | serve [[--journal FOLDER] --outbox PATH] [--idle SECONDS] [--end-on-fault] [--log] SOCKET HOST AGENTS MAX-USE"
     b" | stop SOCKET | send SOCKET | journal FOLDER"
-    b" | postfix [--postfix VERSION] [--lifetime SECONDS] [--double-bounce ADDRESS] [--hash-queue-names NAMES]"
+    b" | postfix [--lifetime SECONDS] [--bounce-size-limit BYTES] [--double-bounce ADDRESS]"
+    b" [--hash-queue-names NAMES]"
     b" [--hash-queue-depth DEPTH] [--inherited] QUEUE-FOLDER HOST HAND-IN\n"
 )
 PATH = b"the path of the socket must have 1 to 107 bytes\n"
@@ -139,6 +140,7 @@ WRONG = {
     "postfix with a host that is no UTF-8": ["postfix", QUEUE, b"\xff", HAND_IN],
     "postfix with an unknown option": ["postfix", "--verbose", "1", QUEUE, HOST, HAND_IN],
     "postfix with an option of serve": ["postfix", "--log", QUEUE, HOST, HAND_IN],
+    "postfix with a version": ["postfix", "--postfix", "3.7", QUEUE, HOST, HAND_IN],
     "postfix with an option after its folder": ["postfix", QUEUE, "--lifetime", "1", HOST, HAND_IN],
     "postfix with an option at its end": ["postfix", QUEUE, HOST, HAND_IN, "--lifetime", "1"],
     "postfix with an option in one word": ["postfix", "--lifetime=1", QUEUE, HOST, HAND_IN],
@@ -150,13 +152,12 @@ WRONG = {
 
 # the options of `postfix`, with a value that is right
 POSTFIX_OPTIONS = {
-    "--postfix": "3.7",
     "--lifetime": "1",
+    "--bounce-size-limit": "1",
     "--double-bounce": "a@b",
     "--hash-queue-names": "defer",
     "--hash-queue-depth": "1",
 }
-NO_VERSIONS = ["", "3", "3.", "3.5", "3.11", "3.07", "3.7.11", "v3.7", "3.7 ", "4.0"]
 NO_NAMES = ["defer;bounce", "../defer", "a_b", "defer\n", "d\u00e9fer", "x" * 101, "defer, " + "x" * 101]
 # wrong as HAND-IN: no IP address with a port
 NO_HAND_INS = [
@@ -214,6 +215,8 @@ NO_AGENTS = [*NO_NUMBERS, "17", "100", "016"]
 NO_USES = [*NO_NUMBERS, "1000001", "01000000", "4294967296"]
 NO_SECONDS = [*NO_NUMBERS, "86401", "4294967296"]
 NO_LIFETIMES = [*NO_NUMBERS, "8640001", "5d", "4294967296"]
+# Postfix itself refuses a limit of 0
+NO_SIZE_LIMITS = [*NO_NUMBERS, "2147483648", "50k", "4294967296"]
 NO_DEPTHS = [*NO_NUMBERS, "17", "4294967296"]
 
 # a socket's path that is empty, or longer than the system takes
@@ -240,13 +243,13 @@ RIGHT_OF_POSTFIX = {
     "an IPv6 address": [QUEUE, HOST, "[::1]:10025"],
     "the least and the most": ["--lifetime", "1", "--hash-queue-depth", "16", QUEUE, HOST, "127.0.0.1:65535"],
     "the most of a lifetime": ["--lifetime", "8640000", QUEUE, HOST, HAND_IN],
+    "the most of a size limit": ["--bounce-size-limit", "2147483647", QUEUE, HOST, HAND_IN],
     "no hashed queue": ["--hash-queue-names", "", QUEUE, HOST, HAND_IN],
     "a list of hashed queues": ["--hash-queue-names", "deferred, defer\tbounce", QUEUE, HOST, HAND_IN],
     "an address without a domain": ["--double-bounce", "double-bounce", QUEUE, HOST, HAND_IN],
-    "a host like an option": [QUEUE, "--postfix", HAND_IN],
+    "a host like an option": [QUEUE, "--lifetime", HAND_IN],
     "inherited sockets": ["--inherited", QUEUE, HOST, HAND_IN],
     "inherited sockets before another option": ["--inherited", "--lifetime", "1", QUEUE, HOST, HAND_IN],
-    **{f"version {it}": ["--postfix", it, QUEUE, HOST, HAND_IN] for it in ("3.6", "3.7", "3.8", "3.9", "3.10")},
     "all options": [*(word for it in POSTFIX_OPTIONS.items() for word in it), QUEUE, HOST, HAND_IN],
 }
 
@@ -263,8 +266,8 @@ def wrong_of_postfix() -> dict:
         wrong[f"postfix with {option} without a value"] = ["postfix", option, *place]
         wrong[f"postfix with {option} alone"] = ["postfix", option, value]
     for option, values in (
-        ("--postfix", NO_VERSIONS),
         ("--lifetime", NO_LIFETIMES),
+        ("--bounce-size-limit", NO_SIZE_LIMITS),
         ("--hash-queue-depth", NO_DEPTHS),
         ("--hash-queue-names", NO_NAMES),
     ):
@@ -285,12 +288,11 @@ def main():
     for path in NO_PATHS:
         for words in (["serve", path, HOST, "2", "1"], ["stop", path], ["send", path]):
             checks.equal(f"{words[0]} with a path of {len(path)} bytes", run(words, given), Ran(b"", PATH, 2))
+    why = "No such file or directory (os error 2)"
     for what, words in RIGHT.items():
         path = SOCKET if SOCKET in words else words[-1]
-        why = "No such file or directory (os error 2)"
         checks.equal(what, run(words, given), Ran(b"", f"fault 61\n{path}: {why}\n".encode(), 1))
     for what, words in RIGHT_OF_POSTFIX.items():
-        why = "Bad file descriptor (os error 9)" if "--inherited" in words else "No such file or directory (os error 2)"
         checks.equal(
             f"postfix with {what}",
             run(["postfix", *words], given),

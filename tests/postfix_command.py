@@ -1,7 +1,7 @@
 """`noticed postfix` without a Postfix: a queue folder made up of what Postfix wrote (tests/postfix/files/), clients
 that ask as its programs do, a mail server that refuses at each step, and services of its own that take what is passed
 on. What was asked is answered 0 only once the server took the notice; else the log stays. And kills, two processes, a
-log that is locked, a disk that is full, and clients that say nothing or no request."""
+log that is locked, a disk that is full, and requests that are none."""
 import fcntl
 import os
 import random
@@ -25,6 +25,7 @@ from tests.support.postfix_folder import (
     Postfix,
     append,
     asked_in,
+    at_once,
     heard,
     heard_to_end,
     listed,
@@ -49,26 +50,12 @@ PASSED_ON = {
     "orcpt-utf8",
 }
 STEPS = ("connect", "EHLO", "MAIL", "RCPT", "DATA", "message")
-THREADS = 32  # clients of one service that are served at once
-AT_ONCE = 2  # notices that are handed in at once
-SECONDS_FOR_CLIENT, SECONDS_FOR_LOCK = 60, 20
+SECONDS_FOR_LOCK = 20
 MESSAGES = 150  # that are told of while the program is killed
+UNREAD, SECONDS_AT_MOST = 1_000, 10  # requests while nobody reads their lines; how long each step may take
+NOBODY = 65_534  # a user that isn't this script's
+LAST_LINE = f"noticed-bounce: request not carried out: status {FAILED}"
 WRONG_IDS = ("../bounce/A1", "A/B", ".", "..", "A1.", "", "A" * 33, "A1 ", "Ä1")
-
-
-def at_once(*calls) -> list:
-    """What calls give that are made at the same time."""
-    found = [None] * len(calls)
-
-    def one(place, call):
-        found[place] = call()
-
-    threads = [threading.Thread(target=one, args=it) for it in enumerate(calls)]
-    for it in threads:
-        it.start()
-    for it in threads:
-        it.join()
-    return found
 
 
 # ---- what goes well
@@ -108,7 +95,8 @@ def check_append_and_flush(checks: Checks):
             b"Subject: hello",
         ):
             checks.true(f"the notice has {line}", b"\r\n" + line + b"\r\n" in text)
-        checks.equal("bounce(8)'s line", it.lines()[1:], [f"{ONE}: sender non-delivery notification: NEW1"])
+        wanted = [f"listening in {it.folder} for {HOST}", f"{ONE}: sender non-delivery notification: NEW1"]
+        checks.equal("bounce(8)'s line", (it.last_lines(*wanted), len(it.lines())), (wanted, 2))
         checks.equal(
             "what is left",
             sorted(str(path.relative_to(it.folder)) for path in it.folder.rglob("*") if not path.is_dir()),
@@ -156,6 +144,72 @@ def check_hashing(checks: Checks):
             )
 
 
+def put_in(it: Postfix, place: str):
+    """Puts a log or another file into the queue folder, or a folder if its name ends with a slash."""
+    folder = it.at(place if place.endswith("/") else place.rpartition("/")[0])
+    folder.mkdir(parents=True, exist_ok=True, mode=0o700)
+    if not place.endswith("/"):
+        it.at(place).write_bytes((FILES / "one/bounce").read_bytes())
+
+
+def check_hashing_at_start(checks: Checks):
+    """A start that finds in the queues what can't be there with its options makes nothing."""
+    depth_2, bounce = ("--hash-queue-depth", "2"), ("--hash-queue-names", "defer,deferred,bounce")
+    for options, place, seen, depths in (
+        (depth_2, f"defer/0/{ONE}", f"defer/0/{ONE}", (1, 2)),
+        ((), f"defer/{ONE}", f"defer/{ONE}", (0, 1)),
+        ((), "deferred/4jZlfk4Kjfz1btWg", "deferred/4jZlfk4Kjfz1btWg", (0, 1)),
+        ((), "defer/0/9/", "defer/0/9", (2, 1)),
+        ((), "bounce/_/", "bounce/_", (1, 0)),
+        ((), f"bounce/0/{ONE}", "bounce/0", (1, 0)),
+        ((), "active/0/", "active/0", (1, 0)),
+        ((), f"trace/0/{ONE}", f"trace/0/{ONE}", (1, 0)),
+        (bounce, f"bounce/{ONE}", f"bounce/{ONE}", (0, 1)),
+    ):
+        with Postfix(start=False) as it:
+            put_in(it, place)
+            line = f"{seen}: the queue is hashed to a depth of {depths[0]}, and the options say {depths[1]}"
+            checks.equal(
+                f"{place}, with {options}",
+                run(["postfix", *options, str(it.folder), HOST, it.server.address], timeout=SECONDS_AT_MOST),
+                Ran(b"", f"fault 61\n{it.folder}/{line}\n".encode(), 1),
+            )
+            checks.equal(f"{place}: nothing is made", [*it.at("private").iterdir()], [])
+    # what other settings leave behind, what is as it should be, and what is no file or folder of Postfix's
+    fine = ("trace/0/", "defer/0/", f"defer/1/{ONE}", f"bounce/{ONE}", "bounce/core.1234", "active/a", f"hold/{ONE}A/")
+    with Postfix(start=False) as it:
+        for place in fine:
+            put_in(it, place)
+        it.start()
+        checks.equal(f"it starts with {fine}", it.ask("bounce", append(ONE)), 0)
+
+
+def check_hashing_at_run(checks: Checks):
+    """A log that is found elsewhere than the options say has a line, and no other is made beside it."""
+    with Postfix() as it:
+        own = {name: OwnService(it.folder, name) for name in SERVICES}
+        it.put("one")
+        put_in(it, f"bounce/0/{ONE}")
+        line = f"{ONE}: a log stands at {it.folder}/bounce/0/{ONE}, where the options have none"
+        found = (it.ask("bounce", notice(1, ONE)), own["bounce"].asked)
+        checks.equal("a flush is passed on", found, (0, [notice(1, ONE)]))
+        wanted = [line, f"{ONE}: bounce: passed on: the log is missing"]
+        checks.equal("its lines", it.last_lines(*wanted), wanted)
+        found = (it.ask("bounce", append(ONE)), it.at(f"bounce/{ONE}").exists())
+        checks.equal("an append fails", found, (FAILED, False))
+        wanted = [line, f"{ONE}: noticed-bounce: request not carried out: status {FAILED}"]
+        checks.equal("its lines", it.last_lines(*wanted), wanted)
+        checks.equal("an append to another log", it.ask("trace", append(ONE)), 0)
+        message = it.put("mixed", "bounce", "defer")
+        it.at("bounce/1").mkdir()
+        it.at(f"bounce/{message}").rename(it.at(f"bounce/1/{message}"))
+        checks.equal("a flush of the defer log", it.ask("defer", asked_in("mixed", "expired")), 0)
+        line = f"{message}: a log stands at {it.folder}/bounce/1/{message}, where the options have none"
+        wanted = [line, f"{message}: sender non-delivery notification: NEW1"]
+        checks.equal("its lines", it.last_lines(*wanted), wanted)
+
+
+
 def check_kinds(checks: Checks):
     """A warning keeps the log; an expired message's is removed; what else is answered 0 without a notice."""
     with Postfix("--lifetime", "3600") as it:
@@ -168,14 +222,17 @@ def check_kinds(checks: Checks):
             "retried for the lifetime",
             b" %02d:%s" % ((int(arrival[1]) + 1) % 24, arrival[2]) in re.search(rb"Will-Retry-Until: (.*)\r", text)[1],
         )
-        checks.equal("its line", it.lines()[-1], f"{message}: sender delay notification: NEW1")
+        wanted = f"{message}: sender delay notification: NEW1"
+        checks.equal("its line", it.last_lines(wanted), [wanted])
         checks.equal("it expired", (it.ask("defer", asked_in("later", "expired")), log.exists()), (0, False))
-        checks.equal("its line", it.lines()[-1], f"{message}: sender non-delivery notification: NEW2")
+        wanted = f"{message}: sender non-delivery notification: NEW2"
+        checks.equal("its line", it.last_lines(wanted), [wanted])
         message = it.put("relayed", "trace")
         checks.equal(
             "a trace", (it.ask("trace", asked_in("relayed", "success")), it.at(f"trace/{message}").exists()), (0, False)
         )
-        checks.equal("its line", it.lines()[-1], f"{message}: sender delivery status notification: NEW3")
+        wanted = f"{message}: sender delivery status notification: NEW3"
+        checks.equal("its line", it.last_lines(wanted), [wanted])
         checks.equal("a trace without a log", it.ask("trace", asked_in("relayed", "success")), 0)
         for sender in ("", f"double-bounce@{HOST}"):
             it.put("one", "bounce")
@@ -184,6 +241,13 @@ def check_kinds(checks: Checks):
                 (it.ask("bounce", notice(1, ONE, sender=sender)), it.at(f"bounce/{ONE}").exists()),
                 (0, False),
             )
+        dropped = f"warning: {ONE}: undeliverable postmaster notification discarded"
+        checks.equal("its line", it.last_lines(wanted, dropped), [wanted, dropped])
+        it.put("one", "bounce")
+        checks.equal("in another case", it.ask("bounce", notice(1, ONE, sender=f"Double-Bounce@{HOST}")), 0)
+        checks.equal("its line", it.last_lines(dropped, dropped), [dropped, dropped])
+        checks.equal("a warning", it.ask("defer", notice(2, ONE, sender=f"double-bounce@{HOST}")), 0)
+        checks.equal("has none", it.last_lines(wanted, dropped, dropped), [wanted, dropped, dropped])
         checks.equal("notices in all", len(it.server.taken), 3)
     with Postfix("--double-bounce", "nobody@example.com") as it:
         for sender, notices in (("nobody@example.com", 0), (f"double-bounce@{HOST}", 1)):
@@ -193,6 +257,45 @@ def check_kinds(checks: Checks):
                 (it.ask("bounce", notice(1, ONE, sender=sender)), len(it.server.taken)),
                 (0, notices),
             )
+
+
+def check_size_limit(checks: Checks):
+    """A message of more bytes than `bounce_size_limit` gives back its header, all of it, as with bounce(8)."""
+    records = (FILES / "one/queue.records").read_bytes().splitlines()
+    lines = [it[1:] for it in records if it.startswith(b"N")]
+    size, header = sum(len(it) + 1 for it in lines), lines[: lines.index(b"")]
+    for limit in (2147483647, size, size - 1, 1):
+        with Postfix("--bounce-size-limit", str(limit)) as it:
+            it.put("one", "bounce")
+            checks.equal(f"limit {limit} of {size} bytes: asked", it.ask("bounce", asked_in("one", "failure")), 0)
+            part = it.server.taken[0][2].split(b"\r\n--")[3]
+            kind, wanted = (b"message/rfc822", lines) if size <= limit else (b"text/rfc822-headers", header)
+            returned = b"Content-Type: %s\r\n\r\n" % kind + b"".join(line + b"\r\n" for line in wanted)
+            checks.true(f"limit {limit} of {size} bytes: {kind}", part.endswith(returned))
+
+
+def check_original_recipient(checks: Checks):
+    """A recipient that was rewritten, or named otherwise by its sender, is told with that; of others Postfix says the
+    address of RCPT itself, and a notice nothing."""
+    for fields, original in (
+        ({"dsn_orig_rcpt": "rfc822;no.bob@example.org"}, b""),
+        ({"dsn_orig_rcpt": "RFC822;no.bob@example.org"}, b""),
+        ({"dsn_orig_rcpt": "rfc822;no.bob@example.org", "original_recipient": "staff@example.org"}, b""),
+        ({}, b""),
+        ({"original_recipient": "staff@example.org"}, b"rfc822; staff@example.org"),
+        ({"dsn_orig_rcpt": "rfc822;No.Bob@example.org"}, b"rfc822; No.Bob@example.org"),
+        ({"dsn_orig_rcpt": "x400;no.bob@example.org"}, b"x400; no.bob@example.org"),
+    ):
+        with Postfix() as it:
+            it.put("one")
+            checks.equal(f"{fields}: an append", it.ask("bounce", append(ONE, **fields)), 0)
+            checks.equal(f"{fields}: a flush", it.ask("bounce", asked_in("one", "failure")), 0)
+            text = it.server.taken[0][2]
+            found = b"".join(re.findall(rb"\r\nOriginal-Recipient: (.*?)\r\n", text))
+            checks.equal(f"{fields}: the original recipient", found, original)
+            address = original.partition(b"; ")[2]
+            words = b"<no.bob@example.org> (expanded from <%s>)" % address
+            checks.equal(f"{fields}: the words", words in text, address not in (b"", b"no.bob@example.org"))
 
 
 def check_expired_with_bounces(checks: Checks):
@@ -234,6 +337,25 @@ def check_expired_with_bounces(checks: Checks):
         own.asked = []
         found = (it.ask("defer", asked_in("mixed", "expired")), len(it.server.taken), logs[1].exists(), own.asked)
         checks.equal("an empty bounce log counts as none", found, (0, 4, False, []))
+
+
+def check_flags_of_both_logs(checks: Checks):
+    """CLEAN (1) and DELRCPT (2) of a flush of the defer log are about that log: the flush of a bounce log that comes
+    first, and is passed on, has neither. bounce(8) would mark the places of the bounce log as done, where a deferred
+    recipient of the same alias has one of them, and nobody would be told of that recipient."""
+    with Postfix() as it:
+        own = OwnService(it.folder, "bounce")
+        for status in (0, FAILED):
+            own.status = b"status\x00%d\0\0" % status
+            for flags in range(4):
+                message, own.asked = it.put("mixed", "bounce", "defer"), []
+                logs = [it.at(f"bounce/{message}"), it.at(f"defer/1/{message}")]
+                logs[0].write_bytes(b"damaged\n\n")
+                how = {"options": ("sendopts" if flags % 2 else "smtputf8", 2)}
+                asked = notice(1, message, flags=flags, **how)
+                found = (it.ask("defer", asked), own.asked, [log.exists() for log in logs])
+                wanted = (status, [notice(1, message, **how)], [True, status == FAILED])
+                checks.equal(f"flags {flags}, and bounce(8) answers {status}", found, wanted)
 
 
 def check_marks(checks: Checks):
@@ -315,7 +437,7 @@ def check_refusals(checks: Checks):
         it.server.replies = {}
         checks.true(
             "lines on standard error",
-            f"{ONE}: noticed-bounce: request not carried out: status 4294967295" in it.lines()
+            until(lambda: f"{ONE}: noticed-bounce: request not carried out: status 4294967295" in it.lines())
             and any(f"{ONE}: notice not accepted: refused: " in line for line in it.lines()),
         )
         taken = len(it.server.taken)
@@ -482,14 +604,14 @@ def check_no_server(checks: Checks):
 
 
 def check_passed_on(checks: Checks):
-    """What is no request of this version, or can't be said, goes to Postfix's own service as it is, and its status
-    comes back; without such a service it is -1."""
+    """What is no request, or can't be said, goes to Postfix's own service as it is, and its status comes back; without
+    such a service it is -1."""
     wrong = [
         listed(nrequest=1, flags=0),
         listed(what="ever"),
         b"\0",
         b"what is this\0\0\0",
-        notice(1, ONE, fifth="sendopts"),
+        notice(1, ONE, options=("sendoptions", 0)),
         notice(9, ONE),
     ]
     wrong += (
@@ -515,6 +637,40 @@ def check_passed_on(checks: Checks):
             )
             if own:
                 check_own_service(checks, it, own["bounce"])
+
+
+def check_reasons(checks: Checks):
+    """Each request that is passed on has a line with its reason."""
+    quoted, whole = '"bob smith"@example.org', (FILES / "one/bounce").read_bytes()
+    for about, log, request, wanted in (
+        ("no request", None, listed(what="ever"), "no request: bounce: passed on: an attribute has another name"),
+        ("no queue id", None, notice(1, "A/B"), "no request: bounce: passed on: the queue id is none"),
+        ("an append", None, append(ONE, quoted), "the recipient can't be said in a log"),
+        ("no log", None, notice(1, ONE), "the log is missing"),
+        ("a damaged log", whole + b"what?\n\n", notice(1, ONE), f"the log is damaged at byte {len(whole)}"),
+        ("SMTPUTF8", whole, notice(1, ONE).replace(b"smtputf8\0000", b"smtputf8\0001"), "the message needs SMTPUTF8"),
+        ("a quoted sender", whole, notice(1, ONE, sender=quoted), "the address of the notice needs quotes"),
+        ("no queue file", whole, notice(1, ONE, queue="active"), "it is unknown when the message came"),
+        ("refused for good", whole, notice(1, ONE), "the mail server refused its notice for good"),
+    ):
+        with Postfix() as it:
+            own = OwnService(it.folder, "bounce")
+            it.put("one")
+            if log:
+                it.at(f"bounce/{ONE}").write_bytes(log)
+            if about == "refused for good":
+                it.server.replies["RCPT"] = b"550 5.1.1 no"
+            line = wanted if wanted.startswith("no request") else f"{ONE}: bounce: passed on: {wanted}"
+            checks.equal(f"{about}: what is passed on", (it.ask("bounce", request), own.asked), (0, [request]))
+            checks.equal(f"{about}: its line", it.last_lines(line), [line])
+    with Postfix() as it:
+        it.ask("trace", listed(what="ever"))
+        wanted = [
+            "no request: trace: passed on: an attribute has another name",
+            "trace: No such file or directory (os error 2)",
+            f"no request: noticed-trace: request not carried out: status {FAILED}",
+        ]
+        checks.equal("without the service: its lines", it.last_lines(*wanted), wanted)
 
 
 def check_own_service(checks: Checks, it: Postfix, own: OwnService):
@@ -548,14 +704,37 @@ def check_own_service(checks: Checks, it: Postfix, own: OwnService):
     )
 
 
-def check_versions(checks: Checks):
-    """Each version's layout."""
-    for version in ("3.6", "3.7", "3.8", "3.9", "3.10"):
-        with Postfix("--postfix", version) as it:
-            for fifth in ("smtputf8", "sendopts"):
+def check_send_options(checks: Checks):
+    """The options to send by are served by both of their names; where a notice can't keep one of them, the request is
+    passed on as it came."""
+    with Postfix() as it:
+        own = OwnService(it.folder, "bounce")
+        for name in ("smtputf8", "sendopts"):
+            for value in (0, 2, 4, 8, 14, 1, 7, 16, 18, 32, 48, 64, 2**31):
                 it.put("one", "bounce")
-                wanted = 0 if (fifth == "sendopts") == (version == "3.10") else FAILED
-                checks.equal(f"{version}: {fifth}", it.ask("bounce", notice(1, ONE, fifth=fifth)), wanted)
+                asked, taken, passed_on = notice(1, ONE, options=(name, value)), len(it.server.taken), len(own.asked)
+                found = (it.ask("bounce", asked), len(it.server.taken) - taken, own.asked[passed_on:])
+                checks.equal(f"{name} {value}", found, (0, 1, []) if value in (0, 2, 4, 8, 14) else (0, 0, [asked]))
+
+
+def check_outcomes(checks: Checks):
+    """Two commands of one alias have its address and its place: each outcome is told, and one that was logged twice in
+    the same words is told once."""
+    alias = {"recipient": "staff@example.org", "offset": 6}
+    for service, kind, outcome, others in (
+        ("bounce", 1, {"status": "5.3.0", "action": "failed"}, [{"status": "5.2.0"}, {"reason": "another"}]),
+        ("defer", 2, {"status": "4.3.0", "action": "delayed"}, [{"status": "4.2.0"}, {"reason": "another"}]),
+        ("trace", 5, {"status": "2.0.0", "action": "delivered"}, [{"action": "relayed"}, {"reason": "another"}]),
+        ("trace", 5, {"status": "5.3.0", "action": "failed"}, [{"status": "2.0.0", "action": "delivered"}]),
+    ):
+        for other in others:
+            with Postfix() as it:
+                it.put("one")
+                for report in (outcome, outcome | other, outcome, outcome | other):
+                    it.ask(service, append(ONE, **alias, **report))
+                checks.equal(f"{service}, {other}: asked", it.ask(service, notice(kind, ONE)), 0)
+                told = [text.count(b"Final-Recipient: rfc822; staff@example.org\r\n") for _, _, text in it.server.taken]
+                checks.equal(f"{service}, {other}: outcomes that are told", told, [2])
 
 
 def check_broken_clients(checks: Checks):
@@ -802,70 +981,83 @@ def check_start(checks: Checks):
         )
 
 
-# ---- at once
-
-
-def check_at_once(checks: Checks):
-    """Many clients at once: appends to one log all stand in it; notices are handed in side by side, two and no more,
-    while others wait; a server that is slow holds up no appends, as long as a thread of the service is left."""
-    with Postfix() as it:
-        found = at_once(
-            *(lambda text=f"550 number {number}": it.ask("bounce", append(ONE, text=text)) for number in range(40))
-        )
-        log = it.at(f"bounce/{ONE}").read_text()
-        checks.equal(
-            "appends to one log",
-            (found, sorted(map(int, re.findall(r"diag_text=550 number (\d+)", log)))),
-            ([0] * 40, list(range(40))),
-        )
-        one = re.sub(r"number \d+", "number", log[: log.index("\n\n", 1) + 2])
-        checks.true("its records are whole", re.sub(r"number \d+", "number", log) == 40 * one)
-        go, waiting, most = threading.Event(), [], []
-        it.server.waits["message"] = lambda: (waiting.append(1), most.append(len(waiting)), go.wait(30))
-        ids = [f"A{number}" for number in range(THREADS - 2)]
-        queue = (FILES / "one/queue").read_bytes()
-        it.at("deferred/A").mkdir()
-        for message in ids:
-            it.at(f"deferred/A/{message}").write_bytes(queue)
-            it.at(f"bounce/{message}").write_bytes((FILES / "one/bounce").read_bytes())
-        asking = threading.Thread(
-            target=lambda: most.append(
-                at_once(*(lambda message=message: it.ask("bounce", notice(1, message)) for message in ids))
+def check_account(checks: Checks):
+    """Started as another account than the owner of private/, as root above all, it makes and removes nothing."""
+    if os.geteuid():
+        checks.skip("another account (needs root)")
+        return
+    for options in ((), ("--inherited",)):
+        with Postfix(start=False) as it:
+            at_socket = it.at("private/noticed-defer")
+            at_socket.write_text("a file")
+            os.chown(it.at("private"), NOBODY, NOBODY)
+            words = f"belongs to another account (user {NOBODY}); noticed runs as user 0: start it as the owner"
+            checks.equal(
+                f"root on nobody's folder, with {options}",
+                run(["postfix", *options, str(it.folder), HOST, it.server.address], timeout=SECONDS_AT_MOST),
+                Ran(b"", f"fault 61\n{it.folder}/private: {words}\n".encode(), 1),
             )
-        )
-        asking.start()
-        checks.true("notices that are handed in side by side", until(lambda: len(waiting) >= AT_ONCE))
-        time.sleep(0.5)
-        checks.equal("and no more", len(waiting), AT_ONCE)
-        checks.equal("appends are served", [it.ask(service, append(ONE)) for service in ("bounce", "defer")], [0, 0])
-        go.set()
-        asking.join()
-        checks.equal("all are told", (most[-1], len(it.server.taken)), ([0] * len(ids), len(ids)))
+            checks.equal("nothing is made or removed", [*it.at("private").iterdir()], [at_socket])
+            checks.equal("no folder of logs is touched", [*it.at("defer").iterdir()], [])
 
 
-class Silent:
-    """Clients that send nothing, or a part of a request, from the first step of this script to its last."""
+# ---- lines
 
-    def __init__(self):
-        self.postfix = Postfix()
-        self.clients = [Client(self.postfix.folder, "bounce") for _ in range(2)]
-        self.clients[1].peer.sendall(append(ONE)[:30])
-        self.began, self.ended = time.monotonic(), []
-        threading.Thread(target=self.wait, daemon=True).start()
 
-    def wait(self):
-        for it in self.clients:
-            it.peer.settimeout(2 * SECONDS_FOR_CLIENT)
-            self.ended.append((heard_to_end(it.peer), time.monotonic() - self.began))
+def read_lines(pipe: int, seconds: float = 1) -> list:
+    """The lines that come from a pipe until none has come for a second."""
+    text, last = b"", time.monotonic()
+    while time.monotonic() - last < seconds:
+        try:
+            piece = os.read(pipe, 65536)
+        except BlockingIOError:
+            time.sleep(0.01)
+            continue
+        text, last = text + piece, time.monotonic()
+    return text.decode().splitlines()
 
-    def check(self, checks: Checks):
-        checks.true("silent clients are cut off", until(lambda: len(self.ended) == 2))
-        for text, seconds in self.ended:
-            checks.true(
-                f"after {seconds} seconds",
-                text == ANNOUNCEMENT and SECONDS_FOR_CLIENT - 2 < seconds < SECONDS_FOR_CLIENT + 20,
-            )
-        checks.equal("nothing is logged", os.listdir(self.postfix.at("bounce")), [])
+
+def answers_unread(it: Postfix, requests: list) -> list:
+    """What requests are answered, up to the first that isn't answered within seconds."""
+    found = []
+    for request in requests:
+        try:
+            with Client(it.folder, "bounce") as client:
+                client.peer.settimeout(SECONDS_AT_MOST)
+                found.append(client.ask(request))
+        except TimeoutError:
+            break
+    return found
+
+
+def check_unread_lines(checks: Checks):
+    """A standard error that nobody reads stops nothing: what is too much is dropped, and once the rest was read, a line
+    says how many lines were."""
+    with Postfix(start=False) as it:
+        path = Path(it.room.name) / "unread"
+        os.mkfifo(path)
+        pipe = os.open(path, os.O_RDONLY | os.O_NONBLOCK)
+        fcntl.fcntl(pipe, fcntl.F_SETPIPE_SZ, 4096)
+        it.start(closed=f"2>{path}")
+        it.put("one", "bounce")
+        damaged = [listed(what="ever")] * UNREAD
+        answers = answers_unread(it, damaged)
+        checks.equal("unread: requests are answered", (len(answers), set(answers)), (UNREAD, {FAILED}))
+        checks.equal("unread: a notice is made", answers_unread(it, [asked_in("one", "failure")]), [0])
+        lines = read_lines(pipe)
+        checks.true("unread: it has begun", f"listening in {it.folder} for {HOST}" in lines)
+        dropped = [re.fullmatch(r"(\d+) lines were dropped", line) for line in lines]
+        counts = [int(match[1]) for match in dropped if match]
+        checks.equal("unread: how often it is said that lines were dropped", len(counts), 1)
+        checks.true("unread: in the last line", dropped and dropped[-1])
+        lost = sum(line.endswith(LAST_LINE) for line in lines)
+        checks.true(f"unread: some lines wait, {lost} of {UNREAD} last ones", 100 < lost < UNREAD)
+        answers_unread(it, damaged[:1])
+        more = read_lines(pipe)
+        found, wanted = len(lines) - 1 + sum(counts), 2 + UNREAD * len(more)  # and the first line, and the notice's
+        checks.equal("unread: no line is lost that isn't counted", found, wanted)
+        checks.equal("unread: lines that are read again", more[-1:], [f"no request: {LAST_LINE}"])
+        os.close(pipe)
 
 
 def main():
@@ -873,13 +1065,17 @@ def main():
         "postfix_command: requests of Postfix's programs, their logs and their notices, "
         "in a queue folder without a Postfix"
     )
-    silent = Silent()
-    checking = (
+    for check in (
         check_append_and_flush,
         check_modes,
         check_hashing,
+        check_hashing_at_start,
+        check_hashing_at_run,
         check_kinds,
+        check_size_limit,
+        check_original_recipient,
         check_expired_with_bounces,
+        check_flags_of_both_logs,
         check_marks,
         check_all_messages,
         check_refusals,
@@ -888,7 +1084,9 @@ def main():
         check_twice,
         check_no_server,
         check_passed_on,
-        check_versions,
+        check_reasons,
+        check_send_options,
+        check_outcomes,
         check_broken_clients,
         check_locked_log,
         check_full_disk,
@@ -896,12 +1094,10 @@ def main():
         check_kills_at_work,
         check_inherited,
         check_start,
-        check_at_once,
-        silent.check,
-    )
-    with silent.postfix:
-        for check in checking:
-            check(checks)
+        check_account,
+        check_unread_lines,
+    ):
+        check(checks)
     checks.done()
 
 

@@ -121,8 +121,10 @@ def typed(line: bytes) -> bytes:
 
 def as_written(record: bytes) -> dict:
     """The fields of a record as a notice of ours has them: of a remark 800 bytes at most, each of which is printable,
-    and a status without zeros in front of its numbers."""
+    a status without zeros in front of its numbers, and no original recipient that is the final one."""
     it = fields_of(record)
+    if it.get("dsn_orig_rcpt") == b"rfc822;" + it["recipient"]:
+        it = {name: value for name, value in it.items() if name not in ("dsn_orig_rcpt", "original_recipient")}
     for name in ("diag_text", "reason"):
         it[name] = bytes(byte if 32 <= byte < 127 else 63 for byte in it.get(name, b"")[:800])
     return it | {"status": re.sub(rb"\b0+(?=\d)", b"", it["status"])}

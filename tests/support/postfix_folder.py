@@ -18,6 +18,7 @@ FILES = ROOT / "tests/postfix/files"
 SERVICES = ("bounce", "defer", "trace")
 ANNOUNCEMENT = b"protocol\0delivery_status_protocol\0\0"
 FAILED = 4294967295  # -1, as Postfix's programs send it
+SECONDS_FOR_LINE = 5  # at most, until a line is written about what was answered
 
 
 # ---- requests
@@ -34,16 +35,16 @@ def notice(
     flags: int = 0,
     sender: str = "ann@example.com",
     queue: str = "deferred",
-    fifth: str = "smtputf8",
+    options: tuple[str, int] = ("smtputf8", 0),
     **more,
 ) -> bytes:
-    """A request for a notice: 1 flush, 2 warn, 5 trace."""
+    """A request for a notice: 1 flush, 2 warn, 5 trace. The options to send by have a name and a value."""
     words = {
         "flags": flags,
         "queue_name": queue,
         "queue_id": message,
         "encoding": "",
-        fifth: 0,
+        options[0]: options[1],
         "sender": sender,
         "envelope_id": "",
         "ret_flags": 0,
@@ -57,8 +58,9 @@ def append(
     offset: int = 0,
     flags: int = 0,
     text: str = "550 5.1.1 no such user",
+    **more,
 ) -> bytes:
-    """A request to log that a recipient was refused."""
+    """A request to log that a recipient was refused, or what else the report says."""
     who = {
         "original_recipient": recipient,
         "recipient": recipient,
@@ -75,7 +77,7 @@ def append(
         "action": "failed",
         "reason": f"it said: {text}",
     }
-    return listed(nrequest=0, flags=flags, queue_id=message, **who, **what)
+    return listed(nrequest=0, flags=flags, queue_id=message, **(who | what | more))
 
 
 # ---- the mail server
@@ -236,6 +238,21 @@ class Client:
         return int(found[1]) if found and ended else None
 
 
+def at_once(*calls) -> list:
+    """What calls give that are made at the same time."""
+    found = [None] * len(calls)
+
+    def one(place, call):
+        found[place] = call()
+
+    threads = [threading.Thread(target=one, args=it) for it in enumerate(calls)]
+    for it in threads:
+        it.start()
+    for it in threads:
+        it.join()
+    return found
+
+
 # ---- the folder
 
 
@@ -306,6 +323,12 @@ class Postfix:
     def lines(self) -> list:
         """What was written to standard error."""
         return self.errors.read_text().splitlines() if self.errors.exists() else []
+
+    def last_lines(self, *wanted: str) -> list:
+        """Its last lines, as many as are wanted, once they are those or don't come: a line may be written after the
+        answer."""
+        until(lambda: self.lines()[-len(wanted) :] == [*wanted], SECONDS_FOR_LINE)
+        return self.lines()[-len(wanted) :]
 
     def ask(self, service: str, request: bytes):
         """The status that a request to a service is answered."""

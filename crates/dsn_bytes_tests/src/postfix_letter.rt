@@ -40,6 +40,13 @@ const UNREACHED: LogRecord<'static> = LogRecord {
     reason: b"connect to 127.0.0.1:25: Connection refused",
 };
 
+/// A record of a recipient whom nobody rewrote: smtpd(8) writes down the address of RCPT as ORCPT.
+const NOT_REWRITTEN: LogRecord<'static> = LogRecord {
+    original_recipient: b"",
+    dsn_original: b"rfc822;no.bob@example.org",
+    ..REFUSED
+};
+
 /// A record of a remote system that stands behind a socket.
 const BEHIND_A_SOCKET: LogRecord<'static> = LogRecord {
     mta_type: b"unix",
@@ -54,6 +61,8 @@ const SPACED: LogRecord<'static> = LogRecord {
 
 /// The records of which notices tell.
 const OF_REFUSED: &[LogRecord<'static>] = &[REFUSED];
+
+const OF_NOT_REWRITTEN: &[LogRecord<'static>] = &[NOT_REWRITTEN];
 
 const OF_UNREACHED: &[LogRecord<'static>] = &[UNREACHED];
 
@@ -89,6 +98,44 @@ Subject: hello\r\n\
 \r\n\
 --B.090B8A85C9C.1700000000.0000--\r\n";
 
+/// The group of a recipient whom nobody rewrote.
+const NOT_REWRITTEN_GROUP: &[u8] = b"\r\n\r\n\
+Final-Recipient: rfc822; no.bob@example.org\r\n\
+Action: failed\r\n\
+Status: 5.1.1\r\n\
+Remote-MTA: dns; 127.0.0.1\r\n\
+Diagnostic-Code: smtp; 550 5.1.1 no such user here\r\n\
+\r\n\
+--B.090B8A85C9C.1700000000.0000\r\n\
+Content-Description: Undelivered Message Headers\r\n\
+Content-Type: text/rfc822-headers\r\n\
+\r\n\
+Subject: hello\r\n\
+\r\n\
+--B.090B8A85C9C.1700000000.0000--\r\n";
+
+/// The message itself, returned whole.
+const WHOLE_MESSAGE: &[u8] = b"Content-Type: message/rfc822\r\n\
+\r\n\
+Subject: hello\r\n\
+\r\n\
+Hello.\r\n\
+\r\n\
+--B.090B8A85C9C.1700000000.0000--\r\n";
+
+/// Its header in place of it.
+const HEADER_ALONE: &[u8] = b"Content-Type: text/rfc822-headers\r\n\
+\r\n\
+Subject: hello\r\n\
+\r\n\
+--B.090B8A85C9C.1700000000.0000--\r\n";
+
+/// What is returned, and the limit of what is returned whole, in bytes.
+type Returned = (ReturnedPart, u32);
+
+/// The header.
+const HEADER: Returned = (ReturnedPart::Header, 50_000);
+
 /// The group of a recipient whose delivery is tried again, with the mail system's own reason.
 const UNREACHED_GROUP: &[u8] = b"\r\n\r\n\
 Final-Recipient: rfc822; carol@example.org\r\n\
@@ -115,12 +162,12 @@ pub(crate) fn moment() -> Result<Stamp, Fail> {
     Ok(Stamp::new(1_700_000_000).ok_or("the moment")?)
 }
 
-/// The letter of a planned notice that gives the header back. (The fault is `NoMemory` also if a
-/// value can't be made: no test wants it.)
+/// The letter of a planned notice. (The fault is `NoMemory` also if a value can't be made: no test wants it.)
 fn letter_of(
     alloc: Global,
     (arrival, envelope_id, to): About,
     service: Service,
+    (returned, size_limit): Returned,
     records: &[LogRecord<'_>],
 ) -> Result<Letter, LetterFault> {
     let queue_id = QueueId::new(b"090B8A85C9C").ok_or(LetterFault::NoMemory)?;
@@ -132,12 +179,13 @@ fn letter_of(
         envelope_id,
         text: b"Subject: hello\n\nHello.\n",
         lifetime: 432_000,
+        size_limit,
     };
     let notice = PlannedNotice {
         to,
         delimiters: None,
         service,
-        returned: ReturnedPart::Header,
+        returned,
         outcomes: records.to_vec(alloc)?,
     };
     letter_of_notice(alloc, &message, &notice, moment, 7)
@@ -157,7 +205,7 @@ fn expect_planned(
     records: &[LogRecord<'_>],
     want: Result<&[u8], LetterFault>,
 ) -> Result<(), Fail> {
-    match letter_of(rt.alloc(), about, service, records) {
+    match letter_of(rt.alloc(), about, service, HEADER, records) {
         Ok(letter) => {
             let text = text_of(rt.alloc(), &letter)?;
             let end = want.ok().ok_or("a letter")?;
@@ -202,6 +250,9 @@ fn expect_fault(
 fn records_become_outcomes(rt: HostRuntime) -> Result<(), Fail> {
     let refused = Ok(REFUSED_STATUS);
     expect_planned(&rt, MESSAGE, Service::Bounce, OF_REFUSED, refused)?;
+    // of an original recipient that is the final one nothing is said
+    let final_alone = Ok(NOT_REWRITTEN_GROUP);
+    expect_planned(&rt, MESSAGE, Service::Bounce, OF_NOT_REWRITTEN, final_alone)?;
     // a reason stands for a diagnostic
     let unreached = Ok(UNREACHED_GROUP);
     expect_planned(&rt, MESSAGE, Service::Defer, OF_UNREACHED, unreached)
@@ -213,4 +264,26 @@ fn whom_no_letter_tells(rt: HostRuntime) -> Result<(), Fail> {
     expect_fault(&rt, OF_SOCKET, LetterFault::RemoteType)?;
     let fault = LetterFault::Outcome(OutcomeFault::BadRecipient);
     expect_fault(&rt, OF_SPACED, fault)
+}
+
+/// A notice of failure ends with what it returns of the message, which has 23 bytes.
+fn expect_returned(
+    rt: &(impl AllocGlobal + Abort),
+    returned: Returned,
+    want: &[u8],
+) -> Result<(), Fail> {
+    let letter = letter_of(rt.alloc(), MESSAGE, Service::Bounce, returned, OF_REFUSED);
+    let text = text_of(rt.alloc(), &letter.ok().ok_or("a letter")?)?;
+    same(rt, (returned.1, text.ends_with(want)), (returned.1, true));
+    Ok(())
+}
+
+#[test]
+fn a_message_over_the_limit_returns_its_header(rt: HostRuntime) -> Result<(), Fail> {
+    expect_returned(&rt, HEADER, HEADER_ALONE)?;
+    expect_returned(&rt, (ReturnedPart::Whole, 50_000), WHOLE_MESSAGE)?;
+    expect_returned(&rt, (ReturnedPart::Whole, 23), WHOLE_MESSAGE)?;
+    expect_returned(&rt, (ReturnedPart::Whole, 22), HEADER_ALONE)?;
+    // no limit cuts a header, as with bounce(8)
+    expect_returned(&rt, (ReturnedPart::Whole, 1), HEADER_ALONE)
 }

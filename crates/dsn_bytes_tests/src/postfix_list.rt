@@ -6,8 +6,7 @@ use crate::texts::{joined, text_of_size};
 use dsn_fakes::PieceReader;
 use dsn_outcome::Plain;
 use dsn_postfix::{
-    LONGEST_LIST, ListBuffer, ListFault, PostfixVersion, ReceiveFault, RequestFault,
-    receive_postfix_request,
+    LONGEST_LIST, ListBuffer, ListFault, ReceiveFault, RequestFault, receive_postfix_request,
 };
 use std::alloc::AllocGlobal;
 use std::process::Abort;
@@ -136,7 +135,7 @@ fn received(
 ) -> Result<&'static str, ReceiveFault> {
     let mut buffer = ListBuffer::new(rt.alloc());
     let mut source = reader(input, most, good);
-    match receive_postfix_request(PostfixVersion::V3_7, &mut source, &mut buffer) {
+    match receive_postfix_request(&mut source, &mut buffer) {
         Ok(request) => Ok(asked(&request).0),
         Err(fault) => Err(fault),
     }

@@ -1,7 +1,7 @@
 //! Which notices requests of Postfix have of logs that Postfix wrote.
 use crate::assert_same::same;
 use crate::postfix_request::{
-    FLUSH_BOUNCE, FLUSH_DEFER, FLUSH_NULL, FLUSH_UTF8, TRACE, VERP, WARN, decoded,
+    FLUSH_BOUNCE, FLUSH_DEFER, FLUSH_NULL, FLUSH_UTF8, NEWER_TLS, TRACE, VERP, WARN, decoded,
 };
 use crate::texts::{append_all, joined};
 use dsn_postfix::{
@@ -29,9 +29,13 @@ const RELAYED: &[u8] =
 const OF_SUCCESS: &[u8] =
     b"\n<c@example.org>: no\nrecipient=c@example.org\noffset=980\nnotify_flags=2\nstatus=5.1.1\naction=failed\nreason=no\n\n";
 
-/// A later record of the first recipient of `DEFERRED`.
+/// Two later records of the first recipient of `DEFERRED`, of one outcome.
 const LATER: &[u8] =
-    b"\n<later-added@example.org>: full\nrecipient=later-added@example.org\noffset=1625\nnotify_flags=8\nstatus=4.2.2\naction=delayed\nreason=full\n\n";
+    b"\n<later-added@example.org>: full\nrecipient=later-added@example.org\noffset=1625\nnotify_flags=8\nstatus=4.2.2\naction=delayed\nreason=full\n\n\n<later-added@example.org>: full\nrecipient=later-added@example.org\noffset=1625\nnotify_flags=8\nstatus=4.2.2\naction=delayed\nreason=full\n\n";
+
+/// What local(8) logs of two commands of an alias: the second one worked.
+const COMMANDS: &[u8] =
+    b"\n<staff@example.org>: Command died with status 69: one\nrecipient=staff@example.org\noffset=717\nstatus=5.3.0\naction=failed\nreason=Command died with status 69: one\n\n\n<staff@example.org>: delivered to command: two\nrecipient=staff@example.org\noffset=717\nstatus=2.0.0\naction=delivered\nreason=delivered to command: two\n\n";
 
 /// What the queue file says of the one recipient of `DEFERRED` who wants to hear of failure, in this state.
 fn queued_in(state: RecipientState) -> QueuedRecipient<'static> {
@@ -55,7 +59,7 @@ type Plan = (
     Result<&'static [u8], PlanFault>,
 );
 
-const PLANS: [Plan; 9] = [
+const PLANS: [Plan; 11] = [
     // those who want failures are told
     (
         Service::Bounce,
@@ -66,14 +70,14 @@ const PLANS: [Plan; 9] = [
             b"ann@example.com at ann@example.com B header\n- no-two@example.com 5.1.1 failed\n- no-one@example.org 5.1.1 failed\n",
         ),
     ),
-    // a recipient who is logged twice is told once
+    // an outcome that is logged twice is told once, and another one of its recipient too
     (
         Service::Defer,
         WARN,
         Some(DEFERRED),
         LATER,
         Ok(
-            b"ann@example.com at ann@example.com D header\n- later@example.org 4.2.1 delayed\n- later-added@example.org 4.2.2 delayed\n",
+            b"ann@example.com at ann@example.com D header\n- later-added@example.org 4.2.1 delayed\n- later@example.org 4.2.1 delayed\n- later-added@example.org 4.2.2 delayed\n",
         ),
     ),
     // deliveries are reported
@@ -84,6 +88,16 @@ const PLANS: [Plan; 9] = [
         b"",
         Ok(
             b"ann@example.com at ann@example.com T header\n- ok@trace.example.org 2.0.0 relayed\n- second@trace.example.org 2.0.0 relayed\n",
+        ),
+    ),
+    // so are the commands of an alias
+    (
+        Service::Trace,
+        TRACE,
+        Some(COMMANDS),
+        b"",
+        Ok(
+            b"ann@example.com at ann@example.com T header\n- staff@example.org 5.3.0 failed\n- staff@example.org 2.0.0 delivered\n",
         ),
     ),
     // a return path of its own has one recipient
@@ -112,6 +126,13 @@ const PLANS: [Plan; 9] = [
         Some(BOUNCED),
         b"",
         Err(PlanFault::Unsaid(CantSay::NeedsSmtputf8)),
+    ),
+    (
+        Service::Bounce,
+        NEWER_TLS,
+        Some(BOUNCED),
+        b"",
+        Err(PlanFault::Unsaid(CantSay::SendOptions(16))),
     ),
     // an expired message has failed
     (

@@ -1,8 +1,6 @@
 //! Requests that programs of Postfix 3.7.11 and 3.10.13 sent (tests/postfix/) are decoded, and written again as they were.
 use crate::assert_same::same;
-use dsn_postfix::{
-    PostfixRequest, PostfixVersion, RequestFault, decode_postfix_request, encode_postfix_request,
-};
+use dsn_postfix::{PostfixRequest, RequestFault, decode_postfix_request, encode_postfix_request};
 use std::alloc::{AllocGlobal, Global};
 use std::process::Abort;
 use std::test::Fail;
@@ -80,7 +78,7 @@ const NEWER_UTF8: &[u8] =
     b"nrequest\01\0flags\00\0queue_name\0active\0queue_id\0B5F9DA7C1C1\0encoding\08bit\0sendopts\07\0sender\0\xc3\xa4nn@example.com\0envelope_id\0\0ret_flags\00\0\0";
 
 /// `3.10/flush-tls.bin`.
-const NEWER_TLS: &[u8] =
+pub(crate) const NEWER_TLS: &[u8] =
     b"nrequest\01\0flags\00\0queue_name\0active\0queue_id\0B681CA7C1C2\0encoding\0\0sendopts\016\0sender\0ann@example.com\0envelope_id\0\0ret_flags\00\0\0";
 
 /// `3.10/flush-defer.bin`.
@@ -99,23 +97,14 @@ const NEWER_VERP: &[u8] =
 const NEWER_TRACE: &[u8] =
     b"nrequest\05\0flags\00\0queue_name\0active\0queue_id\0B7B42A7C1C4\0encoding\0\0sendopts\00\0sender\0ann@example.com\0envelope_id\0\0ret_flags\01\0\0";
 
-/// What bytes ask in a version, or why they are no request.
-fn decoded_in(version: PostfixVersion, bytes: &[u8]) -> Result<PostfixRequest<'_>, RequestFault> {
-    decode_postfix_request(version, bytes)
-}
-
-/// What bytes ask of 3.7, or why they are no request.
+/// What bytes ask, or why they are no request.
 pub(crate) fn decoded(bytes: &[u8]) -> Result<PostfixRequest<'_>, RequestFault> {
-    decoded_in(PostfixVersion::V3_7, bytes)
+    decode_postfix_request(bytes)
 }
 
-/// The bytes of a request in a version; none where there is no memory.
-fn written(
-    alloc: Global,
-    version: PostfixVersion,
-    request: &PostfixRequest<'_>,
-) -> Option<Vec<u8>> {
-    encode_postfix_request(alloc, version, request).ok()
+/// The bytes of a request; none where there is no memory.
+fn written(alloc: Global, request: &PostfixRequest<'_>) -> Option<Vec<u8>> {
+    encode_postfix_request(alloc, request).ok()
 }
 
 /// What is asked, as a word, and what a message that is to be told of needs.
@@ -131,26 +120,24 @@ pub(crate) fn asked(request: &PostfixRequest<'_>) -> (&'static str, u32) {
     (word, notice.send_options)
 }
 
-/// What bytes ask in a version, and the bytes that are written of it; or why they are no request.
+/// What bytes ask, and the bytes that are written of it; or why they are no request.
 fn read_and_written(
     alloc: Global,
-    version: PostfixVersion,
     bytes: &[u8],
 ) -> (Result<(&'static str, u32), RequestFault>, Option<Vec<u8>>) {
-    match decoded_in(version, bytes) {
-        Ok(request) => (Ok(asked(&request)), written(alloc, version, &request)),
+    match decoded(bytes) {
+        Ok(request) => (Ok(asked(&request)), written(alloc, &request)),
         Err(fault) => (Err(fault), None),
     }
 }
 
-/// A request of a version asks this, and is written again as it was sent; or it is none, for this reason.
+/// A request asks this, and is written again as it was sent; or it is none, for this reason.
 fn expect_request(
     rt: &(impl Abort + AllocGlobal),
-    version: PostfixVersion,
     bytes: &[u8],
     want: Result<(&str, u32), RequestFault>,
 ) {
-    let (asked, written) = read_and_written(rt.alloc(), version, bytes);
+    let (asked, written) = read_and_written(rt.alloc(), bytes);
     same(rt, asked, want);
     if let Some(written) = written {
         same(rt, written.as_slice(), bytes);
@@ -195,34 +182,15 @@ const NEWER_SENT: [(&[u8], &str, u32); 10] = [
 #[test]
 fn what_postfix_sent_is_read_and_written_again(rt: HostRuntime) {
     for (bytes, kind, needs) in &OLDER_SENT {
-        expect_request(&rt, PostfixVersion::V3_7, bytes, Ok((*kind, *needs)));
+        expect_request(&rt, bytes, Ok((*kind, *needs)));
     }
     for (bytes, kind, needs) in &NEWER_SENT {
-        expect_request(&rt, PostfixVersion::V3_10, bytes, Ok((*kind, *needs)));
-    }
-}
-
-/// The versions that name the fifth attribute of a notice `smtputf8`.
-const OLDER: [PostfixVersion; 4] = [
-    PostfixVersion::V3_6,
-    PostfixVersion::V3_7,
-    PostfixVersion::V3_8,
-    PostfixVersion::V3_9,
-];
-
-#[test]
-fn notice_is_read_in_the_layout_of_its_version(rt: HostRuntime) {
-    let other_layout = Err(RequestFault::Name);
-    expect_request(&rt, PostfixVersion::V3_10, VERP, other_layout);
-    for version in OLDER {
-        expect_request(&rt, version, VERP, Ok(("verp", 0)));
-        expect_request(&rt, version, NEWER_APPEND, Ok(("append", 0)));
-        expect_request(&rt, version, NEWER_VERP, other_layout);
+        expect_request(&rt, bytes, Ok((*kind, *needs)));
     }
 }
 
 /// Bytes that are no request, and why.
-const NO_REQUESTS: [(&[u8], RequestFault); 9] = [
+const NO_REQUESTS: [(&[u8], RequestFault); 11] = [
     (b"", RequestFault::Unended),
     (b"\0", RequestFault::Missing),
     (b"nrequest\0", RequestFault::Unended),
@@ -241,13 +209,21 @@ const NO_REQUESTS: [(&[u8], RequestFault); 9] = [
         b"nrequest\x000\0flags\x000\0queue_id\0..\0\0",
         RequestFault::QueueId,
     ),
+    (
+        b"nrequest\x001\0flags\x000\0queue_name\0active\0queue_id\06BB87A7E6A1\0encoding\0\0sendopt\x000\0\0",
+        RequestFault::Name,
+    ),
+    (
+        b"nrequest\x001\0flags\x000\0queue_name\0active\0queue_id\06BB87A7E6A1\0encoding\0\0sendopts\0",
+        RequestFault::Unended,
+    ),
 ];
 
 #[test]
 fn what_is_no_request_is_refused(rt: HostRuntime) {
     for (bytes, fault) in &NO_REQUESTS {
-        expect_request(&rt, PostfixVersion::V3_7, bytes, Err(*fault));
+        expect_request(&rt, bytes, Err(*fault));
     }
     let cut = &WARN[..WARN.len() - 1];
-    expect_request(&rt, PostfixVersion::V3_7, cut, Err(RequestFault::Unended));
+    expect_request(&rt, cut, Err(RequestFault::Unended));
 }

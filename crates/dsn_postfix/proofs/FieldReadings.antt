@@ -8,12 +8,10 @@ use Rattle.dsn_postfix.specs.Attribute.{Attribute, attribute_bytes, number_attri
 use Rattle.dsn_postfix.specs.files.ZeroFree.{IsZeroFree}
 use Rattle.dsn_postfix.specs.AttributeValues.{is_queue_name}
 use Rattle.dsn_postfix.specs.PostfixRequest.{FitsNotice, FitsRecipient, FitsReport, notice_attributes, recipient_attributes, report_attributes, send_options_name}
-use Rattle.dsn_postfix.specs.RequestReading.{◌>>>◌, notice_request_at, recipient_at, report_at, tested_at, attribute_at, value_number_at}
+use Rattle.dsn_postfix.specs.RequestReading.{◌>>>◌, is_sendopts_next, notice_request_at, recipient_at, report_at, tested_at, attribute_at, value_number_at}
 use Rattle.dsn_postfix.specs.declared.postfix_request.DeliveryReport.{DeliveryReport}
 use Rattle.dsn_postfix.specs.declared.postfix_request.NoticeRequest.{NoticeRequest}
 use Rattle.dsn_postfix.specs.declared.postfix_request.ReportedRecipient.{ReportedRecipient}
-use Rattle.dsn_postfix.specs.declared.postfix_version.PostfixVersion.{PostfixVersion}
-use Rattle.dsn_postfix.specs.declared.postfix_version.PostfixVersion.TheVariants.{V3_6, V3_7, V3_8, V3_9, V3_10}
 use Rattle.dsn_postfix.specs.declared.request_fault.RequestFault.{RequestFault}
 use Rattle.dsn_postfix.specs.declared.request_fault.RequestFault.TheVariants.{QueueName, QueueId}
 use Rattle.dsn_postfix.proofs.AttributeLaws.{IsName, bind_ok, number_again_attribute, number_takes_attribute, ok_is, tested_again, tested_takes, value_again, value_takes}
@@ -59,12 +57,15 @@ all_letters_free (suc byte ∷ text) letters = rw (eqb-suc-zero byte) (all_lette
 pub letters_free : (least most : ℕ) (text : List ℕ) → is_text is_letter_or_digit least most text ≡ true → IsZeroFree text
 letters_free least most text e = all_letters_free text (second _ (list_all is_letter_or_digit text) e)
 
-pub send_options_is_name : (version : PostfixVersion) → IsName (send_options_name version)
-send_options_is_name V3_6 = record { some = omega arith; free = refl }
-send_options_is_name V3_7 = record { some = omega arith; free = refl }
-send_options_is_name V3_8 = record { some = omega arith; free = refl }
-send_options_is_name V3_9 = record { some = omega arith; free = refl }
-send_options_is_name V3_10 = record { some = omega arith; free = refl }
+pub send_options_is_name : (newer : Bool) → IsName (send_options_name newer)
+send_options_is_name false = record { some = omega arith; free = refl }
+send_options_is_name true = record { some = omega arith; free = refl }
+
+-- the name that the send options have is the one that is looked for
+sendopts_listed : (newer : Bool) (n : ℕ) (attributes : List Attribute) (rest : List ℕ) → is_sendopts_next (listed (number_attribute (send_options_name newer) n ∷ attributes) rest) ≡ newer
+unfolding is_sendopts_next attribute_bytes
+sendopts_listed false n attributes rest = refl
+sendopts_listed true n attributes rest = refl
 
 -- ---- recipients, reports and notices
 
@@ -136,49 +137,49 @@ pub with_read : {A B P : Type 0} (r : Result A RequestFault) (f : A → Result B
 with_read (Ok x) f y e next = next x refl e
 with_read (Err d) f y e next = absurd cc
 
-notice_listed : (version : PostfixVersion) (notice : NoticeRequest) (bytes after_flags after_queue_name after_queue_id after_encoding after_send_options after_sender after_envelope_id after_returns : List ℕ)
+notice_listed : (notice : NoticeRequest) (bytes after_flags after_queue_name after_queue_id after_encoding after_send_options after_sender after_envelope_id after_returns : List ℕ)
     → bytes ≡ attribute_bytes (number_attribute (codes "flags") notice.flags) ++ after_flags
     → after_flags ≡ attribute_bytes (text_attribute (codes "queue_name") notice.queue_name) ++ after_queue_name
     → after_queue_name ≡ attribute_bytes (text_attribute (codes "queue_id") notice.queue_id) ++ after_queue_id
     → after_queue_id ≡ attribute_bytes (text_attribute (codes "encoding") notice.encoding) ++ after_encoding
-    → after_encoding ≡ attribute_bytes (number_attribute (send_options_name version) notice.send_options) ++ after_send_options
+    → after_encoding ≡ attribute_bytes (number_attribute (send_options_name notice.names_sendopts) notice.send_options) ++ after_send_options
     → after_send_options ≡ attribute_bytes (text_attribute (codes "sender") notice.sender) ++ after_sender
     → after_sender ≡ attribute_bytes (text_attribute (codes "envelope_id") notice.envelope_id) ++ after_envelope_id
     → after_envelope_id ≡ attribute_bytes (number_attribute (codes "ret_flags") notice.returns) ++ after_returns
-    → bytes ≡ listed (notice_attributes version notice) after_returns
-notice_listed version notice bytes after_flags after_queue_name after_queue_id after_encoding after_send_options after_sender after_envelope_id after_returns flags_part queue_name_part queue_id_part encoding_part send_options_part sender_part envelope_id_part returns_part =
-    listed_more (number_attribute (codes "flags") notice.flags) (drop 1 (notice_attributes version notice)) bytes after_flags after_returns flags_part
-    (listed_more (text_attribute (codes "queue_name") notice.queue_name) (drop 2 (notice_attributes version notice)) after_flags after_queue_name after_returns queue_name_part
-    (listed_more (text_attribute (codes "queue_id") notice.queue_id) (drop 3 (notice_attributes version notice)) after_queue_name after_queue_id after_returns queue_id_part
-    (listed_more (text_attribute (codes "encoding") notice.encoding) (drop 4 (notice_attributes version notice)) after_queue_id after_encoding after_returns encoding_part
-    (listed_more (number_attribute (send_options_name version) notice.send_options) (drop 5 (notice_attributes version notice)) after_encoding after_send_options after_returns send_options_part
-    (listed_more (text_attribute (codes "sender") notice.sender) (drop 6 (notice_attributes version notice)) after_send_options after_sender after_returns sender_part
-    (listed_more (text_attribute (codes "envelope_id") notice.envelope_id) (drop 7 (notice_attributes version notice)) after_sender after_envelope_id after_returns envelope_id_part
-    (listed_more (number_attribute (codes "ret_flags") notice.returns) (drop 8 (notice_attributes version notice)) after_envelope_id after_returns after_returns returns_part
+    → bytes ≡ listed (notice_attributes notice) after_returns
+notice_listed notice bytes after_flags after_queue_name after_queue_id after_encoding after_send_options after_sender after_envelope_id after_returns flags_part queue_name_part queue_id_part encoding_part send_options_part sender_part envelope_id_part returns_part =
+    listed_more (number_attribute (codes "flags") notice.flags) (drop 1 (notice_attributes notice)) bytes after_flags after_returns flags_part
+    (listed_more (text_attribute (codes "queue_name") notice.queue_name) (drop 2 (notice_attributes notice)) after_flags after_queue_name after_returns queue_name_part
+    (listed_more (text_attribute (codes "queue_id") notice.queue_id) (drop 3 (notice_attributes notice)) after_queue_name after_queue_id after_returns queue_id_part
+    (listed_more (text_attribute (codes "encoding") notice.encoding) (drop 4 (notice_attributes notice)) after_queue_id after_encoding after_returns encoding_part
+    (listed_more (number_attribute (send_options_name notice.names_sendopts) notice.send_options) (drop 5 (notice_attributes notice)) after_encoding after_send_options after_returns send_options_part
+    (listed_more (text_attribute (codes "sender") notice.sender) (drop 6 (notice_attributes notice)) after_send_options after_sender after_returns sender_part
+    (listed_more (text_attribute (codes "envelope_id") notice.envelope_id) (drop 7 (notice_attributes notice)) after_sender after_envelope_id after_returns envelope_id_part
+    (listed_more (number_attribute (codes "ret_flags") notice.returns) (drop 8 (notice_attributes notice)) after_envelope_id after_returns after_returns returns_part
     (refl))))))))
 
-same_notice : (version : PostfixVersion) (bytes : List ℕ) (read notice : NoticeRequest) (after rest : List ℕ) → ◌≡◌ {A = NoticeRequest × List ℕ} (read, after) (notice, rest) → bytes ≡ listed (notice_attributes version read) after → FitsNotice read → (bytes ≡ listed (notice_attributes version notice) rest) × FitsNotice notice
-same_notice version bytes read notice after rest same parts fits =
-    subst (λ (p : NoticeRequest × List ℕ). (bytes ≡ listed (notice_attributes version p.0) p.1) × FitsNotice p.0) same (parts, fits)
+same_notice : (bytes : List ℕ) (read notice : NoticeRequest) (after rest : List ℕ) → ◌≡◌ {A = NoticeRequest × List ℕ} (read, after) (notice, rest) → bytes ≡ listed (notice_attributes read) after → FitsNotice read → (bytes ≡ listed (notice_attributes notice) rest) × FitsNotice notice
+same_notice bytes read notice after rest same parts fits =
+    subst (λ (p : NoticeRequest × List ℕ). (bytes ≡ listed (notice_attributes p.0) p.1) × FitsNotice p.0) same (parts, fits)
 
-pub notice_takes : (version : PostfixVersion) (bytes : List ℕ) (notice : NoticeRequest) (rest : List ℕ) → notice_request_at version bytes ≡ Ok (notice, rest) → (bytes ≡ listed (notice_attributes version notice) rest) × FitsNotice notice
+pub notice_takes : (bytes : List ℕ) (notice : NoticeRequest) (rest : List ℕ) → notice_request_at bytes ≡ Ok (notice, rest) → (bytes ≡ listed (notice_attributes notice) rest) × FitsNotice notice
 unfolding notice_request_at
-notice_takes version bytes notice rest e =
+notice_takes bytes notice rest e =
     with_read (value_number_at number_limit (codes "flags") bytes) _ (notice, rest) e (λ flags flags_is after_flags.
     with_read (tested_at is_queue_name QueueName (codes "queue_name") flags.1) _ (notice, rest) after_flags (λ queue_name queue_name_is after_queue_name.
     with_read (tested_at is_queue_id QueueId (codes "queue_id") queue_name.1) _ (notice, rest) after_queue_name (λ queue_id queue_id_is after_queue_id.
     with_read (attribute_at (codes "encoding") queue_id.1) _ (notice, rest) after_queue_id (λ encoding encoding_is after_encoding.
-    with_read (value_number_at number_limit (send_options_name version) encoding.1) _ (notice, rest) after_encoding (λ send_options send_options_is after_send_options.
+    with_read (value_number_at number_limit (send_options_name (is_sendopts_next encoding.1)) encoding.1) _ (notice, rest) after_encoding (λ send_options send_options_is after_send_options.
     with_read (attribute_at (codes "sender") send_options.1) _ (notice, rest) after_send_options (λ sender sender_is after_sender.
     with_read (attribute_at (codes "envelope_id") sender.1) _ (notice, rest) after_sender (λ envelope_id envelope_id_is after_envelope_id.
     with_read (value_number_at number_limit (codes "ret_flags") envelope_id.1) _ (notice, rest) after_envelope_id (λ returns returns_is after_returns.
-    same_notice version bytes (record { flags = flags.0; queue_name = queue_name.0; queue_id = queue_id.0; encoding = encoding.0; send_options = send_options.0; sender = sender.0; envelope_id = envelope_id.0; returns = returns.0 }) notice returns.1 rest (ok_is _ _ after_returns)
-    (notice_listed version _ bytes flags.1 queue_name.1 queue_id.1 encoding.1 send_options.1 sender.1 envelope_id.1 returns.1
+    same_notice bytes (record { flags = flags.0; queue_name = queue_name.0; queue_id = queue_id.0; encoding = encoding.0; names_sendopts = is_sendopts_next encoding.1; send_options = send_options.0; sender = sender.0; envelope_id = envelope_id.0; returns = returns.0 }) notice returns.1 rest (ok_is _ _ after_returns)
+    (notice_listed _ bytes flags.1 queue_name.1 queue_id.1 encoding.1 send_options.1 sender.1 envelope_id.1 returns.1
     (number_takes_attribute number_limit (codes "flags") bytes flags.0 flags.1 flags_is).0
     (tested_takes is_queue_name QueueName (codes "queue_name") flags.1 queue_name.0 queue_name.1 queue_name_is).0
     (tested_takes is_queue_id QueueId (codes "queue_id") queue_name.1 queue_id.0 queue_id.1 queue_id_is).0
     (value_takes (codes "encoding") queue_id.1 encoding.0 encoding.1 encoding_is).0
-    (number_takes_attribute number_limit (send_options_name version) encoding.1 send_options.0 send_options.1 send_options_is).0
+    (number_takes_attribute number_limit (send_options_name (is_sendopts_next encoding.1)) encoding.1 send_options.0 send_options.1 send_options_is).0
     (value_takes (codes "sender") send_options.1 sender.0 sender.1 sender_is).0
     (value_takes (codes "envelope_id") sender.1 envelope_id.0 envelope_id.1 envelope_id_is).0
     (number_takes_attribute number_limit (codes "ret_flags") envelope_id.1 returns.0 returns.1 returns_is).0
@@ -188,22 +189,23 @@ notice_takes version bytes notice rest e =
       queue_name = (tested_takes is_queue_name QueueName (codes "queue_name") flags.1 queue_name.0 queue_name.1 queue_name_is).1;
       queue_id = (tested_takes is_queue_id QueueId (codes "queue_id") queue_name.1 queue_id.0 queue_id.1 queue_id_is).1;
       encoding = (value_takes (codes "encoding") queue_id.1 encoding.0 encoding.1 encoding_is).1;
-      send_options = (number_takes_attribute number_limit (send_options_name version) encoding.1 send_options.0 send_options.1 send_options_is).1;
+      send_options = (number_takes_attribute number_limit (send_options_name (is_sendopts_next encoding.1)) encoding.1 send_options.0 send_options.1 send_options_is).1;
       sender = (value_takes (codes "sender") send_options.1 sender.0 sender.1 sender_is).1;
       envelope_id = (value_takes (codes "envelope_id") sender.1 envelope_id.0 envelope_id.1 envelope_id_is).1;
       returns = (number_takes_attribute number_limit (codes "ret_flags") envelope_id.1 returns.0 returns.1 returns_is).1;
     })))))))))
 
-pub notice_again : (version : PostfixVersion) (notice : NoticeRequest) (rest : List ℕ) → FitsNotice notice → notice_request_at version (listed (notice_attributes version notice) rest) ≡ Ok (notice, rest)
+pub notice_again : (notice : NoticeRequest) (rest : List ℕ) → FitsNotice notice → notice_request_at (listed (notice_attributes notice) rest) ≡ Ok (notice, rest)
 unfolding notice_request_at
-notice_again version notice rest fits =
+notice_again notice rest fits =
     rw (
-      number_listed number_limit (codes "flags") notice.flags (drop 1 (notice_attributes version notice)) rest (record { some = omega arith; free = refl }) fits.flags (omega arith),
-      tested_listed is_queue_name QueueName (codes "queue_name") notice.queue_name (drop 2 (notice_attributes version notice)) rest (record { some = omega arith; free = refl }) (letters_free 1 100 notice.queue_name fits.queue_name) fits.queue_name,
-      tested_listed is_queue_id QueueId (codes "queue_id") notice.queue_id (drop 3 (notice_attributes version notice)) rest (record { some = omega arith; free = refl }) (letters_free 1 32 notice.queue_id fits.queue_id) fits.queue_id,
-      value_listed (codes "encoding") notice.encoding (drop 4 (notice_attributes version notice)) rest (record { some = omega arith; free = refl }) fits.encoding,
-      number_listed number_limit (send_options_name version) notice.send_options (drop 5 (notice_attributes version notice)) rest (send_options_is_name version) fits.send_options (omega arith),
-      value_listed (codes "sender") notice.sender (drop 6 (notice_attributes version notice)) rest (record { some = omega arith; free = refl }) fits.sender,
-      value_listed (codes "envelope_id") notice.envelope_id (drop 7 (notice_attributes version notice)) rest (record { some = omega arith; free = refl }) fits.envelope_id,
-      number_listed number_limit (codes "ret_flags") notice.returns (drop 8 (notice_attributes version notice)) rest (record { some = omega arith; free = refl }) fits.returns (omega arith),
+      number_listed number_limit (codes "flags") notice.flags (drop 1 (notice_attributes notice)) rest (record { some = omega arith; free = refl }) fits.flags (omega arith),
+      tested_listed is_queue_name QueueName (codes "queue_name") notice.queue_name (drop 2 (notice_attributes notice)) rest (record { some = omega arith; free = refl }) (letters_free 1 100 notice.queue_name fits.queue_name) fits.queue_name,
+      tested_listed is_queue_id QueueId (codes "queue_id") notice.queue_id (drop 3 (notice_attributes notice)) rest (record { some = omega arith; free = refl }) (letters_free 1 32 notice.queue_id fits.queue_id) fits.queue_id,
+      value_listed (codes "encoding") notice.encoding (drop 4 (notice_attributes notice)) rest (record { some = omega arith; free = refl }) fits.encoding,
+      sendopts_listed notice.names_sendopts notice.send_options (drop 5 (notice_attributes notice)) rest,
+      number_listed number_limit (send_options_name notice.names_sendopts) notice.send_options (drop 5 (notice_attributes notice)) rest (send_options_is_name notice.names_sendopts) fits.send_options (omega arith),
+      value_listed (codes "sender") notice.sender (drop 6 (notice_attributes notice)) rest (record { some = omega arith; free = refl }) fits.sender,
+      value_listed (codes "envelope_id") notice.envelope_id (drop 7 (notice_attributes notice)) rest (record { some = omega arith; free = refl }) fits.envelope_id,
+      number_listed number_limit (codes "ret_flags") notice.returns (drop 8 (notice_attributes notice)) rest (record { some = omega arith; free = refl }) fits.returns (omega arith),
     ) refl

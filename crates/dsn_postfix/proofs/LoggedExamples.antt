@@ -15,7 +15,6 @@ use Rattle.dsn_postfix.specs.declared.postfix_request.AppendRequest.{AppendReque
 use Rattle.dsn_postfix.specs.declared.postfix_request.DeliveryReport.{DeliveryReport}
 use Rattle.dsn_postfix.specs.declared.postfix_request.PostfixRequest.TheVariants.{Append}
 use Rattle.dsn_postfix.specs.declared.postfix_request.ReportedRecipient.{ReportedRecipient}
-use Rattle.dsn_postfix.specs.declared.postfix_version.PostfixVersion.TheVariants.{V3_7}
 
 abbrev request_bytes : List ℕ
 request_bytes =
@@ -57,11 +56,11 @@ abbrev append_of : ReportedRecipient → DeliveryReport → AppendRequest
 append_of recipient report = record { flags = 0; queue_id = codes "6BB87A7E6A1"; recipient = recipient; report = report }
 
 -- the original recipient stays apart from the recipient, in a request as in a log
-differing_is_read : postfix_request_at V3_7 request_bytes ≡ Ok (Append (append_of said_recipient said_report))
+differing_is_read : postfix_request_at request_bytes ≡ Ok (Append (append_of said_recipient said_report))
 unfolding digits number_in postfix_request_at own_request_at append_only_at append_request_at recipient_at report_at tested_at attribute_at value_number_at
 differing_is_read = refl
 
-differing_is_written : postfix_request_bytes V3_7 (Append (append_of said_recipient said_report)) ≡ request_bytes
+differing_is_written : postfix_request_bytes (Append (append_of said_recipient said_report)) ≡ request_bytes
 unfolding digits postfix_request_bytes attribute_bytes
 differing_is_written = refl
 

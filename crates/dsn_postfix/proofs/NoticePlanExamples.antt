@@ -1,5 +1,5 @@
 -- Worked examples of the notices that requests have, each computed.
-use Rattle.std.proofs.Common.{◌≡◌, ℕ, List, [], ◌∷◌, codes, refl, Ok, Err, Some, None}
+use Rattle.std.proofs.Common.{◌≡◌, ℕ, false, List, [], ◌∷◌, codes, refl, Ok, Err, Some, None}
 use Rattle.dsn_text.specs.declared.service.Service.{Service}
 use Rattle.dsn_text.specs.declared.service.Service.TheVariants.{Bounce, Defer, Trace as TraceLog}
 use Rattle.dsn_postfix.specs.files.LogFile.{DamagedLog, SaidLog, are_whole, entry_at, is_said_line}
@@ -9,7 +9,7 @@ use Rattle.dsn_postfix.specs.NoticePlan.{notices_of, notices_telling, notices_wi
 use Rattle.dsn_postfix.specs.PlannedNotice.{NoticeFacts}
 use Rattle.dsn_postfix.specs.files.QueueRecipients.{RecipientFacts}
 use Rattle.dsn_postfix.specs.QuotedAddress.{needs_no_quotes}
-use Rattle.dsn_postfix.specs.declared.cant_say.CantSay.TheVariants.{DamagedPart, NeedsSmtputf8, NoLog, UnknownAction, Unlogged}
+use Rattle.dsn_postfix.specs.declared.cant_say.CantSay.TheVariants.{DamagedPart, NeedsSmtputf8, NoLog, SendOptions, UnknownAction, Unlogged}
 use Rattle.dsn_postfix.specs.declared.files.log_field.LogField.TheVariants.{Recipient}
 use Rattle.dsn_postfix.specs.declared.postfix_request.DeliveryReport.{DeliveryReport}
 use Rattle.dsn_postfix.specs.declared.postfix_request.NoticeRequest.{NoticeRequest}
@@ -26,6 +26,7 @@ notice_with sender send_options returns = record {
   queue_name = codes "deferred";
   queue_id = codes "334A2A7C7AF";
   encoding = codes "7bit";
+  names_sendopts = false;
   send_options = send_options;
   sender = sender;
   envelope_id = codes "QQ314159";
@@ -103,16 +104,44 @@ expired = refl
 still_delayed : told_of Defer (Warn asked) [] (delayed 727 ∷ []) ≡ delayed 727 ∷ []
 still_delayed = refl
 
--- a recipient that a log names twice is told once, as the last record has it. Two addresses of one alias
--- are two recipients, and so are two of which the queue file's records aren't known
-named_twice : told_of Defer (Warn asked) [] (became (codes "relayed") (codes "g@example.org") 727 0 ∷ delayed 3 ∷ delayed 727 ∷ []) ≡ delayed 3 ∷ delayed 727 ∷ []
-named_twice = refl
+-- an outcome that a log has twice is told once, where its last record is. Two addresses of one alias are two recipients,
+-- and so are two of which the queue file's records aren't known
+logged_twice : told_of Defer (Warn asked) [] (delayed 727 ∷ delayed 3 ∷ delayed 727 ∷ []) ≡ delayed 3 ∷ delayed 727 ∷ []
+logged_twice = refl
 
 of_one_alias : told_of Defer (Warn asked) [] (became (codes "delayed") (codes "h@example.org") 727 0 ∷ delayed 727 ∷ []) ≡ became (codes "delayed") (codes "h@example.org") 727 0 ∷ delayed 727 ∷ []
 of_one_alias = refl
 
 without_places : told_of Defer (Warn asked) [] (delayed 0 ∷ delayed 0 ∷ []) ≡ delayed 0 ∷ delayed 0 ∷ []
 without_places = refl
+
+-- the commands of one alias have its place and its address: both are told, also where one failed and the other didn't
+abbrev command : List ℕ → List ℕ → List ℕ → LoggedFields
+command status action reason = record (became action (codes "staff@example.org") 727 0) { status = status; reason = reason }
+
+abbrev commands : List LoggedFields
+commands =
+    command (codes "5.3.0") (codes "failed") (codes "Command died with status 69: one")
+    ∷ command (codes "5.3.0") (codes "failed") (codes "Command died with status 69: two")
+    ∷ command (codes "5.2.0") (codes "failed") (codes "Command died with status 69: two")
+    ∷ []
+
+of_commands : told_of Bounce (Flush asked) [] commands ≡ commands
+of_commands = refl
+
+abbrev tried : List LoggedFields
+tried =
+    command (codes "5.3.0") (codes "failed") (codes "Command died with status 69: one")
+    ∷ command (codes "2.0.0") (codes "delivered") (codes "delivered to command: two")
+    ∷ command (codes "2.0.0") (codes "expanded") (codes "delivered to command: two")
+    ∷ []
+
+of_tried_commands : told_of TraceLog (Trace asked) [] tried ≡ tried
+of_tried_commands = refl
+
+-- a notice of failure has one action, so two records that differ in it alone are told once
+of_one_failure : told_of Defer (Flush asked) [] (delayed 727 ∷ became (codes "failed") (codes "g@example.org") 727 0 ∷ []) ≡ became (codes "failed") (codes "g@example.org") 727 0 ∷ []
+of_one_failure = refl
 
 -- a log of recipients that are tried again says nothing of one that is done; a log of failures does
 abbrev queued_as : ℕ → RecipientState → RecipientFacts
@@ -220,19 +249,31 @@ of_a_double_bounce : notices_of double_bounce Bounce (Flush (notice_with (codes 
 unfolding notices_of
 of_a_double_bounce = refl
 
--- a header in UTF-8 alone asks for nothing: a warning without a log tells of nobody
-of_utf8_header : notices_of double_bounce Defer (Warn (notice_with sender 2 0)) [] None ≡ Ok []
+-- UTF-8 in the header, the sender and a recipient asks for nothing: a warning without a log tells of nobody
+of_utf8_text : notices_of double_bounce Defer (Warn (notice_with sender 14 0)) [] None ≡ Ok []
 unfolding notices_of
-of_utf8_header = refl
+of_utf8_text = refl
 
 of_smtputf8 : notices_of double_bounce Bounce (Flush (notice_with sender 1 0)) [] None ≡ Err NeedsSmtputf8
 unfolding notices_of
 of_smtputf8 = refl
 
--- nor does `TLS-Required: no`
-of_tls_required : notices_of double_bounce Defer (Warn (notice_with sender 16 0)) [] None ≡ Ok []
+-- `TLS-Required: no`, REQUIRETLS, and an option of which nothing is known; a message from nobody asks for nothing
+of_tls_required : notices_of double_bounce Bounce (Flush (notice_with sender 16 0)) [] None ≡ Err (SendOptions 16)
 unfolding notices_of
 of_tls_required = refl
+
+of_require_tls : notices_of double_bounce Defer (Warn (notice_with sender 34 0)) [] None ≡ Err (SendOptions 34)
+unfolding notices_of
+of_require_tls = refl
+
+of_unknown_option : notices_of double_bounce TraceLog (Trace (notice_with sender 64 0)) [] None ≡ Err (SendOptions 64)
+unfolding notices_of
+of_unknown_option = refl
+
+of_nobody_with_options : notices_of double_bounce Bounce (Flush (notice_with [] 48 0)) [] None ≡ Ok []
+unfolding notices_of
+of_nobody_with_options = refl
 
 -- a request about one recipient tells of it, whatever the log
 abbrev reported_as : List ℕ → ReportedRecipient

@@ -1,20 +1,23 @@
--- Notices tell of each recipient once: what portions have, and what is told.
+-- Notices tell each outcome once: what portions have, and what is told.
 use Rattle.std.proofs.Common.{◌≡◌, ◌<◌, ◌≤◌, ◌∙◌, Bool, true, false, ℕ, zero, suc, List, [], ◌∷◌, ◌++◌, take, drop, length, map, Result, Ok, Err, refl, sym, ap, subst, arith}
-use Rattle.std.specs.Prelude.{◌||◌, not, if◌then◌else◌}
+use Rattle.std.specs.Prelude.{◌==◌, ◌&&◌, ◌||◌, nat_lt, if◌then◌else◌}
 use Rattle.std.specs.List.{AllByRecursion, flat_map, list_all, list_any}
-use Rattle.std.proofs.lemmas.Bool.{and_parts}
+use Rattle.std.specs.Str.{bytes_eq}
+use Rattle.std.proofs.Math.Bool.{or-true}
+use Rattle.std.proofs.lemmas.Bool.{and_parts, eqb-true}
+use Rattle.std.proofs.lemmas.Cmp.{nat_eq_equiv}
 use Rattle.std.proofs.lemmas.List.{length-drop, length-take, take-append-drop}
 use Rattle.dsn_text.specs.declared.service.Service.{Service}
 use Rattle.dsn_postfix.specs.files.LogRecord.{LoggedFields}
-use Rattle.dsn_postfix.specs.NoticePlan.{NamesEachOnce, TellEachOnce, TellsOfSome, has_known_action, is_past, is_same_recipient, is_told, most_told, notice_about, notices_with, outcomes_of, portions, portions_within, told_as, told_of}
+use Rattle.dsn_postfix.specs.NoticePlan.{HasEachOnce, IsToldBy, TellEachOnce, TellsOfSome, has_known_action, is_same_outcome, last_of_each, most_told, notice_about, notices_with, outcomes_of, portions, portions_within, says_same, told_of, wanted_of}
 use Rattle.dsn_postfix.specs.PlannedNotice.{NoticeFacts}
 use Rattle.dsn_postfix.specs.files.QueueRecipients.{RecipientFacts}
-use Rattle.dsn_postfix.specs.Wanted.{wants}
 use Rattle.dsn_postfix.specs.declared.cant_say.CantSay.{CantSay}
 use Rattle.dsn_postfix.specs.declared.cant_say.CantSay.TheVariants.{UnknownAction}
 use Rattle.dsn_postfix.specs.declared.postfix_request.NoticeRequest.{NoticeRequest}
 use Rattle.dsn_postfix.specs.declared.postfix_request.PostfixRequest.{PostfixRequest}
 use Rattle.dsn_postfix.specs.declared.postfix_request.PostfixRequest.TheVariants.{Append, Flush, Warn, Verp, One, Trace}
+use Rattle.dsn_postfix.proofs.NumberLemmas.{compared_same, same_bytes}
 
 -- ---- portions
 
@@ -53,52 +56,81 @@ neither : (one other : Bool) → one || other ≡ false → (one ≡ false) × (
 neither true other is = absurd cc
 neither false other is = (refl, is)
 
-not_again : (past again : Bool) → not (past || again) ≡ true → again ≡ false
-not_again true again is = absurd cc
-not_again false true is = absurd cc
-not_again false false is = refl
+none_with : (again : Bool) (test : LoggedFields → Bool) (fields : LoggedFields) (later : List LoggedFields) → test fields ≡ false → list_any test later ≡ false → list_any test (if again then later else fields ∷ later) ≡ false
+none_with true test fields later not_it none = none
+none_with false test fields later not_it none = grind (arith, not_it, none)
 
--- how a record is told doesn't change whose it is
-same_as_told : (request : PostfixRequest) (one other : LoggedFields) → is_same_recipient (told_as request one) other ≡ is_same_recipient one other
-same_as_told (Append append) one other = refl
-same_as_told (Flush notice) one other = refl
-same_as_told (Warn notice) one other = refl
-same_as_told (Verp notice delimiters) one other = refl
-same_as_told (One notice recipient report) one other = refl
-same_as_told (Trace notice) one other = refl
+none_kept : (test : LoggedFields → Bool) (outcomes : List LoggedFields) → list_any test outcomes ≡ false → list_any test (last_of_each outcomes) ≡ false
+none_kept test [] none = refl
+none_kept test (fields ∷ later) none =
+    let parts = neither (test fields) (list_any test later) none in
+    none_with (list_any (is_same_outcome fields) later) test fields (last_of_each later) parts.0 (none_kept test later parts.1)
 
-same_if_told : (request : PostfixRequest) (one other : LoggedFields) → is_same_recipient one (told_as request other) ≡ is_same_recipient one other
-same_if_told (Append append) one other = refl
-same_if_told (Flush notice) one other = refl
-same_if_told (Warn notice) one other = refl
-same_if_told (Verp notice delimiters) one other = refl
-same_if_told (One notice recipient report) one other = refl
-same_if_told (Trace notice) one other = refl
+once_with : (again : Bool) (fields : LoggedFields) (later : List LoggedFields) → (again ≡ false → list_any (is_same_outcome fields) later ≡ false) → HasEachOnce later → HasEachOnce (if again then later else fields ∷ later)
+once_with true fields later none has = has
+once_with false fields later none has = (none refl, has)
 
-none_with : (tells : Bool) (test : LoggedFields → Bool) (fields : LoggedFields) (later : List LoggedFields) → test fields ≡ false → list_any test later ≡ false → list_any test (if tells then fields ∷ later else later) ≡ false
-none_with true test fields later not_it none = grind (arith, not_it, none)
-none_with false test fields later not_it none = none
+told_once : (outcomes : List LoggedFields) → HasEachOnce (last_of_each outcomes)
+told_once [] = tt
+told_once (fields ∷ later) =
+    once_with (list_any (is_same_outcome fields) later) fields (last_of_each later)
+    (λ new. none_kept (is_same_outcome fields) later new)
+    (told_once later)
 
-none_told : (service : Service) (request : PostfixRequest) (queued : List RecipientFacts) (one : LoggedFields) (records : List LoggedFields) → list_any (is_same_recipient one) records ≡ false → list_any (is_same_recipient (told_as request one)) (told_of service request queued records) ≡ false
-none_told service request queued one [] none = refl
-none_told service request queued one (fields ∷ later) none =
-    let parts = neither (is_same_recipient one fields) (list_any (is_same_recipient one) later) none in
-    none_with (is_told service request queued fields later) (is_same_recipient (told_as request one)) (told_as request fields) (told_of service request queued later)
-    (same_as_told request one (told_as request fields) ∙ same_if_told request one fields ∙ parts.0)
-    (none_told service request queued one later parts.1)
+-- ---- all
 
-once_with : (tells : Bool) (fields : LoggedFields) (later : List LoggedFields) → (tells ≡ true → list_any (is_same_recipient fields) later ≡ false) → NamesEachOnce later → NamesEachOnce (if tells then fields ∷ later else later)
-once_with true fields later none names = (none refl, names)
-once_with false fields later none names = names
+same_text : (one other : List ℕ) → bytes_eq one other ≡ true → (text : List ℕ) → bytes_eq one text ≡ bytes_eq other text
+same_text one other same text = ap (λ (t : List ℕ). bytes_eq t text) (same_bytes one other same)
 
-told_names_once : (service : Service) (request : PostfixRequest) (queued : List RecipientFacts) (records : List LoggedFields) → NamesEachOnce (told_of service request queued records)
-told_names_once service request queued [] = tt
-told_names_once service request queued (fields ∷ later) =
-    once_with (is_told service request queued fields later) (told_as request fields) (told_of service request queued later)
-    (λ tells. none_told service request queued fields later
-    (not_again (is_past service queued fields.offset) (list_any (is_same_recipient fields) later)
-    (and_parts (wants request fields.notify_flags) _ tells).1))
-    (told_names_once service request queued later)
+-- who says the same as one says it as the other does
+says_alike : (one other told : LoggedFields) → says_same one other ≡ true → says_same one told ≡ says_same other told
+says_alike one other told same =
+    let place = and_parts (one.offset == other.offset) _ same in
+    let address = and_parts (bytes_eq one.recipient other.recipient) _ place.1 in
+    let status = and_parts (bytes_eq one.status other.status) _ address.1 in
+    let words = and_parts (bytes_eq one.action other.action) _ status.1 in
+    λ i. ap (λ (n : ℕ). n == told.offset) (eqb-true one.offset other.offset place.0) i
+    && (same_text one.recipient other.recipient address.0 told.recipient i
+    && (same_text one.status other.status status.0 told.status i
+    && (same_text one.action other.action words.0 told.action i && same_text one.reason other.reason words.1 told.reason i)))
+
+any_alike : (one other : LoggedFields) (told : List LoggedFields) → says_same one other ≡ true → list_any (says_same one) told ≡ list_any (says_same other) told
+any_alike one other [] same = refl
+any_alike one other (fields ∷ told) same = λ i. says_alike one other fields same i || any_alike one other told same i
+
+-- what a later record says again is told where that one is
+told_by_one : (same : Bool) (told : List LoggedFields) (fields other : LoggedFields) (later : Bool) → is_same_outcome fields other ≡ same → IsToldBy told other → (later ≡ true → IsToldBy told fields) → same || later ≡ true → IsToldBy told fields
+told_by_one true told fields other later is by_other by_later again = any_alike fields other told (and_parts (nat_lt 0 fields.offset) (says_same fields other) is).1 ∙ by_other
+told_by_one false told fields other later is by_other by_later again = by_later again
+
+told_again : (told : List LoggedFields) (fields : LoggedFields) (later : List LoggedFields) → list_any (is_same_outcome fields) later ≡ true → AllByRecursion (IsToldBy told) later → IsToldBy told fields
+told_again told fields [] again each = absurd cc
+told_again told fields (other ∷ later) again each =
+    told_by_one (is_same_outcome fields other) told fields other (list_any (is_same_outcome fields) later) refl each.0 (λ among. told_again told fields later among each.1) again
+
+says_itself : (fields : LoggedFields) → says_same fields fields ≡ true
+says_itself fields =
+    rw (
+      nat_eq_equiv.refl fields.offset,
+      compared_same fields.recipient fields.recipient refl,
+      compared_same fields.status fields.status refl,
+      compared_same fields.action fields.action refl,
+      compared_same fields.reason fields.reason refl,
+    ) refl
+
+told_beside : (fields : LoggedFields) (told outcomes : List LoggedFields) → AllByRecursion (IsToldBy told) outcomes → AllByRecursion (IsToldBy (fields ∷ told)) outcomes
+told_beside fields told [] each = tt
+told_beside fields told (one ∷ outcomes) each =
+    (ap (λ (b : Bool). says_same one fields || b) each.0 ∙ or-true (says_same one fields), told_beside fields told outcomes each.1)
+
+all_with : (again : Bool) (fields : LoggedFields) (told later : List LoggedFields) → list_any (is_same_outcome fields) later ≡ again → AllByRecursion (IsToldBy told) later → AllByRecursion (IsToldBy (if again then told else fields ∷ told)) (fields ∷ later)
+all_with true fields told later is each = (told_again told fields later is each, each)
+all_with false fields told later is each =
+    (ap (λ (b : Bool). b || list_any (says_same fields) told) (says_itself fields), told_beside fields told later each)
+
+all_told : (outcomes : List LoggedFields) → AllByRecursion (IsToldBy (last_of_each outcomes)) outcomes
+all_told [] = tt
+all_told (fields ∷ later) = all_with (list_any (is_same_outcome fields) later) fields (last_of_each later) later refl (all_told later)
 
 -- ---- notices
 
@@ -117,6 +149,7 @@ tell_each_once service request notice queued records notices is =
     subst (λ (ns : List NoticeFacts). TellEachOnce service request queued records ns) are
     (record {
       told = all;
-      once = subst NamesEachOnce (sym all) (told_names_once service request queued records);
+      once = subst HasEachOnce (sym all) (told_once (wanted_of service request queued records));
+      all = subst (λ (told : List LoggedFields). AllByRecursion (IsToldBy told) (wanted_of service request queued records)) (sym all) (all_told (wanted_of service request queued records));
       some = each_of_some request notice (length told) (most_told request) told (may_tell request);
     })

@@ -1,4 +1,4 @@
--- What a set of recipients says of a list of records.
+-- What a set of outcomes says of a list of records.
 use Rattle.std.proofs.Common.{◌≡◌, ◌∙◌, ℕ, Bool, true, false, cond, List, [], ◌∷◌, refl, sym, ap, arith}
 use Rattle.std.specs.Prelude.{◌==◌, ◌&&◌, ◌||◌, nat_lt, not}
 use Rattle.std.specs.BTreeSet as sorted
@@ -12,21 +12,22 @@ use Rattle.std.specs.declared.cmp.Ordering.TheVariants.{Less, Equal, Greater}
 use Rattle.std.proofs.lemmas.Cmp.{nat_eq_equiv, nat_list_eq_equiv}
 use Rattle.std.proofs.lemmas.Map.Text.{is_eq-slice_cmp}
 use Rattle.dsn_postfix.specs.files.LogRecord.{LoggedFields, logged_fields_in}
-use Rattle.dsn_postfix.specs.NoticePlan.{is_same_recipient}
-use Rattle.dsn_postfix.specs.RecipientSet.{HasNamed, Named, is_named, named_cmp}
+use Rattle.dsn_postfix.specs.NoticePlan.{is_same_outcome}
+use Rattle.dsn_postfix.specs.RecipientSet.{HasOutcomes, Outcome, is_of_outcome, outcome_cmp}
 use Rattle.dsn_postfix.specs.declared.files.log_record.LogRecord.{LogRecord}
 
--- without a place no other record is of the recipient
-pub no-place : (one : LoggedFields) (later : List LoggedFields) → one.offset ≡ 0 → list_any (is_same_recipient one) later ≡ false
+-- without a place no other record is of the outcome
+pub no-place : (one : LoggedFields) (later : List LoggedFields) → one.offset ≡ 0 → list_any (is_same_outcome one) later ≡ false
 no-place one [] none = refl
 no-place one (other ∷ later) none =
-    ap (λ (n : ℕ). (nat_lt 0 n && (n == other.offset && bytes_eq one.recipient other.recipient)) || list_any (is_same_recipient one) later) none ∙ no-place one later none
+    ap (λ (n : ℕ). (nat_lt 0 n && (n == other.offset && (bytes_eq one.recipient other.recipient && (bytes_eq one.status other.status && (bytes_eq one.action other.action && bytes_eq one.reason other.reason))))) || list_any (is_same_outcome one) later) none
+    ∙ no-place one later none
 
 pub twice_not : (one other : Bool) → one ≡ not other → not one ≡ other
 twice_not one true is = ap not is
 twice_not one false is = ap not is
 
--- ---- names tie where they are the same
+-- ---- outcomes tie where they are the same
 
 tied-then : (first second : Ordering) → is_eq (ordering_then first second) ≡ (is_eq first && is_eq second)
 tied-then Less second = refl
@@ -41,12 +42,29 @@ tied-by false false apart = refl
 tied-numbers : (a b : ℕ) → is_eq (nat_cmp a b) ≡ (a == b)
 tied-numbers a b = tied-by (nat_lt a b) (a == b) (λ less. grind (arith, less))
 
-tied-names : (one other : Named) → is_eq (named_cmp one other) ≡ (one.0 == other.0 && bytes_eq one.1.now other.1.now)
-tied-names one other =
-    tied-then (nat_cmp one.0 other.0) (slice_cmp nat_cmp one.1.now other.1.now)
-    ∙ (λ i. tied-numbers one.0 other.0 i && is_eq-slice_cmp one.1.now other.1.now i)
+regrouped : (a b c d e : Bool) → ((((a && b) && c) && d) && e) ≡ (a && (b && (c && (d && e))))
+regrouped true true true d e = refl
+regrouped true true false d e = refl
+regrouped true false c d e = refl
+regrouped false b c d e = refl
 
--- ---- one name more
+tied-five : (a b c d e : Ordering) → is_eq (ordering_then (ordering_then (ordering_then (ordering_then a b) c) d) e) ≡ (is_eq a && (is_eq b && (is_eq c && (is_eq d && is_eq e))))
+tied-five a b c d e =
+    tied-then (ordering_then (ordering_then (ordering_then a b) c) d) e
+    ∙ ap (λ (t : Bool). t && is_eq e) (tied-then (ordering_then (ordering_then a b) c) d
+    ∙ ap (λ (t : Bool). t && is_eq d) (tied-then (ordering_then a b) c
+    ∙ ap (λ (t : Bool). t && is_eq c) (tied-then a b)))
+    ∙ regrouped (is_eq a) (is_eq b) (is_eq c) (is_eq d) (is_eq e)
+
+tied-texts : (one other : List ℕ) → is_eq (slice_cmp nat_cmp one other) ≡ bytes_eq other one
+tied-texts one other = is_eq-slice_cmp one other ∙ nat_list_eq_equiv.symm one other
+
+tied-outcomes : (one other : Outcome) → is_eq (outcome_cmp one other) ≡ (other.0 == one.0 && (bytes_eq other.1.now one.1.now && (bytes_eq other.2.now one.2.now && (bytes_eq other.3.now one.3.now && bytes_eq other.4.now one.4.now))))
+tied-outcomes one other =
+    tied-five (nat_cmp one.0 other.0) (slice_cmp nat_cmp one.1.now other.1.now) (slice_cmp nat_cmp one.2.now other.2.now) (slice_cmp nat_cmp one.3.now other.3.now) (slice_cmp nat_cmp one.4.now other.4.now)
+    ∙ (λ i. (tied-numbers one.0 other.0 ∙ nat_eq_equiv.symm one.0 other.0) i && (tied-texts one.1.now other.1.now i && (tied-texts one.2.now other.2.now i && (tied-texts one.3.now other.3.now i && tied-texts one.4.now other.4.now i))))
+
+-- ---- one outcome more
 
 and-some : (same some other : Bool) → (same ≡ true → some ≡ true) → (same && other) ≡ (some && (same && other))
 and-some true true other if_same = refl
@@ -58,16 +76,18 @@ or-by : (test other : Bool) → cond test true other ≡ (test || other)
 or-by true other = refl
 or-by false other = refl
 
-is-its-name : (found : LogRecord) (named : Named) → nat_lt 0 found.offset ≡ true → is_eq (named_cmp (found.offset, found.recipient) named) ≡ is_named named.0 named.1.now (logged_fields_in found)
-is-its-name found named some =
-    tied-names (found.offset, found.recipient) named
-    ∙ (λ i. nat_eq_equiv.symm found.offset named.0 i && nat_list_eq_equiv.symm found.recipient.now named.1.now i)
-    ∙ and-some (named.0 == found.offset) (nat_lt 0 named.0) (bytes_eq named.1.now found.recipient.now) (λ same. grind (arith, some, same))
+abbrev outcome_in : LogRecord → Outcome
+outcome_in found = (found.offset, found.recipient, found.status, found.action, found.reason)
 
-pub one_named_more : (found : LogRecord) (later : List LoggedFields) (before after : BTreeSet Named) → nat_lt 0 found.offset ≡ true → HasNamed before later
-    → ((named : Named) → sorted.contains named_cmp after named ≡ cond (is_eq (named_cmp (found.offset, found.recipient) named)) true (sorted.contains named_cmp before named))
-    → HasNamed after (logged_fields_in found ∷ later)
-one_named_more found later before after some has added named =
-    added named
-    ∙ or-by (is_eq (named_cmp (found.offset, found.recipient) named)) (sorted.contains named_cmp before named)
-    ∙ (λ i. is-its-name found named some i || has named i)
+is-its-outcome : (found : LogRecord) (outcome : Outcome) → nat_lt 0 found.offset ≡ true → is_eq (outcome_cmp (outcome_in found) outcome) ≡ is_of_outcome outcome (logged_fields_in found)
+is-its-outcome found outcome some =
+    tied-outcomes (outcome_in found) outcome
+    ∙ and-some (outcome.0 == found.offset) (nat_lt 0 outcome.0) _ (λ same. grind (arith, some, same))
+
+pub one_outcome_more : (found : LogRecord) (later : List LoggedFields) (before after : BTreeSet Outcome) → nat_lt 0 found.offset ≡ true → HasOutcomes before later
+    → ((outcome : Outcome) → sorted.contains outcome_cmp after outcome ≡ cond (is_eq (outcome_cmp (outcome_in found) outcome)) true (sorted.contains outcome_cmp before outcome))
+    → HasOutcomes after (logged_fields_in found ∷ later)
+one_outcome_more found later before after some has added outcome =
+    added outcome
+    ∙ or-by (is_eq (outcome_cmp (outcome_in found) outcome)) (sorted.contains outcome_cmp before outcome)
+    ∙ (λ i. is-its-outcome found outcome some i || has outcome i)

@@ -1,12 +1,11 @@
--- Worked examples of requests: the bytes are those that programs of Postfix 3.7.11 sent (tests/postfix/), but for that of
--- a single recipient, which none of them sends.
-use Rattle.std.proofs.Common.{◌≡◌, ℕ, List, [], ◌∷◌, ◌++◌, Result, Ok, Err, refl}
+-- Worked examples of requests: the bytes are those that programs of Postfix 3.7.11 sent (tests/postfix/), except for the
+-- request about a single recipient, which is made by hand. local(8) sends such requests.
+use Rattle.std.proofs.Common.{◌≡◌, ℕ, false, List, [], ◌∷◌, ◌++◌, Result, Ok, Err, refl}
 use Rattle.std.specs.Prelude.{codes}
 use Rattle.std.specs.Fmt.{digits}
 use Rattle.dsn_postfix.specs.Attribute.{attribute_bytes, number_in}
 use Rattle.dsn_postfix.specs.PostfixRequest.{postfix_request_bytes}
-use Rattle.dsn_postfix.specs.RequestReading.{append_only_at, append_request_at, notice_at, notice_request_at, one_at, own_request_at, postfix_request_at, recipient_at, report_at, tested_at, attribute_at, value_number_at, verp_at}
-use Rattle.dsn_postfix.specs.declared.postfix_version.PostfixVersion.TheVariants.{V3_7}
+use Rattle.dsn_postfix.specs.RequestReading.{append_only_at, append_request_at, is_sendopts_next, notice_at, notice_request_at, one_at, own_request_at, postfix_request_at, recipient_at, report_at, tested_at, attribute_at, value_number_at, verp_at}
 use Rattle.dsn_postfix.specs.declared.postfix_request.DeliveryReport.{DeliveryReport}
 use Rattle.dsn_postfix.specs.declared.postfix_request.NoticeRequest.{NoticeRequest}
 use Rattle.dsn_postfix.specs.declared.postfix_request.PostfixRequest.{PostfixRequest}
@@ -17,7 +16,7 @@ use Rattle.dsn_postfix.specs.declared.request_fault.RequestFault.TheVariants.{Un
 
 -- what some bytes ask
 abbrev asked : List ℕ → Result PostfixRequest RequestFault
-asked bytes = postfix_request_at V3_7 bytes
+asked bytes = postfix_request_at bytes
 
 -- smtp(8) after a 550: the log of failures
 abbrev append_bytes : List ℕ
@@ -57,10 +56,10 @@ abbrev append_request : PostfixRequest
 append_request = Append (record { flags = 0; queue_id = codes "6BB87A7E6A1"; recipient = the_recipient; report = the_report })
 
 append_is_read : asked append_bytes ≡ Ok append_request
-unfolding digits number_in postfix_request_at own_request_at append_only_at append_request_at notice_at notice_request_at one_at verp_at recipient_at report_at tested_at attribute_at value_number_at
+unfolding digits is_sendopts_next number_in postfix_request_at own_request_at append_only_at append_request_at notice_at notice_request_at one_at verp_at recipient_at report_at tested_at attribute_at value_number_at
 append_is_read = refl
 
-append_is_written : postfix_request_bytes V3_7 append_request ≡ append_bytes
+append_is_written : postfix_request_bytes append_request ≡ append_bytes
 unfolding digits postfix_request_bytes attribute_bytes
 append_is_written = refl
 
@@ -79,6 +78,7 @@ flush_notice = record {
   queue_name = codes "active";
   queue_id = codes "6BB87A7E6A1";
   encoding = [];
+  names_sendopts = false;
   send_options = 0;
   sender = codes "ann@example.com";
   envelope_id = codes "QQ314159";
@@ -89,10 +89,10 @@ abbrev flush_request : PostfixRequest
 flush_request = Flush flush_notice
 
 flush_is_read : asked flush_bytes ≡ Ok flush_request
-unfolding digits number_in postfix_request_at own_request_at append_only_at append_request_at notice_at notice_request_at one_at verp_at recipient_at report_at tested_at attribute_at value_number_at
+unfolding digits is_sendopts_next number_in postfix_request_at own_request_at append_only_at append_request_at notice_at notice_request_at one_at verp_at recipient_at report_at tested_at attribute_at value_number_at
 flush_is_read = refl
 
-flush_is_written : postfix_request_bytes V3_7 flush_request ≡ flush_bytes
+flush_is_written : postfix_request_bytes flush_request ≡ flush_bytes
 unfolding digits postfix_request_bytes attribute_bytes
 flush_is_written = refl
 
@@ -110,6 +110,7 @@ expired_notice = record {
   queue_name = codes "active";
   queue_id = codes "6FF65A7E6C1";
   encoding = [];
+  names_sendopts = false;
   send_options = 0;
   sender = codes "ann@example.com";
   envelope_id = [];
@@ -120,10 +121,10 @@ abbrev expired_request : PostfixRequest
 expired_request = Flush expired_notice
 
 expired_is_read : asked expired_bytes ≡ Ok expired_request
-unfolding digits number_in postfix_request_at own_request_at append_only_at append_request_at notice_at notice_request_at one_at verp_at recipient_at report_at tested_at attribute_at value_number_at
+unfolding digits is_sendopts_next number_in postfix_request_at own_request_at append_only_at append_request_at notice_at notice_request_at one_at verp_at recipient_at report_at tested_at attribute_at value_number_at
 expired_is_read = refl
 
-expired_is_written : postfix_request_bytes V3_7 expired_request ≡ expired_bytes
+expired_is_written : postfix_request_bytes expired_request ≡ expired_bytes
 unfolding digits postfix_request_bytes attribute_bytes
 expired_is_written = refl
 
@@ -141,6 +142,7 @@ refused_notice = record {
   queue_name = codes "incoming";
   queue_id = codes "6C7FDA7F585";
   encoding = [];
+  names_sendopts = false;
   send_options = 0;
   sender = codes "ann@example.com";
   envelope_id = [];
@@ -151,10 +153,10 @@ abbrev refused_request : PostfixRequest
 refused_request = Flush refused_notice
 
 refused_is_read : asked refused_bytes ≡ Ok refused_request
-unfolding digits number_in postfix_request_at own_request_at append_only_at append_request_at notice_at notice_request_at one_at verp_at recipient_at report_at tested_at attribute_at value_number_at
+unfolding digits is_sendopts_next number_in postfix_request_at own_request_at append_only_at append_request_at notice_at notice_request_at one_at verp_at recipient_at report_at tested_at attribute_at value_number_at
 refused_is_read = refl
 
-refused_is_written : postfix_request_bytes V3_7 refused_request ≡ refused_bytes
+refused_is_written : postfix_request_bytes refused_request ≡ refused_bytes
 unfolding digits postfix_request_bytes attribute_bytes
 refused_is_written = refl
 
@@ -172,6 +174,7 @@ null_notice = record {
   queue_name = codes "active";
   queue_id = codes "717F3A7E6D1";
   encoding = [];
+  names_sendopts = false;
   send_options = 0;
   sender = [];
   envelope_id = [];
@@ -182,10 +185,10 @@ abbrev null_request : PostfixRequest
 null_request = Flush null_notice
 
 null_is_read : asked null_bytes ≡ Ok null_request
-unfolding digits number_in postfix_request_at own_request_at append_only_at append_request_at notice_at notice_request_at one_at verp_at recipient_at report_at tested_at attribute_at value_number_at
+unfolding digits is_sendopts_next number_in postfix_request_at own_request_at append_only_at append_request_at notice_at notice_request_at one_at verp_at recipient_at report_at tested_at attribute_at value_number_at
 null_is_read = refl
 
-null_is_written : postfix_request_bytes V3_7 null_request ≡ null_bytes
+null_is_written : postfix_request_bytes null_request ≡ null_bytes
 unfolding digits postfix_request_bytes attribute_bytes
 null_is_written = refl
 
@@ -203,6 +206,7 @@ warn_notice = record {
   queue_name = codes "active";
   queue_id = codes "6FF65A7E6C1";
   encoding = [];
+  names_sendopts = false;
   send_options = 0;
   sender = codes "ann@example.com";
   envelope_id = [];
@@ -213,10 +217,10 @@ abbrev warn_request : PostfixRequest
 warn_request = Warn warn_notice
 
 warn_is_read : asked warn_bytes ≡ Ok warn_request
-unfolding digits number_in postfix_request_at own_request_at append_only_at append_request_at notice_at notice_request_at one_at verp_at recipient_at report_at tested_at attribute_at value_number_at
+unfolding digits is_sendopts_next number_in postfix_request_at own_request_at append_only_at append_request_at notice_at notice_request_at one_at verp_at recipient_at report_at tested_at attribute_at value_number_at
 warn_is_read = refl
 
-warn_is_written : postfix_request_bytes V3_7 warn_request ≡ warn_bytes
+warn_is_written : postfix_request_bytes warn_request ≡ warn_bytes
 unfolding digits postfix_request_bytes attribute_bytes
 warn_is_written = refl
 
@@ -235,6 +239,7 @@ verp_notice = record {
   queue_name = codes "active";
   queue_id = codes "6CE9CA7E022";
   encoding = [];
+  names_sendopts = false;
   send_options = 0;
   sender = codes "list@example.com";
   envelope_id = [];
@@ -245,10 +250,10 @@ abbrev verp_request : PostfixRequest
 verp_request = Verp verp_notice (codes "+=")
 
 verp_is_read : asked verp_bytes ≡ Ok verp_request
-unfolding digits number_in postfix_request_at own_request_at append_only_at append_request_at notice_at notice_request_at one_at verp_at recipient_at report_at tested_at attribute_at value_number_at
+unfolding digits is_sendopts_next number_in postfix_request_at own_request_at append_only_at append_request_at notice_at notice_request_at one_at verp_at recipient_at report_at tested_at attribute_at value_number_at
 verp_is_read = refl
 
-verp_is_written : postfix_request_bytes V3_7 verp_request ≡ verp_bytes
+verp_is_written : postfix_request_bytes verp_request ≡ verp_bytes
 unfolding digits postfix_request_bytes attribute_bytes
 verp_is_written = refl
 
@@ -266,6 +271,7 @@ trace_notice = record {
   queue_name = codes "active";
   queue_id = codes "6E0BEA7E6B1";
   encoding = [];
+  names_sendopts = false;
   send_options = 0;
   sender = codes "ann@example.com";
   envelope_id = [];
@@ -276,10 +282,10 @@ abbrev trace_request : PostfixRequest
 trace_request = Trace trace_notice
 
 trace_is_read : asked trace_bytes ≡ Ok trace_request
-unfolding digits number_in postfix_request_at own_request_at append_only_at append_request_at notice_at notice_request_at one_at verp_at recipient_at report_at tested_at attribute_at value_number_at
+unfolding digits is_sendopts_next number_in postfix_request_at own_request_at append_only_at append_request_at notice_at notice_request_at one_at verp_at recipient_at report_at tested_at attribute_at value_number_at
 trace_is_read = refl
 
-trace_is_written : postfix_request_bytes V3_7 trace_request ≡ trace_bytes
+trace_is_written : postfix_request_bytes trace_request ≡ trace_bytes
 unfolding digits postfix_request_bytes attribute_bytes
 trace_is_written = refl
 
@@ -304,63 +310,63 @@ abbrev one_request : PostfixRequest
 one_request = One flush_notice the_recipient the_report
 
 one_is_read : asked one_bytes ≡ Ok one_request
-unfolding digits number_in postfix_request_at own_request_at append_only_at append_request_at notice_at notice_request_at one_at verp_at recipient_at report_at tested_at attribute_at value_number_at
+unfolding digits is_sendopts_next number_in postfix_request_at own_request_at append_only_at append_request_at notice_at notice_request_at one_at verp_at recipient_at report_at tested_at attribute_at value_number_at
 one_is_read = refl
 
-one_is_written : postfix_request_bytes V3_7 one_request ≡ one_bytes
+one_is_written : postfix_request_bytes one_request ≡ one_bytes
 unfolding digits postfix_request_bytes attribute_bytes
 one_is_written = refl
 
 -- ---- bytes that ask nothing
 
 no_bytes : asked [] ≡ Err Unended
-unfolding digits number_in postfix_request_at own_request_at append_only_at append_request_at notice_at notice_request_at one_at verp_at recipient_at report_at tested_at attribute_at value_number_at
+unfolding digits is_sendopts_next number_in postfix_request_at own_request_at append_only_at append_request_at notice_at notice_request_at one_at verp_at recipient_at report_at tested_at attribute_at value_number_at
 no_bytes = refl
 
 empty_list : asked (0 ∷ []) ≡ Err Missing
-unfolding digits number_in postfix_request_at own_request_at append_only_at append_request_at notice_at notice_request_at one_at verp_at recipient_at report_at tested_at attribute_at value_number_at
+unfolding digits is_sendopts_next number_in postfix_request_at own_request_at append_only_at append_request_at notice_at notice_request_at one_at verp_at recipient_at report_at tested_at attribute_at value_number_at
 empty_list = refl
 
 -- what is asked is unknown
 unknown_command : asked (
     codes "nrequest" ++ (0 ∷ codes "6") ++ (0 ∷ []) ++ (0 ∷ []))
     ≡ Err Command
-unfolding digits number_in postfix_request_at own_request_at append_only_at append_request_at notice_at notice_request_at one_at verp_at recipient_at report_at tested_at attribute_at value_number_at
+unfolding digits is_sendopts_next number_in postfix_request_at own_request_at append_only_at append_request_at notice_at notice_request_at one_at verp_at recipient_at report_at tested_at attribute_at value_number_at
 unknown_command = refl
 
 -- a number has no sign
 command_with_a_sign : asked (
     codes "nrequest" ++ (0 ∷ codes "+2") ++ (0 ∷ []) ++ (0 ∷ []))
     ≡ Err Number
-unfolding digits number_in postfix_request_at own_request_at append_only_at append_request_at notice_at notice_request_at one_at verp_at recipient_at report_at tested_at attribute_at value_number_at
+unfolding digits is_sendopts_next number_in postfix_request_at own_request_at append_only_at append_request_at notice_at notice_request_at one_at verp_at recipient_at report_at tested_at attribute_at value_number_at
 command_with_a_sign = refl
 
 -- and no zero in front
 command_with_a_zero : asked (
     codes "nrequest" ++ (0 ∷ codes "02") ++ (0 ∷ []) ++ (0 ∷ []))
     ≡ Err Number
-unfolding digits number_in postfix_request_at own_request_at append_only_at append_request_at notice_at notice_request_at one_at verp_at recipient_at report_at tested_at attribute_at value_number_at
+unfolding digits is_sendopts_next number_in postfix_request_at own_request_at append_only_at append_request_at notice_at notice_request_at one_at verp_at recipient_at report_at tested_at attribute_at value_number_at
 command_with_a_zero = refl
 
 -- and 32 bits
 number_too_great : asked (
     codes "nrequest" ++ (0 ∷ codes "2") ++ (0 ∷ codes "flags") ++ (0 ∷ codes "4294967296") ++ (0 ∷ []) ++ (0 ∷ []))
     ≡ Err Number
-unfolding digits number_in postfix_request_at own_request_at append_only_at append_request_at notice_at notice_request_at one_at verp_at recipient_at report_at tested_at attribute_at value_number_at
+unfolding digits is_sendopts_next number_in postfix_request_at own_request_at append_only_at append_request_at notice_at notice_request_at one_at verp_at recipient_at report_at tested_at attribute_at value_number_at
 number_too_great = refl
 
 -- which is the greatest
 greatest_number : asked (
     codes "nrequest" ++ (0 ∷ codes "2") ++ (0 ∷ codes "flags") ++ (0 ∷ codes "4294967295") ++ (0 ∷ []) ++ (0 ∷ []))
     ≡ Err Missing
-unfolding digits number_in postfix_request_at own_request_at append_only_at append_request_at notice_at notice_request_at one_at verp_at recipient_at report_at tested_at attribute_at value_number_at
+unfolding digits is_sendopts_next number_in postfix_request_at own_request_at append_only_at append_request_at notice_at notice_request_at one_at verp_at recipient_at report_at tested_at attribute_at value_number_at
 greatest_number = refl
 
 -- an attribute with the name of the next one
 name_for_another : asked (
     codes "nrequest" ++ (0 ∷ codes "2") ++ (0 ∷ codes "queue_name") ++ (0 ∷ codes "active") ++ (0 ∷ []) ++ (0 ∷ []))
     ≡ Err Name
-unfolding digits number_in postfix_request_at own_request_at append_only_at append_request_at notice_at notice_request_at one_at verp_at recipient_at report_at tested_at attribute_at value_number_at
+unfolding digits is_sendopts_next number_in postfix_request_at own_request_at append_only_at append_request_at notice_at notice_request_at one_at verp_at recipient_at report_at tested_at attribute_at value_number_at
 name_for_another = refl
 
 -- a list that ends early
@@ -368,7 +374,7 @@ list_too_short : asked (
     codes "nrequest" ++ (0 ∷ codes "2") ++ (0 ∷ codes "flags") ++ (0 ∷ codes "0") ++ (0 ∷ codes "queue_name")
     ++ (0 ∷ codes "active") ++ (0 ∷ codes "queue_id") ++ (0 ∷ codes "6FF65A7E6C1") ++ (0 ∷ []) ++ (0 ∷ []))
     ≡ Err Missing
-unfolding digits number_in postfix_request_at own_request_at append_only_at append_request_at notice_at notice_request_at one_at verp_at recipient_at report_at tested_at attribute_at value_number_at
+unfolding digits is_sendopts_next number_in postfix_request_at own_request_at append_only_at append_request_at notice_at notice_request_at one_at verp_at recipient_at report_at tested_at attribute_at value_number_at
 list_too_short = refl
 
 -- a queue id that is a path
@@ -376,7 +382,7 @@ traversal : asked (
     codes "nrequest" ++ (0 ∷ codes "2") ++ (0 ∷ codes "flags") ++ (0 ∷ codes "0") ++ (0 ∷ codes "queue_name")
     ++ (0 ∷ codes "active") ++ (0 ∷ codes "queue_id") ++ (0 ∷ codes "../../etc") ++ (0 ∷ []) ++ (0 ∷ []))
     ≡ Err QueueId
-unfolding digits number_in postfix_request_at own_request_at append_only_at append_request_at notice_at notice_request_at one_at verp_at recipient_at report_at tested_at attribute_at value_number_at
+unfolding digits is_sendopts_next number_in postfix_request_at own_request_at append_only_at append_request_at notice_at notice_request_at one_at verp_at recipient_at report_at tested_at attribute_at value_number_at
 traversal = refl
 
 -- the name of a queue that is a path
@@ -384,7 +390,7 @@ queue_traversal : asked (
     codes "nrequest" ++ (0 ∷ codes "2") ++ (0 ∷ codes "flags") ++ (0 ∷ codes "0") ++ (0 ∷ codes "queue_name")
     ++ (0 ∷ codes "../active") ++ (0 ∷ codes "queue_id") ++ (0 ∷ codes "6FF65A7E6C1") ++ (0 ∷ []) ++ (0 ∷ []))
     ≡ Err QueueName
-unfolding digits number_in postfix_request_at own_request_at append_only_at append_request_at notice_at notice_request_at one_at verp_at recipient_at report_at tested_at attribute_at value_number_at
+unfolding digits is_sendopts_next number_in postfix_request_at own_request_at append_only_at append_request_at notice_at notice_request_at one_at verp_at recipient_at report_at tested_at attribute_at value_number_at
 queue_traversal = refl
 
 -- a warning's attributes, and something after them
@@ -396,15 +402,15 @@ warn_attributes =
     ++ (0 ∷ codes "envelope_id") ++ (0 ∷ []) ++ (0 ∷ codes "ret_flags") ++ (0 ∷ codes "0") ++ (0 ∷ [])
 
 without_end : asked warn_attributes ≡ Err Unended
-unfolding digits number_in postfix_request_at own_request_at append_only_at append_request_at notice_at notice_request_at one_at verp_at recipient_at report_at tested_at attribute_at value_number_at
+unfolding digits is_sendopts_next number_in postfix_request_at own_request_at append_only_at append_request_at notice_at notice_request_at one_at verp_at recipient_at report_at tested_at attribute_at value_number_at
 without_end = refl
 
 with_an_attribute_more : asked (warn_attributes ++ codes "x" ++ (0 ∷ 0 ∷ 0 ∷ [])) ≡ Err Extra
-unfolding digits number_in postfix_request_at own_request_at append_only_at append_request_at notice_at notice_request_at one_at verp_at recipient_at report_at tested_at attribute_at value_number_at
+unfolding digits is_sendopts_next number_in postfix_request_at own_request_at append_only_at append_request_at notice_at notice_request_at one_at verp_at recipient_at report_at tested_at attribute_at value_number_at
 with_an_attribute_more = refl
 
 with_a_byte_more : asked (warn_attributes ++ (0 ∷ 0 ∷ [])) ≡ Err Trailing
-unfolding digits number_in postfix_request_at own_request_at append_only_at append_request_at notice_at notice_request_at one_at verp_at recipient_at report_at tested_at attribute_at value_number_at
+unfolding digits is_sendopts_next number_in postfix_request_at own_request_at append_only_at append_request_at notice_at notice_request_at one_at verp_at recipient_at report_at tested_at attribute_at value_number_at
 with_a_byte_more = refl
 
 -- three delimiters
@@ -415,5 +421,5 @@ three_delimiters : asked (
     ++ (0 ∷ codes "list@example.com") ++ (0 ∷ codes "envelope_id") ++ (0 ∷ []) ++ (0 ∷ codes "ret_flags")
     ++ (0 ∷ codes "0") ++ (0 ∷ codes "verp_delimiters") ++ (0 ∷ codes "+=-") ++ (0 ∷ []) ++ (0 ∷ []))
     ≡ Err Delimiters
-unfolding digits number_in postfix_request_at own_request_at append_only_at append_request_at notice_at notice_request_at one_at verp_at recipient_at report_at tested_at attribute_at value_number_at
+unfolding digits is_sendopts_next number_in postfix_request_at own_request_at append_only_at append_request_at notice_at notice_request_at one_at verp_at recipient_at report_at tested_at attribute_at value_number_at
 three_delimiters = refl

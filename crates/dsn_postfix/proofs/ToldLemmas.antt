@@ -1,13 +1,14 @@
--- Whom notices tell of, from a record on: the last one first.
+-- Which outcomes notices tell, from a record on: the last one first.
 use Rattle.std.proofs.Common.{◌≡◌, ◌∙◌, ◌<◌, ◌≤◌, ◌+◌, ◌-◌, Bool, true, false, ℕ, List, [], ◌∷◌, ◌++◌, drop, get_or, length, map, reverse, refl, sym, subst, ap, arith}
-use Rattle.std.specs.Prelude.{if◌then◌else◌}
+use Rattle.std.specs.Prelude.{◌&&◌, not, if◌then◌else◌}
+use Rattle.std.specs.List.{list_any}
 use Rattle.std.specs.BTreeSet.{BTreeSet}
 use Rattle.std.proofs.lemmas.List.{drop_more, map-append, reverse-append}
 use Rattle.dsn_text.specs.declared.service.Service.{Service}
 use Rattle.dsn_postfix.specs.files.LogRecord.{LoggedFields, logged_fields_in}
-use Rattle.dsn_postfix.specs.NoticePlan.{is_told, told_as, told_of}
+use Rattle.dsn_postfix.specs.NoticePlan.{is_same_outcome, is_wanted, last_of_each, told_as, wanted_of}
 use Rattle.dsn_postfix.specs.files.QueueRecipients.{RecipientFacts}
-use Rattle.dsn_postfix.specs.RecipientSet.{HasNamed, Named}
+use Rattle.dsn_postfix.specs.RecipientSet.{HasOutcomes, Outcome}
 use Rattle.dsn_postfix.specs.declared.files.log_record.LogRecord.{LogRecord}
 use Rattle.dsn_postfix.specs.declared.postfix_request.PostfixRequest.{PostfixRequest}
 
@@ -15,58 +16,59 @@ use Rattle.dsn_postfix.specs.declared.postfix_request.PostfixRequest.{PostfixReq
 abbrev Records : Type 0
 Records = List LogRecord
 
-from-last : (records : Records) (left : ℕ) (d : LogRecord) → 0 < left → left ≤ length records
-    → map logged_fields_in (drop (left - 1) records) ≡ logged_fields_in (get_or records (left - 1) d) ∷ map logged_fields_in (drop left records)
-from-last records left d some within =
+-- those of them that are to be told
+abbrev pub wanted_in : Service → PostfixRequest → List RecipientFacts → Records → List LoggedFields
+wanted_in service request queued records = wanted_of service request queued (map logged_fields_in records)
+
+abbrev with_wanted : Bool → LoggedFields → List LoggedFields → List LoggedFields
+with_wanted wanted fields later = if wanted then fields ∷ later else later
+
+from-last : (d : LogRecord) (service : Service) (request : PostfixRequest) (queued : List RecipientFacts) (records : Records) (left : ℕ) (found : LogRecord) → 0 < left → left ≤ length records
+    → logged_fields_in found ≡ told_as request (logged_fields_in (get_or records (left - 1) d))
+    → with_wanted (is_wanted service request queued (logged_fields_in found)) (logged_fields_in found) (wanted_in service request queued (drop left records)) ≡ wanted_in service request queued (drop (left - 1) records)
+from-last d service request queued records left found some within is =
     let next : left - 1 + 1 ≡ left = omega (arith, some) in
-    ap (map logged_fields_in) (drop_more records (left - 1) d (omega (arith, some, within)))
-    ∙ ap (λ (n : ℕ). logged_fields_in (get_or records (left - 1) d) ∷ map logged_fields_in (drop n records)) next
+    ap (λ (fields : LoggedFields). with_wanted (is_wanted service request queued fields) fields (wanted_in service request queued (drop left records))) is
+    ∙ sym (ap (wanted_in service request queued) (drop_more records (left - 1) d (omega (arith, some, within)))
+    ∙ ap (λ (n : ℕ). wanted_in service request queued (get_or records (left - 1) d ∷ drop n records)) next)
 
-pub seen_step : (d : LogRecord) (records : Records) (left : ℕ) (seen : BTreeSet Named) → 0 < left → left ≤ length records
-    → HasNamed seen (logged_fields_in (get_or records (left - 1) d) ∷ map logged_fields_in (drop left records))
-    → HasNamed seen (map logged_fields_in (drop (left - 1) records))
-seen_step d records left seen some within has = subst (HasNamed seen) (sym (from-last records left d some within)) has
-
-told-if : (service : Service) (request : PostfixRequest) (queued : List RecipientFacts) (fields : LoggedFields) (later : List LoggedFields) (told : Bool)
-    → told ≡ is_told service request queued fields later
-    → told_of service request queued (fields ∷ later) ≡ (if told then told_as request fields ∷ told_of service request queued later else told_of service request queued later)
-told-if service request queued fields later told is =
-    ap (λ (b : Bool). if b then told_as request fields ∷ told_of service request queued later else told_of service request queued later) (sym is)
+pub seen_step : (d : LogRecord) (service : Service) (request : PostfixRequest) (queued : List RecipientFacts) (records : Records) (left : ℕ) (found : LogRecord) (seen : BTreeSet Outcome) → 0 < left → left ≤ length records
+    → logged_fields_in found ≡ told_as request (logged_fields_in (get_or records (left - 1) d))
+    → HasOutcomes seen (with_wanted (is_wanted service request queued (logged_fields_in found)) (logged_fields_in found) (wanted_in service request queued (drop left records)))
+    → HasOutcomes seen (wanted_in service request queued (drop (left - 1) records))
+seen_step d service request queued records left found seen some within is has =
+    subst (HasOutcomes seen) (from-last d service request queued records left found some within is) has
 
 -- one that is told, and one that isn't
-one-told_more : (service : Service) (request : PostfixRequest) (queued : List RecipientFacts) (told : List LogRecord) (found one : LogRecord) (later : List LoggedFields)
-    → true ≡ is_told service request queued (logged_fields_in found) later
-    → logged_fields_in one ≡ told_as request (logged_fields_in found)
-    → reverse (map logged_fields_in told) ≡ told_of service request queued later
-    → reverse (map logged_fields_in (told ++ one ∷ [])) ≡ told_of service request queued (logged_fields_in found ∷ later)
-one-told_more service request queued told found one later is as_told before =
-    ap reverse (map-append logged_fields_in told (one ∷ []))
-    ∙ reverse-append (map logged_fields_in told) (logged_fields_in one ∷ [])
-    ∙ (λ i. as_told i ∷ before i)
-    ∙ sym (told-if service request queued (logged_fields_in found) later true is)
+told-by : (wanted again told : Bool) (fields : LoggedFields) (later : List LoggedFields) → list_any (is_same_outcome fields) later ≡ again → told ≡ (wanted && not again)
+    → last_of_each (with_wanted wanted fields later) ≡ (if told then fields ∷ last_of_each later else last_of_each later)
+told-by true true told fields later is tells = rw (is, tells) refl
+told-by true false told fields later is tells = rw (is, tells) refl
+told-by false again told fields later is tells = rw tells refl
 
-pub none-told_more : (service : Service) (request : PostfixRequest) (queued : List RecipientFacts) (told : List LogRecord) (found : LogRecord) (later : List LoggedFields)
-    → false ≡ is_told service request queued (logged_fields_in found) later
-    → reverse (map logged_fields_in told) ≡ told_of service request queued later
-    → reverse (map logged_fields_in told) ≡ told_of service request queued (logged_fields_in found ∷ later)
-none-told_more service request queued told found later is before = before ∙ sym (told-if service request queued (logged_fields_in found) later false is)
+pub told_step : (d : LogRecord) (service : Service) (request : PostfixRequest) (queued : List RecipientFacts) (records told : Records) (left : ℕ) (found : LogRecord) → 0 < left → left ≤ length records
+    → logged_fields_in found ≡ told_as request (logged_fields_in (get_or records (left - 1) d))
+    → true ≡ (is_wanted service request queued (logged_fields_in found) && not (list_any (is_same_outcome (logged_fields_in found)) (wanted_in service request queued (drop left records))))
+    → reverse (map logged_fields_in told) ≡ last_of_each (wanted_in service request queued (drop left records))
+    → reverse (map logged_fields_in (told ++ found ∷ [])) ≡ last_of_each (wanted_in service request queued (drop (left - 1) records))
+told_step d service request queued records told left found some within as_told is before =
+    let later = wanted_in service request queued (drop left records) in
+    ap reverse (map-append logged_fields_in told (found ∷ []))
+    ∙ reverse-append (map logged_fields_in told) (logged_fields_in found ∷ [])
+    ∙ ap (λ (fs : List LoggedFields). logged_fields_in found ∷ fs) before
+    ∙ sym (told-by (is_wanted service request queued (logged_fields_in found)) (list_any (is_same_outcome (logged_fields_in found)) later) true (logged_fields_in found) later refl is)
+    ∙ ap last_of_each (from-last d service request queued records left found some within as_told)
 
-pub told_step : (d : LogRecord) (service : Service) (request : PostfixRequest) (queued : List RecipientFacts) (records told : Records) (left : ℕ) (one : LogRecord) → 0 < left → left ≤ length records
-    → true ≡ is_told service request queued (logged_fields_in (get_or records (left - 1) d)) (map logged_fields_in (drop left records))
-    → logged_fields_in one ≡ told_as request (logged_fields_in (get_or records (left - 1) d))
-    → reverse (map logged_fields_in told) ≡ told_of service request queued (map logged_fields_in (drop left records))
-    → reverse (map logged_fields_in (told ++ one ∷ [])) ≡ told_of service request queued (map logged_fields_in (drop (left - 1) records))
-told_step d service request queued records told left one some within is as_told before =
-    one-told_more service request queued told (get_or records (left - 1) d) one (map logged_fields_in (drop left records)) is as_told before
-    ∙ ap (told_of service request queued) (sym (from-last records left d some within))
-
-pub passed_step : (d : LogRecord) (service : Service) (request : PostfixRequest) (queued : List RecipientFacts) (records told : Records) (left : ℕ) → 0 < left → left ≤ length records
-    → false ≡ is_told service request queued (logged_fields_in (get_or records (left - 1) d)) (map logged_fields_in (drop left records))
-    → reverse (map logged_fields_in told) ≡ told_of service request queued (map logged_fields_in (drop left records))
-    → reverse (map logged_fields_in told) ≡ told_of service request queued (map logged_fields_in (drop (left - 1) records))
-passed_step d service request queued records told left some within is before =
-    none-told_more service request queued told (get_or records (left - 1) d) (map logged_fields_in (drop left records)) is before
-    ∙ ap (told_of service request queued) (sym (from-last records left d some within))
+pub passed_step : (d : LogRecord) (service : Service) (request : PostfixRequest) (queued : List RecipientFacts) (records told : Records) (left : ℕ) (found : LogRecord) → 0 < left → left ≤ length records
+    → logged_fields_in found ≡ told_as request (logged_fields_in (get_or records (left - 1) d))
+    → false ≡ (is_wanted service request queued (logged_fields_in found) && not (list_any (is_same_outcome (logged_fields_in found)) (wanted_in service request queued (drop left records))))
+    → reverse (map logged_fields_in told) ≡ last_of_each (wanted_in service request queued (drop left records))
+    → reverse (map logged_fields_in told) ≡ last_of_each (wanted_in service request queued (drop (left - 1) records))
+passed_step d service request queued records told left found some within as_told is before =
+    let later = wanted_in service request queued (drop left records) in
+    before
+    ∙ sym (told-by (is_wanted service request queued (logged_fields_in found)) (list_any (is_same_outcome (logged_fields_in found)) later) false (logged_fields_in found) later refl is)
+    ∙ ap last_of_each (from-last d service request queued records left found some within as_told)
 
 -- all of them, in their order
 pub reversed_told : (told after : List LogRecord) (all : List LoggedFields) → after ≡ reverse told → reverse (map logged_fields_in told) ≡ all → map logged_fields_in after ≡ all

@@ -1,7 +1,7 @@
--- The notices that a request has of a log: each recipient whom the request's NOTIFY rules want stands in one,
--- once, in the log's order.
+-- The notices that a request has of a log: each outcome of a recipient whom the request's NOTIFY rules want is in one
+-- of them, once, in the log's order.
 use Rattle.std.specs.Prelude.{◌≡◌, ◌==◌, ◌<◌, ◌≤◌, ◌%◌, ◌&&◌, ◌||◌, not, nat_lt, Bool, true, false, ℕ, zero, suc, List, [], ◌∷◌, take, drop, length, map, codes, Option, Some, None, Result, Ok, Err, if◌then◌else◌}
-use Rattle.std.specs.List.{AllByRecursion, flat_map, list_all, list_any}
+use Rattle.std.specs.List.{AllByRecursion, filter, flat_map, list_all, list_any}
 use Rattle.std.specs.Str.{bytes_eq}
 use Rattle.dsn_text.specs.declared.service.Service.{Service}
 use Rattle.dsn_text.specs.declared.service.Service.TheVariants.{Bounce, Defer, Trace as TraceLog}
@@ -12,7 +12,7 @@ use Rattle.dsn_postfix.specs.PlannedNotice.{NoticeFacts}
 use Rattle.dsn_postfix.specs.files.QueueRecipients.{RecipientFacts}
 use Rattle.dsn_postfix.specs.Wanted.{is_no_sender, wants}
 use Rattle.dsn_postfix.specs.declared.cant_say.CantSay.{CantSay}
-use Rattle.dsn_postfix.specs.declared.cant_say.CantSay.TheVariants.{NoLog, DamagedPart, NeedsSmtputf8, Unlogged, UnknownAction}
+use Rattle.dsn_postfix.specs.declared.cant_say.CantSay.TheVariants.{NoLog, DamagedPart, NeedsSmtputf8, SendOptions, Unlogged, UnknownAction}
 use Rattle.dsn_postfix.specs.declared.files.log_field.LogField.{LogField}
 use Rattle.dsn_postfix.specs.declared.plan_fault.PlanFault.{PlanFault}
 use Rattle.dsn_postfix.specs.declared.plan_fault.PlanFault.TheVariants.{NoMemory, Unsaid}
@@ -62,11 +62,18 @@ records_asked service (Trace notice) log = records_if_any service log
 
 -- ---- whom notices tell of
 
--- records are of one recipient where they name one record of the queue file and one address: addresses
--- that an alias stands for may have its place
-abbrev pub is_same_recipient : LoggedFields → LoggedFields → Bool
-is_same_recipient one other =
-    nat_lt 0 one.offset && (one.offset == other.offset && bytes_eq one.recipient other.recipient)
+-- two records say the same: they name one place and one address, with one status, action and reason
+abbrev pub says_same : LoggedFields → LoggedFields → Bool
+says_same one other =
+    one.offset == other.offset
+    && (bytes_eq one.recipient other.recipient
+    && (bytes_eq one.status other.status
+    && (bytes_eq one.action other.action && bytes_eq one.reason other.reason)))
+
+-- two records are of one outcome if they say the same of a known place. The addresses that an alias stands for may have
+-- its place, and the outcomes of its commands have its address too
+abbrev pub is_same_outcome : LoggedFields → LoggedFields → Bool
+is_same_outcome one other = nat_lt 0 one.offset && says_same one other
 
 abbrev pub is_over : RecipientState → Bool
 is_over Waiting = false
@@ -87,10 +94,9 @@ is_past Bounce queued offset = false
 is_past Defer queued offset = is_done_in queued offset
 is_past TraceLog queued offset = false
 
--- a recipient that a later record names again is told by the last one
-abbrev pub is_told : Service → PostfixRequest → List RecipientFacts → LoggedFields → List LoggedFields → Bool
-is_told service request queued fields later =
-    wants request fields.notify_flags && not (is_past service queued fields.offset || list_any (is_same_recipient fields) later)
+-- an outcome that is told: the sender wants that, and the log says something of its recipient still
+abbrev pub is_wanted : Service → PostfixRequest → List RecipientFacts → LoggedFields → Bool
+is_wanted service request queued fields = wants request fields.notify_flags && not (is_past service queued fields.offset)
 
 abbrev pub with_action : List ℕ → LoggedFields → LoggedFields
 with_action action fields = record {
@@ -117,13 +123,19 @@ told_as (Verp notice delimiters) fields = with_action (codes "failed") fields
 told_as (One notice recipient report) fields = with_action (codes "failed") fields
 told_as (Trace notice) fields = fields
 
--- those whom the notices tell of, of some records, in their order
+-- of the records of one outcome the last one, of all outcomes in their order
+abbrev pub last_of_each : List LoggedFields → List LoggedFields
+last_of_each [] = []
+last_of_each (fields ∷ later) =
+    if list_any (is_same_outcome fields) later then last_of_each later else fields ∷ last_of_each later
+
+-- those of some records that are to be told, as they are told
+abbrev pub wanted_of : Service → PostfixRequest → List RecipientFacts → List LoggedFields → List LoggedFields
+wanted_of service request queued records = filter (is_wanted service request queued) (map (told_as request) records)
+
+-- the outcomes that the notices tell, of some records, in their order
 abbrev pub told_of : Service → PostfixRequest → List RecipientFacts → List LoggedFields → List LoggedFields
-told_of service request queued [] = []
-told_of service request queued (fields ∷ later) =
-    if is_told service request queued fields later
-    then told_as request fields ∷ told_of service request queued later
-    else told_of service request queued later
+told_of service request queued records = last_of_each (wanted_of service request queued records)
 
 -- ---- notices
 
@@ -201,17 +213,23 @@ notices_with service request notice queued (Err reason) = Err reason
 notices_with service request notice queued (Ok records) =
     notices_telling request notice (told_of service request queued records)
 
--- the message was handed in with SMTPUTF8 (RFC 6531): the lowest of the flags says so. The others say that a
--- header or the sender has UTF-8 in it, as also in messages that came without
-abbrev pub asks_smtputf8 : ℕ → Bool
-asks_smtputf8 flags = flags % 2 == 1
+-- which send options no notice keeps. 1: the message came with SMTPUTF8 (RFC 6531). 16: its header has
+-- `TLS-Required: no`, and 32: it came with REQUIRETLS (RFC 8689), which the notice would have to say too. Of greater
+-- ones nothing is known. 2, 4 and 8 only say where the message has UTF-8, as messages have that came without SMTPUTF8
+abbrev pub option_lost : ℕ → Option CantSay
+option_lost options =
+    if options % 2 == 1 then Some NeedsSmtputf8
+    else (if nat_lt options 16 then None else Some (SendOptions options))
+
+abbrev pub notices_unless : Option CantSay → Result (List NoticeFacts) CantSay → Result (List NoticeFacts) CantSay
+notices_unless None notices = notices
+notices_unless (Some reason) notices = Err reason
 
 abbrev pub notices_asked : List ℕ → Service → PostfixRequest → List RecipientFacts → Option (List ℕ) → Option NoticeRequest → Result (List NoticeFacts) CantSay
 notices_asked double_bounce service request queued log None = Ok []
 notices_asked double_bounce service request queued log (Some notice) =
     if is_no_sender double_bounce notice.sender then Ok []
-    else (if asks_smtputf8 notice.send_options then Err NeedsSmtputf8
-    else notices_with service request notice queued (records_asked service request log))
+    else notices_unless (option_lost notice.send_options) (notices_with service request notice queued (records_asked service request log))
 
 -- what a request for notices says, if it is one
 abbrev pub notice_asked : PostfixRequest → Option NoticeRequest
@@ -237,10 +255,10 @@ IsPlanFault planned (Unsaid reason) = planned ≡ Err reason
 
 -- ---- what is true of them
 
--- no recipient is named by two records
-abbrev pub NamesEachOnce : List LoggedFields → Type 0
-NamesEachOnce [] = Unit {0}
-NamesEachOnce (fields ∷ later) = (list_any (is_same_recipient fields) later ≡ false) × NamesEachOnce later
+-- no outcome is in two records
+abbrev pub HasEachOnce : List LoggedFields → Type 0
+HasEachOnce [] = Unit {0}
+HasEachOnce (fields ∷ later) = (list_any (is_same_outcome fields) later ≡ false) × HasEachOnce later
 
 -- of whom notices tell, one after another
 abbrev pub outcomes_of : List NoticeFacts → List LoggedFields
@@ -250,7 +268,12 @@ outcomes_of notices = flat_map (λ (notice : NoticeFacts). notice.outcomes) noti
 abbrev pub TellsOfSome : ℕ → NoticeFacts → Type 0
 TellsOfSome most notice = (0 < length notice.outcomes) × (length notice.outcomes ≤ most)
 
+-- an outcome is told, in these words
+abbrev pub IsToldBy : List LoggedFields → LoggedFields → Type 0
+IsToldBy told fields = list_any (says_same fields) told ≡ true
+
 pub record TellEachOnce (service : Service) (request : PostfixRequest) (queued : List RecipientFacts) (records : List LoggedFields) (notices : List NoticeFacts) : Type 0 where
   pub told : outcomes_of notices ≡ told_of service request queued records
-  pub once : NamesEachOnce (outcomes_of notices)
+  pub once : HasEachOnce (outcomes_of notices)
+  pub all : AllByRecursion (IsToldBy (outcomes_of notices)) (wanted_of service request queued records)
   pub some : AllByRecursion (TellsOfSome (most_told request)) notices

@@ -1,11 +1,9 @@
--- What Postfix's programs ask of bounce(8), and the attributes that ask it, for each version whose layouts are known.
-use Rattle.std.specs.Prelude.{◌≡◌, ℕ, ◌<◌, List, [], ◌∷◌, ◌++◌, codes}
+-- What programs of Postfix 3.6 to 3.10 ask of bounce(8), and the attributes that ask it.
+use Rattle.std.specs.Prelude.{◌≡◌, ℕ, ◌<◌, Bool, true, false, List, [], ◌∷◌, ◌++◌, codes}
 use Rattle.dsn_text.specs.Text.{IsQueueId}
 use Rattle.dsn_postfix.specs.Attribute.{Attribute, list_bytes, number_attribute, number_limit, offset_limit, text_attribute}
 use Rattle.dsn_postfix.specs.files.ZeroFree.{IsZeroFree}
 use Rattle.dsn_postfix.specs.AttributeValues.{AreDelimiters, IsQueueName}
-use Rattle.dsn_postfix.specs.declared.postfix_version.PostfixVersion.{PostfixVersion}
-use Rattle.dsn_postfix.specs.declared.postfix_version.PostfixVersion.TheVariants.{V3_6, V3_7, V3_8, V3_9, V3_10}
 use Rattle.dsn_postfix.specs.declared.postfix_request.AppendRequest.{AppendRequest}
 use Rattle.dsn_postfix.specs.declared.postfix_request.DeliveryReport.{DeliveryReport}
 use Rattle.dsn_postfix.specs.declared.postfix_request.NoticeRequest.{NoticeRequest}
@@ -15,14 +13,11 @@ use Rattle.dsn_postfix.specs.declared.postfix_request.ReportedRecipient.{Reporte
 
 -- ---- the table of layouts
 
--- the name of the attribute that says what a message needs of those who pass it on: all else is the same in
--- each version
-abbrev pub send_options_name : PostfixVersion → List ℕ
-send_options_name V3_6 = codes "smtputf8"
-send_options_name V3_7 = codes "smtputf8"
-send_options_name V3_8 = codes "smtputf8"
-send_options_name V3_9 = codes "smtputf8"
-send_options_name V3_10 = codes "sendopts"
+-- the name of the attribute that has the send options: the older one up to Postfix 3.9, the newer one since 3.10. All
+-- else is the same in each version
+abbrev pub send_options_name : Bool → List ℕ
+send_options_name false = codes "smtputf8"
+send_options_name true = codes "sendopts"
 
 abbrev pub recipient_attributes : ReportedRecipient → List Attribute
 recipient_attributes recipient =
@@ -50,13 +45,13 @@ append_attributes request =
     ∷ text_attribute (codes "queue_id") request.queue_id
     ∷ (recipient_attributes request.recipient ++ report_attributes request.report)
 
-abbrev pub notice_attributes : PostfixVersion → NoticeRequest → List Attribute
-notice_attributes version request =
+abbrev pub notice_attributes : NoticeRequest → List Attribute
+notice_attributes request =
     number_attribute (codes "flags") request.flags
     ∷ text_attribute (codes "queue_name") request.queue_name
     ∷ text_attribute (codes "queue_id") request.queue_id
     ∷ text_attribute (codes "encoding") request.encoding
-    ∷ number_attribute (send_options_name version) request.send_options
+    ∷ number_attribute (send_options_name request.names_sendopts) request.send_options
     ∷ text_attribute (codes "sender") request.sender
     ∷ text_attribute (codes "envelope_id") request.envelope_id
     ∷ number_attribute (codes "ret_flags") request.returns
@@ -72,23 +67,23 @@ command_number (One request recipient report) = 4
 command_number (Trace request) = 5
 
 -- what follows that number
-abbrev pub own_attributes : PostfixVersion → PostfixRequest → List Attribute
-own_attributes version (Append request) = append_attributes request
-own_attributes version (Flush request) = notice_attributes version request
-own_attributes version (Warn request) = notice_attributes version request
-own_attributes version (Verp request delimiters) =
-    notice_attributes version request ++ text_attribute (codes "verp_delimiters") delimiters ∷ []
-own_attributes version (One request recipient report) =
-    notice_attributes version request ++ (recipient_attributes recipient ++ report_attributes report)
-own_attributes version (Trace request) = notice_attributes version request
+abbrev pub own_attributes : PostfixRequest → List Attribute
+own_attributes (Append request) = append_attributes request
+own_attributes (Flush request) = notice_attributes request
+own_attributes (Warn request) = notice_attributes request
+own_attributes (Verp request delimiters) =
+    notice_attributes request ++ text_attribute (codes "verp_delimiters") delimiters ∷ []
+own_attributes (One request recipient report) =
+    notice_attributes request ++ (recipient_attributes recipient ++ report_attributes report)
+own_attributes (Trace request) = notice_attributes request
 
-abbrev pub request_attributes : PostfixVersion → PostfixRequest → List Attribute
-request_attributes version request =
-    number_attribute (codes "nrequest") (command_number request) ∷ own_attributes version request
+abbrev pub request_attributes : PostfixRequest → List Attribute
+request_attributes request =
+    number_attribute (codes "nrequest") (command_number request) ∷ own_attributes request
 
 -- the bytes of a request
-unfoldable pub postfix_request_bytes : PostfixVersion → PostfixRequest → List ℕ
-postfix_request_bytes version request = list_bytes (request_attributes version request)
+unfoldable pub postfix_request_bytes : PostfixRequest → List ℕ
+postfix_request_bytes request = list_bytes (request_attributes request)
 
 -- ---- which requests can be written
 
@@ -134,7 +129,7 @@ IsPostfixRequest (One request recipient report) =
     FitsNotice request × (FitsRecipient recipient × FitsReport report)
 IsPostfixRequest (Trace request) = FitsNotice request
 
--- bytes that are those of a request in the layout of a version
-pub record IsRequestIn (version : PostfixVersion) (bytes : List ℕ) (request : PostfixRequest) : Type 0 where
-  pub bytes_are : bytes ≡ postfix_request_bytes version request
+-- bytes that are those of a request
+pub record IsRequestIn (bytes : List ℕ) (request : PostfixRequest) : Type 0 where
+  pub bytes_are : bytes ≡ postfix_request_bytes request
   pub fits : IsPostfixRequest request

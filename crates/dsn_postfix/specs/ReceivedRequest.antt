@@ -6,16 +6,15 @@ use Rattle.dsn_postfix.specs.PostfixRequest.{IsRequestIn}
 use Rattle.dsn_postfix.specs.RequestReading.{postfix_request_at}
 use Rattle.dsn_postfix.specs.declared.list_fault.ListFault.{ListFault}
 use Rattle.dsn_postfix.specs.declared.postfix_request.PostfixRequest.{PostfixRequest}
-use Rattle.dsn_postfix.specs.declared.postfix_version.PostfixVersion.{PostfixVersion}
 use Rattle.dsn_postfix.specs.declared.receive_fault.ReceiveFault.{ReceiveFault}
 use Rattle.dsn_postfix.specs.declared.receive_fault.ReceiveFault.TheVariants.{List as NoListRead, Request as NoRequest}
 use Rattle.dsn_postfix.specs.declared.request_fault.RequestFault.{RequestFault}
 
 -- the bytes of a request were read, and no others
-pub record ReceivesRequest (version : PostfixVersion) (old new : Option (List ℕ)) (request : PostfixRequest) : Type 0 where
+pub record ReceivesRequest (old new : Option (List ℕ)) (request : PostfixRequest) : Type 0 where
   pub bytes : List ℕ
   pub consumed : Consumes old new bytes
-  pub is : IsRequestIn version bytes request
+  pub is : IsRequestIn bytes request
 
 -- no list was read, whatever room there was
 pub record ReceivesNoList (old new : Option (List ℕ)) (fault : ListFault) : Type 0 where
@@ -24,15 +23,15 @@ pub record ReceivesNoList (old new : Option (List ℕ)) (fault : ListFault) : Ty
   pub none : ReadsNoList old new before after fault
 
 -- a list was read that is no request
-pub record ReceivesOtherList (version : PostfixVersion) (old new : Option (List ℕ)) (fault : RequestFault) : Type 0 where
+pub record ReceivesOtherList (old new : Option (List ℕ)) (fault : RequestFault) : Type 0 where
   pub bytes : List ℕ
   pub list : IsList bytes
   pub consumed : Consumes old new bytes
-  pub refused : postfix_request_at version bytes ≡ Err fault
+  pub refused : postfix_request_at bytes ≡ Err fault
 
-abbrev pub ReceivesNoRequest : PostfixVersion → Option (List ℕ) → Option (List ℕ) → ReceiveFault → Type 0
-ReceivesNoRequest version old new (NoListRead fault) = ReceivesNoList old new fault
-ReceivesNoRequest version old new (NoRequest fault) = ReceivesOtherList version old new fault
+abbrev pub ReceivesNoRequest : Option (List ℕ) → Option (List ℕ) → ReceiveFault → Type 0
+ReceivesNoRequest old new (NoListRead fault) = ReceivesNoList old new fault
+ReceivesNoRequest old new (NoRequest fault) = ReceivesOtherList old new fault
 
 -- whether a result says that the device failed
 abbrev pub receiving_failed : {T : Type 0} → Result T ReceiveFault → Bool

@@ -1,4 +1,4 @@
--- Sets in which recipients are looked up, by what the definitions ask of lists.
+-- Sets in which outcomes and recipients are looked up, by what the definitions ask of lists.
 use Rattle.std.specs.Prelude.{◌≡◌, ◌==◌, ◌&&◌, nat_lt, Bool, ℕ, List}
 use Rattle.std.specs.Borrow.{Bor}
 use Rattle.std.specs.BTreeSet as sorted
@@ -13,21 +13,32 @@ use Rattle.dsn_postfix.specs.files.LogRecord.{LoggedFields}
 use Rattle.dsn_postfix.specs.NoticePlan.{is_past}
 use Rattle.dsn_postfix.specs.files.QueueRecipients.{RecipientFacts}
 
--- a recipient's place in the queue file, and its address
-abbrev pub Named : Type 0
-Named = ℕ × Bor (List ℕ)
+-- by what an outcome is known again: a recipient's place in the queue file and its address, the status, the action and
+-- the reason
+abbrev pub Outcome : Type 0
+Outcome = ℕ × Bor (List ℕ) × Bor (List ℕ) × Bor (List ℕ) × Bor (List ℕ)
 
 -- the order in which a set keeps them
-abbrev pub named_cmp : Named → Named → Ordering
-named_cmp one other = ordering_then (nat_cmp one.0 other.0) (slice_cmp nat_cmp one.1.now other.1.now)
+abbrev pub outcome_cmp : Outcome → Outcome → Ordering
+outcome_cmp one other =
+    ordering_then (
+    ordering_then (
+    ordering_then (ordering_then (nat_cmp one.0 other.0) (slice_cmp nat_cmp one.1.now other.1.now)) (slice_cmp nat_cmp one.2.now other.2.now))
+    (slice_cmp nat_cmp one.3.now other.3.now))
+    (slice_cmp nat_cmp one.4.now other.4.now)
 
--- a record is of the recipient
-abbrev pub is_named : ℕ → List ℕ → LoggedFields → Bool
-is_named place address fields = nat_lt 0 place && (place == fields.offset && bytes_eq address fields.recipient)
+-- a record is of the outcome
+abbrev pub is_of_outcome : Outcome → LoggedFields → Bool
+is_of_outcome outcome fields =
+    nat_lt 0 outcome.0
+    && (outcome.0 == fields.offset
+    && (bytes_eq outcome.1.now fields.recipient
+    && (bytes_eq outcome.2.now fields.status
+    && (bytes_eq outcome.3.now fields.action && bytes_eq outcome.4.now fields.reason))))
 
--- a set has the recipients of some records, those that have a place
-abbrev pub HasNamed : BTreeSet Named → List LoggedFields → Type 0
-HasNamed seen records = (named : Named) → sorted.contains named_cmp seen named ≡ list_any (is_named named.0 named.1.now) records
+-- a set has the outcomes of some records, those whose recipient has a place
+abbrev pub HasOutcomes : BTreeSet Outcome → List LoggedFields → Type 0
+HasOutcomes seen records = (outcome : Outcome) → sorted.contains outcome_cmp seen outcome ≡ list_any (is_of_outcome outcome) records
 
 -- a set has the places of recipients of whom a log says nothing any more
 abbrev pub HasPast : BTreeSet ℕ → Service → List RecipientFacts → Type 0

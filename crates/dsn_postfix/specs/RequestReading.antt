@@ -1,11 +1,11 @@
 -- Reading a request from left to right: the request that some bytes are, or the first fault that is met.
-use Rattle.std.specs.Prelude.{ℕ, zero, suc, ◌==◌, Bool, true, List, [], ◌∷◌, codes, Option, Some, None, Result, Ok, Err, if◌then◌else◌}
+use Rattle.std.specs.Prelude.{ℕ, zero, suc, ◌==◌, Bool, true, List, [], ◌∷◌, ◌++◌, codes, Option, Some, None, Result, Ok, Err, if◌then◌else◌}
 use Rattle.std.specs.Cmp.Lexicographic.{pointwise}
+use Rattle.std.specs.List.{starts_with}
 use Rattle.dsn_text.specs.Text.{is_queue_id}
 use Rattle.dsn_postfix.specs.Attribute.{number_in, number_limit, offset_limit, zero_ended_at}
 use Rattle.dsn_postfix.specs.AttributeValues.{are_delimiters, is_queue_name}
 use Rattle.dsn_postfix.specs.PostfixRequest.{send_options_name}
-use Rattle.dsn_postfix.specs.declared.postfix_version.PostfixVersion.{PostfixVersion}
 use Rattle.dsn_postfix.specs.declared.postfix_request.AppendRequest.{AppendRequest}
 use Rattle.dsn_postfix.specs.declared.postfix_request.DeliveryReport.{DeliveryReport}
 use Rattle.dsn_postfix.specs.declared.postfix_request.NoticeRequest.{NoticeRequest}
@@ -94,17 +94,21 @@ append_request_at bytes =
     report_at recipient.1 >>> λ report.
     Ok (record { flags = flags.0; queue_id = id.0; recipient = recipient.0; report = report.0 }, report.1)
 
-unfoldable pub notice_request_at : PostfixVersion → List ℕ → Result (NoticeRequest × List ℕ) RequestFault
-notice_request_at version bytes =
+-- the send options have their newer name where that comes next, and else the older one
+unfoldable pub is_sendopts_next : List ℕ → Bool
+is_sendopts_next bytes = starts_with ◌==◌ bytes (codes "sendopts" ++ 0 ∷ [])
+
+unfoldable pub notice_request_at : List ℕ → Result (NoticeRequest × List ℕ) RequestFault
+notice_request_at bytes =
     value_number_at number_limit (codes "flags") bytes >>> λ flags.
     tested_at is_queue_name QueueName (codes "queue_name") flags.1 >>> λ queue.
     tested_at is_queue_id QueueId (codes "queue_id") queue.1 >>> λ id.
     attribute_at (codes "encoding") id.1 >>> λ encoding.
-    value_number_at number_limit (send_options_name version) encoding.1 >>> λ send_options.
+    value_number_at number_limit (send_options_name (is_sendopts_next encoding.1)) encoding.1 >>> λ send_options.
     attribute_at (codes "sender") send_options.1 >>> λ sender.
     attribute_at (codes "envelope_id") sender.1 >>> λ envelope_id.
     value_number_at number_limit (codes "ret_flags") envelope_id.1 >>> λ returns.
-    Ok (record { flags = flags.0; queue_name = queue.0; queue_id = id.0; encoding = encoding.0; send_options = send_options.0; sender = sender.0; envelope_id = envelope_id.0; returns = returns.0 }, returns.1)
+    Ok (record { flags = flags.0; queue_name = queue.0; queue_id = id.0; encoding = encoding.0; names_sendopts = is_sendopts_next encoding.1; send_options = send_options.0; sender = sender.0; envelope_id = envelope_id.0; returns = returns.0 }, returns.1)
 
 -- ---- a whole request
 
@@ -113,39 +117,39 @@ append_only_at bytes =
     append_request_at bytes >>> λ request.
     Ok (Append request.0, request.1)
 
-unfoldable pub verp_at : PostfixVersion → List ℕ → Result (PostfixRequest × List ℕ) RequestFault
-verp_at version bytes =
-    notice_request_at version bytes >>> λ request.
+unfoldable pub verp_at : List ℕ → Result (PostfixRequest × List ℕ) RequestFault
+verp_at bytes =
+    notice_request_at bytes >>> λ request.
     tested_at are_delimiters Delimiters (codes "verp_delimiters") request.1 >>> λ delimiters.
     Ok (Verp request.0 delimiters.0, delimiters.1)
 
-unfoldable pub one_at : PostfixVersion → List ℕ → Result (PostfixRequest × List ℕ) RequestFault
-one_at version bytes =
-    notice_request_at version bytes >>> λ request.
+unfoldable pub one_at : List ℕ → Result (PostfixRequest × List ℕ) RequestFault
+one_at bytes =
+    notice_request_at bytes >>> λ request.
     recipient_at request.1 >>> λ recipient.
     report_at recipient.1 >>> λ report.
     Ok (One request.0 recipient.0 report.0, report.1)
 
 -- a request that has a notice's attributes alone
-unfoldable pub notice_at : (NoticeRequest → PostfixRequest) → PostfixVersion → List ℕ → Result (PostfixRequest × List ℕ) RequestFault
-notice_at request_with version bytes =
-    notice_request_at version bytes >>> λ request.
+unfoldable pub notice_at : (NoticeRequest → PostfixRequest) → List ℕ → Result (PostfixRequest × List ℕ) RequestFault
+notice_at request_with bytes =
+    notice_request_at bytes >>> λ request.
     Ok (request_with request.0, request.1)
 
 -- what follows the number of what is asked
-unfoldable pub own_request_at : PostfixVersion → ℕ → List ℕ → Result (PostfixRequest × List ℕ) RequestFault
-own_request_at version zero bytes = append_only_at bytes
-own_request_at version (suc zero) bytes = notice_at Flush version bytes
-own_request_at version (suc (suc zero)) bytes = notice_at Warn version bytes
-own_request_at version (suc (suc (suc zero))) bytes = verp_at version bytes
-own_request_at version (suc (suc (suc (suc zero)))) bytes = one_at version bytes
-own_request_at version (suc (suc (suc (suc (suc zero))))) bytes = notice_at Trace version bytes
-own_request_at version (suc (suc (suc (suc (suc (suc command)))))) bytes = Err Command
+unfoldable pub own_request_at : ℕ → List ℕ → Result (PostfixRequest × List ℕ) RequestFault
+own_request_at zero bytes = append_only_at bytes
+own_request_at (suc zero) bytes = notice_at Flush bytes
+own_request_at (suc (suc zero)) bytes = notice_at Warn bytes
+own_request_at (suc (suc (suc zero))) bytes = verp_at bytes
+own_request_at (suc (suc (suc (suc zero)))) bytes = one_at bytes
+own_request_at (suc (suc (suc (suc (suc zero))))) bytes = notice_at Trace bytes
+own_request_at (suc (suc (suc (suc (suc (suc command)))))) bytes = Err Command
 
 -- the request that bytes are, all of them
-unfoldable pub postfix_request_at : PostfixVersion → List ℕ → Result PostfixRequest RequestFault
-postfix_request_at version bytes =
+unfoldable pub postfix_request_at : List ℕ → Result PostfixRequest RequestFault
+postfix_request_at bytes =
     value_number_at number_limit (codes "nrequest") bytes >>> λ command.
-    own_request_at version command.0 command.1 >>> λ request.
+    own_request_at command.0 command.1 >>> λ request.
     end_at request.1 >>> λ ended.
     Ok request.0

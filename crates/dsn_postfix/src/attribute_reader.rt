@@ -3,7 +3,7 @@ ghost use Rattle.std.specs.Prelude.{◌≡◌, true, codes, IfOk, IfErr, OnOk};
 ghost use Rattle.dsn_text.specs.Text.{is_queue_id};
 ghost use Rattle.dsn_postfix.specs.Attribute.{number_limit, offset_limit, zero_ended_at};
 ghost use Rattle.dsn_postfix.specs.AttributeValues.{are_delimiters, is_queue_name};
-ghost use Rattle.dsn_postfix.specs.RequestReading.{end_at, tested_at, attribute_at, value_number_at};
+ghost use Rattle.dsn_postfix.specs.RequestReading.{end_at, is_sendopts_next, tested_at, attribute_at, value_number_at};
 
 use crate::attribute_text::AttributeText;
 use crate::number::{number_in, short_number_in};
@@ -62,6 +62,14 @@ impl<'a> AttributeReader<'a> {
             return Err(RequestFault::Name);
         }
         self.zero_ended()
+    }
+
+    /// Whether the next attribute has the newer name of the send options.
+    #[tactic(auto, unfolding(crate::specs::RequestReading::is_sendopts_next))]
+    pub(crate) fn is_sendopts_next(&self) -> bool
+        ensures { result ≡ is_sendopts_next self.now }
+    {
+        self.rest.starts_with(b"sendopts\0")
     }
 
     /// The number of 32 bits that is the value of the next attribute, which must have this name.

@@ -57,4 +57,11 @@ impl<'a> AttributeText<'a> {
     {
         self.bytes
     }
+
+    /// The same text, lent by the same bytes.
+    pub fn lent(&self) -> AttributeText<'a>
+        ensures { result ≡ self.now }
+    {
+        AttributeText { bytes: self.bytes }
+    }
 }

@@ -11,11 +11,14 @@ pub enum CantSay {
     /// What stands at this place of the log, in bytes, is no whole record.
     #[error("the log is damaged at byte {0}")]
     DamagedPart(u64),
-    /// The message was handed in with SMTPUTF8 (RFC 6531).
+    /// The message was submitted with SMTPUTF8 (RFC 6531).
     #[error("the message needs SMTPUTF8")]
     NeedsSmtputf8,
+    /// These send options have a bit that no notice keeps: 16, 32, or one of which nothing is known.
+    #[error("the message has send options {0}")]
+    SendOptions(u32),
     /// This field of the request's recipient can't be said.
-    #[error("a field of the recipient can't be said")]
+    #[error("{0} can't be said")]
     Unlogged(LogField),
     /// What became of a recipient is no action of RFC 3464 section 2.3.3.
     #[error("an action that RFC 3464 does not know")]

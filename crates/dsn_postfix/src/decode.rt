@@ -5,37 +5,29 @@ ghost use Rattle.dsn_postfix.specs.RequestReading.{postfix_request_at};
 
 use crate::attribute_reader::AttributeReader;
 use crate::postfix_request::PostfixRequest;
-use crate::postfix_version::PostfixVersion;
 use crate::request_fault::RequestFault;
 use crate::request_reading::request_of;
 
-/// The request that bytes are, all of them, in the layout of a version. It takes no memory.
-/// What isn't a request is refused for the first attribute, from the left, that isn't as the layout has it; its end comes
-/// last.
-pub fn decode_postfix_request<'a>(
-    version: PostfixVersion,
-    bytes: &'a [u8],
-) -> Result<PostfixRequest<'a>, RequestFault>
-    ensures read { IfOk result (λ request. IsRequestIn version bytes.now request) }
-    ensures only { (request : PostfixRequest) → IsRequestIn version bytes.now request
+/// The request that bytes are, all of them, as programs of Postfix 3.6 to 3.10 send it. It takes no memory.
+/// Returns the fault of the first attribute, from the left, that isn't as the layout has it, or else of the list's end.
+pub fn decode_postfix_request<'a>(bytes: &'a [u8]) -> Result<PostfixRequest<'a>, RequestFault>
+    ensures read { IfOk result (λ request. IsRequestIn bytes.now request) }
+    ensures only { (request : PostfixRequest) → IsRequestIn bytes.now request
         → result ≡ Ok request }
-    ensures refused { IfErr result (λ fault. postfix_request_at version bytes.now ≡ Err fault) }
+    ensures refused { IfErr result (λ fault. postfix_request_at bytes.now ≡ Err fault) }
 {
-    read_request(version, bytes)
+    read_request(bytes)
 }
 
 /// The request that reading gives.
 #[tactic(auto, unfolding(crate::specs::RequestReading::postfix_request_at))]
-fn read_request<'a>(
-    version: PostfixVersion,
-    bytes: &'a [u8],
-) -> Result<PostfixRequest<'a>, RequestFault>
-    ensures read { IfOk result (λ request. postfix_request_at version bytes.now ≡ Ok request) }
-    ensures refused { IfErr result (λ fault. postfix_request_at version bytes.now ≡ Err fault) }
+fn read_request<'a>(bytes: &'a [u8]) -> Result<PostfixRequest<'a>, RequestFault>
+    ensures read { IfOk result (λ request. postfix_request_at bytes.now ≡ Ok request) }
+    ensures refused { IfErr result (λ fault. postfix_request_at bytes.now ≡ Err fault) }
 {
     let mut reader = AttributeReader::new(bytes);
     let command = reader.number(b"nrequest")?;
-    let request = request_of(version, command, &mut reader)?;
+    let request = request_of(command, &mut reader)?;
     reader.end()?;
     Ok(request)
 }

@@ -8,23 +8,21 @@ use crate::attribute_writer::{push_end, push_number, push_text};
 use crate::postfix_request::{
     AppendRequest, DeliveryReport, NoticeRequest, PostfixRequest, ReportedRecipient,
 };
-use crate::postfix_version::PostfixVersion;
 use crate::request_reading::send_options_name;
 use dsn_text::NoMemory;
 use std::alloc::Global;
 
-/// The bytes of a request, as a program of this version of Postfix sends it. There is an error only where memory was
-/// refused.
+/// The bytes of a request, as Postfix's programs send it: a request that was decoded has the bytes that it was decoded
+/// from. Returns an error only if memory was refused.
 pub fn encode_postfix_request(
     alloc: Global,
-    version: PostfixVersion,
     request: &PostfixRequest<'_>,
 ) -> Result<Vec<u8>, NoMemory>
-    ensures { IfOk result (λ bytes. IsRequestIn version bytes.items request.now) }
+    ensures { IfOk result (λ bytes. IsRequestIn bytes.items request.now) }
 {
     let mut out = Vec::new(alloc);
     push_number(&mut out, b"nrequest", command_of(request))?;
-    push_own(&mut out, version, request)?;
+    push_own(&mut out, request)?;
     push_end(&mut out)?;
     Ok(out)
 }
@@ -45,26 +43,22 @@ fn command_of(request: &PostfixRequest<'_>) -> u64
 
 /// Adds what follows that number.
 #[tactic(auto, unfolding(crate::specs::PostfixRequest::IsPostfixRequest))]
-fn push_own(
-    out: &mut Vec<u8>,
-    version: PostfixVersion,
-    request: &PostfixRequest<'_>,
-) -> Result<(), NoMemory>
+fn push_own(out: &mut Vec<u8>, request: &PostfixRequest<'_>) -> Result<(), NoMemory>
     ensures added { OnOk result (out.new.items
-        ≡ out.old.items ++ flat_map attribute_bytes (own_attributes version request.now)) }
+        ≡ out.old.items ++ flat_map attribute_bytes (own_attributes request.now)) }
     ensures legal { OnOk result (IsPostfixRequest request.now) }
 {
     match request {
         PostfixRequest::Append(append) => push_append(out, append),
         PostfixRequest::Flush(notice)
         | PostfixRequest::Warn(notice)
-        | PostfixRequest::Trace(notice) => push_notice(out, version, notice),
+        | PostfixRequest::Trace(notice) => push_notice(out, notice),
         PostfixRequest::Verp(notice, delimiters) => {
-            push_notice(out, version, notice)?;
+            push_notice(out, notice)?;
             push_text(out, b"verp_delimiters", delimiters.bytes())
         }
         PostfixRequest::One(notice, recipient, report) => {
-            push_notice(out, version, notice)?;
+            push_notice(out, notice)?;
             push_recipient(out, recipient)?;
             push_report(out, report)
         }
@@ -84,20 +78,20 @@ fn push_append(out: &mut Vec<u8>, request: &AppendRequest<'_>) -> Result<(), NoM
 }
 
 /// Adds what a request for a notice says.
-fn push_notice(
-    out: &mut Vec<u8>,
-    version: PostfixVersion,
-    request: &NoticeRequest<'_>,
-) -> Result<(), NoMemory>
+fn push_notice(out: &mut Vec<u8>, request: &NoticeRequest<'_>) -> Result<(), NoMemory>
     ensures added { OnOk result (out.new.items
-        ≡ out.old.items ++ flat_map attribute_bytes (notice_attributes version request.now)) }
+        ≡ out.old.items ++ flat_map attribute_bytes (notice_attributes request.now)) }
     ensures legal { OnOk result (FitsNotice request.now) }
 {
     push_number(out, b"flags", request.flags as u64)?;
     push_text(out, b"queue_name", request.queue_name.bytes())?;
     push_text(out, b"queue_id", request.queue_id.bytes())?;
     push_text(out, b"encoding", request.encoding.bytes())?;
-    push_number(out, send_options_name(version), request.send_options as u64)?;
+    push_number(
+        out,
+        send_options_name(request.names_sendopts),
+        request.send_options as u64,
+    )?;
     push_text(out, b"sender", request.sender.bytes())?;
     push_text(out, b"envelope_id", request.envelope_id.bytes())?;
     push_number(out, b"ret_flags", request.returns as u64)

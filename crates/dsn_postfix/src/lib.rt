@@ -20,7 +20,6 @@ mod plan_fault;
 mod planned_notice;
 mod postfix_answer;
 mod postfix_request;
-mod postfix_version;
 mod queue_name;
 mod quoted_address;
 mod receive;
@@ -57,7 +56,6 @@ pub use postfix_answer::{decode_status, encode_announcement, encode_status};
 pub use postfix_request::{
     AppendRequest, DeliveryReport, NoticeRequest, PostfixRequest, ReportedRecipient,
 };
-pub use postfix_version::PostfixVersion;
 pub use queue_name::{LONGEST_QUEUE_NAME, QueueName};
 pub use quoted_address::needs_no_quotes;
 pub use receive::receive_postfix_request;

@@ -85,6 +85,17 @@ impl ListBuffer {
             None => None,
         }
     }
+
+    /// The list that was read last, if the last call of [`read_next`](Self::read_next) read one: its bytes alone.
+    pub fn into_list(self) -> Option<Vec<u8>>
+        ensures same { option_map (λ list. list.items) result ≡ self.held }
+        ensures whole { IfSome result (λ list. IsList list.items) }
+    {
+        let ListBuffer { mut bytes, whole } = self;
+        let whole = whole?;
+        bytes.truncate(whole);
+        Some(bytes)
+    }
 }
 
 /// Reads a list to the front of a buffer, and says how many bytes it has.

@@ -3,7 +3,7 @@ ghost use Rattle.std.specs.Prelude.{◌≡◌, ◌<◌, Ok, drop, map, take, IfO
 ghost use Rattle.std.specs.Option.{option_map};
 ghost use Rattle.dsn_postfix.specs.files.LogRecord.{logged_fields_in};
 ghost use Rattle.dsn_postfix.specs.LoggedAppend.{logged_of, unlogged_of};
-ghost use Rattle.dsn_postfix.specs.NoticePlan.{IsPlanFault, delimiters_of, kind_of_notice, most_told, notice_about, notice_asked, notices_of, portions, record_alone, records_asked, returned_if_failed};
+ghost use Rattle.dsn_postfix.specs.NoticePlan.{IsPlanFault, delimiters_of, kind_of_notice, most_told, notice_about, notice_asked, notices_of, option_lost, portions, record_alone, records_asked, returned_if_failed};
 ghost use Rattle.dsn_postfix.specs.PlannedNotice.{notice_facts_in};
 ghost use Rattle.dsn_postfix.specs.files.QueueRecipients.{recipient_facts_in};
 ghost use Rattle.dsn_postfix.specs.Wanted.{is_no_sender};
@@ -19,6 +19,22 @@ use crate::told_recipients::{have_known_actions, told_of};
 use crate::whole_records::whole_records;
 use dsn_text::Service;
 use std::alloc::{AllocError, Global};
+
+/// The least of the send options that no notice keeps, besides SMTPUTF8: `TLS-Required: no`.
+const TLS_REQUIRED: u32 = 16;
+
+/// The send options of which no notice keeps all, if these are such.
+fn option_lost(options: u32) -> Option<CantSay>
+    ensures { result ≡ option_lost options }
+{
+    if options % 2 == 1 {
+        return Some(CantSay::NeedsSmtputf8);
+    }
+    if options >= TLS_REQUIRED {
+        return Some(CantSay::SendOptions(options));
+    }
+    None
+}
 
 /// Whether a message has no sender who is to be told: nobody, or who sends notices about notices.
 fn is_no_sender(double_bounce: &[u8], sender: &[u8]) -> bool
@@ -196,12 +212,13 @@ fn notices_telling<'a>(
 }
 
 /// The notices that a request to a service has, from the queue file's recipients and the bytes of
-/// the log's file, if there is one. Each recipient of the log that the request's NOTIFY rules want
-/// stands in exactly one of them, once, in the log's order, with what the log's last record of it
-/// says; no other stands there. In a log of deferred recipients one that is done isn't told. A
-/// notice of failure has the action `failed`, whatever the log's. A message from nobody, or from
-/// the double-bounce address, has no notice. `Unsaid` comes where notices can't be said, `NoMemory`
-/// only where memory for them was refused.
+/// the log's file, if there is one. Each outcome of a recipient whom the request's NOTIFY rules want
+/// is in exactly one of them, once, in the log's order, and no other is. An outcome is a recipient's
+/// place and address with a status, an action and a reason; of two records of it the last one is
+/// told. In a log of deferred recipients one that is done isn't told. A notice of failure has the
+/// action `failed`, whatever the log's. A message from nobody, or from the double-bounce address,
+/// has no notice. Returns `Unsaid` if the notices can't be said, and `NoMemory` only if memory for
+/// them was refused.
 #[tactic(auto, unfolding(crate::specs::NoticePlan::notices_of))]
 pub fn plan_notices<'a>(
     alloc: Global,
@@ -224,8 +241,8 @@ pub fn plan_notices<'a>(
     if is_no_sender(double_bounce, notice.sender.bytes()) {
         return Ok(Vec::new(alloc));
     }
-    if notice.send_options % 2 == 1 {
-        return Err(PlanFault::Unsaid(CantSay::NeedsSmtputf8));
+    if let Some(reason) = option_lost(notice.send_options) {
+        return Err(PlanFault::Unsaid(reason));
     }
     let records = records_asked(alloc, service, request, log)?;
     let told = told_of(alloc, service, request, queued, &records)?;

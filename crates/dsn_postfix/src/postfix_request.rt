@@ -47,9 +47,11 @@ pub struct NoticeRequest<'a> {
     pub queue_id: QueueId,
     /// How the message's body is encoded: `7bit`, `8bit`, or empty where that isn't known.
     pub encoding: AttributeText<'a>,
-    /// What the message needs of those who pass it on, as bits: 1 SMTPUTF8 (RFC 6531), with which it was handed in, 2 there is
-    /// UTF-8 in its header, 4 in its sender, 8 in a recipient; since 3.10 also 16 where its header has `TLS-Required: no`, and
-    /// 32 REQUIRETLS (RFC 8689).
+    /// Whether the attribute of the send options is named `sendopts`, as since 3.10, and not `smtputf8`.
+    pub names_sendopts: bool,
+    /// What the message needs of those who pass it on, as bits: 1 SMTPUTF8 (RFC 6531), with which it was submitted, 2 there
+    /// is UTF-8 in its header, 4 in its sender, 8 in a recipient; since 3.10 also 16 if its header has `TLS-Required: no`,
+    /// and 32 REQUIRETLS (RFC 8689).
     pub send_options: u32,
     /// The envelope sender of the message; empty where it is null.
     pub sender: AttributeText<'a>,

@@ -45,6 +45,13 @@ impl<'a> QueueName<'a> {
     {
         self.bytes
     }
+
+    /// The same name, lent by the same bytes.
+    pub fn lent(&self) -> QueueName<'a>
+        ensures { result ≡ self.now }
+    {
+        QueueName { bytes: self.bytes }
+    }
 }
 
 /// Whether each byte is an ASCII letter or a digit.

@@ -7,22 +7,20 @@ ghost use Rattle.dsn_postfix.specs.ReceivedRequest.{ReceivesNoRequest, ReceivesR
 use crate::decode::decode_postfix_request;
 use crate::list_buffer::ListBuffer;
 use crate::postfix_request::PostfixRequest;
-use crate::postfix_version::PostfixVersion;
 use crate::receive_fault::ReceiveFault;
 use dsn_device::Source;
 
-/// Reads a list from a device, as [`ListBuffer::read_next`] does, and the request that it is in the layout of a version. The
-/// buffer lends the request's texts.
+/// Reads a list from a device, as [`ListBuffer::read_next`] does, and the request that it is. The buffer lends the
+/// request's texts.
 pub fn receive_postfix_request<'a, S: Source>(
-    version: PostfixVersion,
     source: &mut S,
     buffer: &'a mut ListBuffer,
 ) -> Result<PostfixRequest<'a>, ReceiveFault>
     ensures received { IfOk result
-        (λ request. ReceivesRequest version (S.remaining source.old) (S.remaining source.new)
+        (λ request. ReceivesRequest (S.remaining source.old) (S.remaining source.new)
         request) }
     ensures refused { IfErr result
-        (λ fault. ReceivesNoRequest version (S.remaining source.old) (S.remaining source.new)
+        (λ fault. ReceivesNoRequest (S.remaining source.old) (S.remaining source.new)
         fault) }
     ensures held { Keeps (S.holds source.old) (S.holds source.new) }
     ensures no_flush { S.flushes source.new ≡ S.flushes source.old }
@@ -38,7 +36,7 @@ pub fn receive_postfix_request<'a, S: Source>(
     let Some(list) = buffer.list() else {
         unreachable!()
     };
-    match decode_postfix_request(version, list) {
+    match decode_postfix_request(list) {
         Ok(request) => Ok(request),
         Err(fault) => Err(ReceiveFault::Request(fault)),
     }

@@ -1,31 +1,43 @@
-//! Sets in which recipients are looked up, so that a log with many takes no time that grows with their square.
+//! Sets in which outcomes and recipients are looked up, so that the time that a log takes doesn't grow with the square of
+//! its records.
 ghost use Rattle.std.specs.Prelude.{◌≡◌, ◌∷◌, List, map, IfOk, OnOk};
 ghost use Rattle.std.specs.List.{list_any};
 ghost use Rattle.dsn_text.specs.declared.service.Service.TheVariants.{Defer};
 ghost use Rattle.dsn_postfix.specs.files.LogRecord.{LoggedFields, logged_fields_in};
-ghost use Rattle.dsn_postfix.specs.NoticePlan.{is_same_recipient};
+ghost use Rattle.dsn_postfix.specs.NoticePlan.{is_same_outcome};
 ghost use Rattle.dsn_postfix.specs.files.QueueRecipients.{recipient_facts_in};
-ghost use Rattle.dsn_postfix.specs.RecipientSet.{HasNamed, HasPast};
+ghost use Rattle.dsn_postfix.specs.RecipientSet.{HasOutcomes, HasPast};
 
 use crate::files::{LogRecord, QueuedRecipient, RecipientState};
 use dsn_text::Service;
 use std::alloc::{AllocError, Global};
 use std::collections::BTreeSet;
 
-/// Adds the recipient of a record to those of the records after it, and says whether one of these names it too.
-pub(crate) fn is_named_again<'a>(
-    seen: &mut BTreeSet<(u64, &'a [u8])>,
+/// By what an outcome is known again: the recipient's place in the queue file and its address, the status, the action and
+/// the reason.
+pub(crate) type Outcome<'a> = (u64, &'a [u8], &'a [u8], &'a [u8], &'a [u8]);
+
+/// Adds the outcome of a record to those of the records after it. Returns whether one of these has it too.
+pub(crate) fn is_outcome_again<'a>(
+    seen: &mut BTreeSet<Outcome<'a>>,
     found: &LogRecord<'a>,
 ) -> Result<bool, AllocError>
-    ensures again { (later : List LoggedFields) → HasNamed seen.old later
-        → IfOk result (λ again. again ≡ list_any (is_same_recipient (logged_fields_in found.now)) later) }
-    ensures seen { (later : List LoggedFields) → HasNamed seen.old later
-        → OnOk result (HasNamed seen.new (logged_fields_in found.now ∷ later)) }
+    ensures again { (later : List LoggedFields) → HasOutcomes seen.old later
+        → IfOk result (λ again. again ≡ list_any (is_same_outcome (logged_fields_in found.now)) later) }
+    ensures seen { (later : List LoggedFields) → HasOutcomes seen.old later
+        → OnOk result (HasOutcomes seen.new (logged_fields_in found.now ∷ later)) }
 {
     if found.offset == 0 {
         return Ok(false);
     }
-    let is_new = seen.insert((found.offset, found.recipient))?;
+    let outcome = (
+        found.offset,
+        found.recipient,
+        found.status,
+        found.action,
+        found.reason,
+    );
+    let is_new = seen.insert(outcome)?;
     Ok(!is_new)
 }
 

@@ -7,18 +7,13 @@ use crate::attribute_reader::AttributeReader;
 use crate::postfix_request::{
     AppendRequest, DeliveryReport, NoticeRequest, PostfixRequest, ReportedRecipient,
 };
-use crate::postfix_version::PostfixVersion;
 use crate::request_fault::RequestFault;
 
-/// The name of the attribute that says what a message needs of those who pass it on.
-pub(crate) fn send_options_name(version: PostfixVersion) -> &'static [u8]
-    ensures { result.now ≡ send_options_name version }
+/// The name of the attribute that has the send options: its newer one, or its older one.
+pub(crate) fn send_options_name(newer: bool) -> &'static [u8]
+    ensures { result.now ≡ send_options_name newer }
 {
-    match version {
-        PostfixVersion::V3_6 | PostfixVersion::V3_7 | PostfixVersion::V3_8 | PostfixVersion::V3_9 =>
-            b"smtputf8",
-        PostfixVersion::V3_10 => b"sendopts",
-    }
+    if newer { b"sendopts" } else { b"smtputf8" }
 }
 
 /// A recipient.
@@ -86,19 +81,17 @@ fn append_of<'a>(reader: &mut AttributeReader<'a>) -> Result<AppendRequest<'a>, 
 
 /// What a request for a notice says.
 #[tactic(auto, unfolding(crate::specs::RequestReading::notice_request_at))]
-fn notice_of<'a>(
-    version: PostfixVersion,
-    reader: &mut AttributeReader<'a>,
-) -> Result<NoticeRequest<'a>, RequestFault>
+fn notice_of<'a>(reader: &mut AttributeReader<'a>) -> Result<NoticeRequest<'a>, RequestFault>
     ensures read { IfOk result
-        (λ request. notice_request_at version reader.old ≡ Ok (request, reader.new)) }
-    ensures refused { IfErr result (λ fault. notice_request_at version reader.old ≡ Err fault) }
+        (λ request. notice_request_at reader.old ≡ Ok (request, reader.new)) }
+    ensures refused { IfErr result (λ fault. notice_request_at reader.old ≡ Err fault) }
 {
     let flags = reader.number(b"flags")?;
     let queue_name = reader.queue_name()?;
     let queue_id = reader.queue_id()?;
     let encoding = reader.text(b"encoding")?;
-    let send_options = reader.number(send_options_name(version))?;
+    let names_sendopts = reader.is_sendopts_next();
+    let send_options = reader.number(send_options_name(names_sendopts))?;
     let sender = reader.text(b"sender")?;
     let envelope_id = reader.text(b"envelope_id")?;
     let returns = reader.number(b"ret_flags")?;
@@ -107,6 +100,7 @@ fn notice_of<'a>(
         queue_name,
         queue_id,
         encoding,
+        names_sendopts,
         send_options,
         sender,
         envelope_id,
@@ -117,49 +111,42 @@ fn notice_of<'a>(
 /// What follows the number of what is asked.
 #[tactic(auto, unfolding(crate::specs::RequestReading::own_request_at, crate::specs::RequestReading::append_only_at, crate::specs::RequestReading::notice_at, crate::specs::RequestReading::verp_at, crate::specs::RequestReading::one_at))]
 pub(crate) fn request_of<'a>(
-    version: PostfixVersion,
     command: u32,
     reader: &mut AttributeReader<'a>,
 ) -> Result<PostfixRequest<'a>, RequestFault>
     ensures read { IfOk result
-        (λ request. own_request_at version command reader.old ≡ Ok (request, reader.new)) }
-    ensures refused { IfErr result (λ fault. own_request_at version command reader.old ≡ Err fault) }
+        (λ request. own_request_at command reader.old ≡ Ok (request, reader.new)) }
+    ensures refused { IfErr result (λ fault. own_request_at command reader.old ≡ Err fault) }
 {
     match command {
         0 => Ok(PostfixRequest::Append(append_of(reader)?)),
-        1 => Ok(PostfixRequest::Flush(notice_of(version, reader)?)),
-        2 => Ok(PostfixRequest::Warn(notice_of(version, reader)?)),
-        3 => verp_of(version, reader),
-        4 => one_of(version, reader),
-        5 => Ok(PostfixRequest::Trace(notice_of(version, reader)?)),
+        1 => Ok(PostfixRequest::Flush(notice_of(reader)?)),
+        2 => Ok(PostfixRequest::Warn(notice_of(reader)?)),
+        3 => verp_of(reader),
+        4 => one_of(reader),
+        5 => Ok(PostfixRequest::Trace(notice_of(reader)?)),
         _ => Err(RequestFault::Command),
     }
 }
 
 /// A request for notices whose return paths have the recipients in them.
 #[tactic(auto, unfolding(crate::specs::RequestReading::verp_at))]
-fn verp_of<'a>(
-    version: PostfixVersion,
-    reader: &mut AttributeReader<'a>,
-) -> Result<PostfixRequest<'a>, RequestFault>
-    ensures read { IfOk result (λ request. verp_at version reader.old ≡ Ok (request, reader.new)) }
-    ensures refused { IfErr result (λ fault. verp_at version reader.old ≡ Err fault) }
+fn verp_of<'a>(reader: &mut AttributeReader<'a>) -> Result<PostfixRequest<'a>, RequestFault>
+    ensures read { IfOk result (λ request. verp_at reader.old ≡ Ok (request, reader.new)) }
+    ensures refused { IfErr result (λ fault. verp_at reader.old ≡ Err fault) }
 {
-    let request = notice_of(version, reader)?;
+    let request = notice_of(reader)?;
     let delimiters = reader.delimiters()?;
     Ok(PostfixRequest::Verp(request, delimiters))
 }
 
 /// A request for a notice of one recipient.
 #[tactic(auto, unfolding(crate::specs::RequestReading::one_at))]
-fn one_of<'a>(
-    version: PostfixVersion,
-    reader: &mut AttributeReader<'a>,
-) -> Result<PostfixRequest<'a>, RequestFault>
-    ensures read { IfOk result (λ request. one_at version reader.old ≡ Ok (request, reader.new)) }
-    ensures refused { IfErr result (λ fault. one_at version reader.old ≡ Err fault) }
+fn one_of<'a>(reader: &mut AttributeReader<'a>) -> Result<PostfixRequest<'a>, RequestFault>
+    ensures read { IfOk result (λ request. one_at reader.old ≡ Ok (request, reader.new)) }
+    ensures refused { IfErr result (λ fault. one_at reader.old ≡ Err fault) }
 {
-    let request = notice_of(version, reader)?;
+    let request = notice_of(reader)?;
     let recipient = recipient_of(reader)?;
     let report = report_of(reader)?;
     Ok(PostfixRequest::One(request, recipient, report))

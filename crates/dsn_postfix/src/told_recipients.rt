@@ -1,14 +1,14 @@
-//! Of which records of a log the notices of a request tell.
-ghost use Rattle.std.specs.Prelude.{◌≡◌, ◌∷◌, List, map, IfOk, OnOk};
-ghost use Rattle.std.specs.List.{list_all};
+//! Which outcomes of a log the notices of a request tell.
+ghost use Rattle.std.specs.Prelude.{◌≡◌, ◌&&◌, ◌∷◌, not, List, map, IfOk, OnOk, if◌then◌else◌};
+ghost use Rattle.std.specs.List.{list_all, list_any};
 ghost use Rattle.dsn_postfix.specs.files.LogRecord.{LoggedFields, logged_fields_in};
-ghost use Rattle.dsn_postfix.specs.NoticePlan.{has_known_action, is_known_action, is_told, told_as, told_of};
+ghost use Rattle.dsn_postfix.specs.NoticePlan.{has_known_action, is_known_action, is_same_outcome, is_wanted, told_as, told_of};
 ghost use Rattle.dsn_postfix.specs.files.QueueRecipients.{RecipientFacts, recipient_facts_in};
-ghost use Rattle.dsn_postfix.specs.RecipientSet.{HasNamed, HasPast};
+ghost use Rattle.dsn_postfix.specs.RecipientSet.{HasOutcomes, HasPast};
 
 use crate::files::{LogRecord, QueuedRecipient};
 use crate::postfix_request::PostfixRequest;
-use crate::recipient_set::{is_named_again, past_places};
+use crate::recipient_set::{Outcome, is_outcome_again, past_places};
 use dsn_text::Service;
 use std::alloc::{AllocError, Global};
 use std::collections::BTreeSet;
@@ -28,28 +28,41 @@ fn told_as<'a>(request: &PostfixRequest<'_>, found: LogRecord<'a>) -> LogRecord<
     }
 }
 
-/// Whether notices tell of a record, by the places of those who are done and by the recipients of the records after
-/// it, to which it adds its own.
+/// Whether an outcome is to be told, by the places of those who are done.
+fn is_wanted(request: &PostfixRequest<'_>, past: &BTreeSet<u64>, found: &LogRecord<'_>) -> bool
+    ensures { (service : Service) (queued : List RecipientFacts) → HasPast past.now service queued
+        → result ≡ is_wanted service request.now queued (logged_fields_in found.now) }
+{
+    request.wants(found.notify_flags as u32) && !past.contains(&found.offset)
+}
+
+/// Whether an outcome is told: it is to be told, and none of those after it is the same. It is added to them if it is to
+/// be told.
 fn is_told<'a>(
     request: &PostfixRequest<'_>,
     past: &BTreeSet<u64>,
-    seen: &mut BTreeSet<(u64, &'a [u8])>,
+    seen: &mut BTreeSet<Outcome<'a>>,
     found: &LogRecord<'a>,
 ) -> Result<bool, AllocError>
     ensures told { (service : Service) (queued : List RecipientFacts) (later : List LoggedFields)
-        → HasPast past.now service queued → HasNamed seen.old later
-        → IfOk result (λ told. told
-        ≡ is_told service request.now queued (logged_fields_in found.now) later) }
-    ensures seen { (later : List LoggedFields) → HasNamed seen.old later
-        → OnOk result (HasNamed seen.new (logged_fields_in found.now ∷ later)) }
+        → HasPast past.now service queued → HasOutcomes seen.old later
+        → IfOk result (λ told. told ≡ (is_wanted service request.now queued (logged_fields_in found.now)
+        && not (list_any (is_same_outcome (logged_fields_in found.now)) later))) }
+    ensures seen { (service : Service) (queued : List RecipientFacts) (later : List LoggedFields)
+        → HasPast past.now service queued → HasOutcomes seen.old later
+        → OnOk result (HasOutcomes seen.new
+        (if is_wanted service request.now queued (logged_fields_in found.now)
+        then logged_fields_in found.now ∷ later else later)) }
 {
-    let again = is_named_again(seen, found)?;
-    let over = past.contains(&found.offset) || again;
-    Ok(request.wants(found.notify_flags as u32) && !over)
+    if !is_wanted(request, past, found) {
+        return Ok(false);
+    }
+    let again = is_outcome_again(seen, found)?;
+    Ok(!again)
 }
 
-/// Those of a log's records that the notices of a request tell of, in their order. They are gone through from the
-/// last one on, since of a recipient that two name the last one counts.
+/// The outcomes of a log's records that the notices of a request tell, in their order. They are gone through from the last
+/// one on, since of two records of one outcome the last one is told.
 pub(crate) fn told_of<'a>(
     alloc: Global,
     service: Service,
@@ -67,10 +80,10 @@ pub(crate) fn told_of<'a>(
     let mut left = records.len();
     while left > 0 {
         left -= 1;
-        let found = &records[left];
-        let tells = is_told(request, &past, &mut seen, found)?;
+        let found = told_as(request, records[left]);
+        let tells = is_told(request, &past, &mut seen, &found)?;
         if tells {
-            told.push(told_as(request, *found))?;
+            told.push(found)?;
         }
     }
     told.reverse();

@@ -42,4 +42,11 @@ impl<'a> VerpDelimiters<'a> {
     {
         self.bytes
     }
+
+    /// The same delimiters, lent by the same bytes.
+    pub fn lent(&self) -> VerpDelimiters<'a>
+        ensures { result ≡ self.now }
+    {
+        VerpDelimiters { bytes: self.bytes }
+    }
 }

@@ -1,16 +1,18 @@
 -- The laws of answered requests: the bounce log is told first, and what is true of one request is true of each of the two.
-use Rattle.std.proofs.Common.{◌≡◌, ℕ, Bool, true, false, List, [], ◌∷◌, ◌++◌, Some, Result, Ok, Err, refl, sym, ap, subst, ◌∙◌, append-nil, inl, inr}
-use Rattle.std.specs.Prelude.{◌⊎◌, MatchBool}
+use Rattle.std.proofs.Common.{◌≡◌, ℕ, Bool, true, false, List, [], ◌∷◌, ◌++◌, Option, Some, None, Result, Ok, Err, refl, sym, ap, subst, ◌∙◌, append-nil, inl, inr}
+use Rattle.std.specs.Option.{option_map}
+use Rattle.std.specs.Prelude.{◌⊎◌, MatchOption, is_err}
 use Rattle.dsn_text.specs.declared.service.Service.{Service}
 use Rattle.dsn_text.specs.declared.service.Service.TheVariants.{Bounce, Defer, Trace as TraceLog}
 use Rattle.dsn_postfix.specs.NoticePlan.{notice_asked}
+use Rattle.dsn_postfix.specs.PostfixRequest.{IsRequestIn}
 use Rattle.dsn_postfix.specs.Wanted.{is_no_sender}
 use Rattle.dsn_postfix.specs.declared.postfix_request.AppendRequest.{AppendRequest}
 use Rattle.dsn_postfix.specs.declared.postfix_request.NoticeRequest.{NoticeRequest}
 use Rattle.dsn_postfix.specs.declared.postfix_request.PostfixRequest.{PostfixRequest}
-use Rattle.dsn_postfix.specs.declared.postfix_request.PostfixRequest.TheVariants.{Append}
+use Rattle.dsn_postfix.specs.declared.postfix_request.PostfixRequest.TheVariants.{Append, Flush, Warn, Verp, One, Trace}
 use Rattle.dsn_postfix_service.specs.declared.requests.deed_fault.DeedFault.{DeedFault}
-use Rattle.dsn_postfix_service.specs.requests.AnsweredRequest.{IsAnswered, IsBounceLogTold, IsFlushedInTurn, bounce_serial, ends_message, is_flush}
+use Rattle.dsn_postfix_service.specs.requests.AnsweredRequest.{FlushesBounceLog, IsAnswered, IsBounceLogTold, IsFlushedInTurn, bounce_flush, bounce_serial, first_flush, without_flags}
 use Rattle.dsn_postfix_service.specs.requests.AnsweredRequest as answered
 use Rattle.dsn_postfix_service.specs.requests.CarriedOut.{IsCarriedOut, flags_of, must_clean, queue_id_of}
 use Rattle.dsn_postfix_service.specs.requests.Deed.{Answer, Appended, Deed, HandedIn, LogRead, LogReleased, LogRemoved, LogSought, MarkedDone, MessageRead, PassedOn}
@@ -43,45 +45,86 @@ abbrev has_found : List Deed → Bool
 has_found [] = false
 has_found (deed ∷ deeds) = finds_log deed
 
--- the deeds of a bounce log that there is, and what follows them
-pub record FoundAndTold (settings : SettingsSaid) (request : PostfixRequest) (bytes : List ℕ) (moment serial : ℕ) (rest deeds : List Deed) : Type 0 where
-  pub first : List Deed
-  pub deeds_are : deeds ≡ first ++ rest
-  pub bounce_log : IsCarriedOut settings Bounce request bytes moment serial (Ok 0) first
+-- ---- the flush that comes first
 
-found_and_told : (settings : SettingsSaid) (request : PostfixRequest) (bytes : List ℕ) (moment serial : ℕ) (named : List ℕ) (first rest deeds : List Deed)
-    → IsBounceLogTold settings request bytes moment serial (Ok carried_out) first → first ++ rest ≡ LogSought Bounce named (Ok true) ∷ deeds → FoundAndTold settings request bytes moment serial rest deeds
-found_and_told settings request bytes moment serial named first rest deeds (answered.unsought why is a) e = absurd (not_zero (sym (status_is not_carried_out (Ok carried_out) a)))
-found_and_told settings request bytes moment serial named first rest deeds (answered.no_log is a) e =
-    absurd (true_is_false (sym (ap has_found (ap (λ (front : List Deed). front ++ rest) (sym is) ∙ e))))
-found_and_told settings request bytes moment serial named first rest deeds (answered.told more is out) e = record {
-  first = more;
-  deeds_are = sym (ap later (ap (λ (front : List Deed). front ++ rest) (sym is) ∙ e));
+none_is_some : (first : PostfixRequest) → None ≡ Some first → ⊥
+none_is_some first e = cc
+
+abbrev asked_by : Option PostfixRequest → Option NoticeRequest
+asked_by None = None
+asked_by (Some request) = notice_asked request
+
+flush_asks : (request first : PostfixRequest) (notice : NoticeRequest) → bounce_flush request ≡ Some first → notice_asked request ≡ Some notice → notice_asked first ≡ Some (without_flags notice)
+flush_asks (Append append) first notice e asked = absurd (none_is_some first e)
+flush_asks (Flush own) first notice e asked = sym (ap asked_by e) ∙ ap (option_map without_flags) asked
+flush_asks (Warn own) first notice e asked = absurd (none_is_some first e)
+flush_asks (Verp own delimiters) first notice e asked = sym (ap asked_by e) ∙ ap (option_map without_flags) asked
+flush_asks (One own recipient report) first notice e asked = absurd (none_is_some first e)
+flush_asks (Trace own) first notice e asked = absurd (none_is_some first e)
+
+first_asks : (service : Service) (request first : PostfixRequest) (notice : NoticeRequest) → first_flush service request ≡ Some first → notice_asked request ≡ Some notice → notice_asked first ≡ Some (without_flags notice)
+first_asks Bounce request first notice e asked = absurd (none_is_some first e)
+first_asks Defer request first notice e asked = flush_asks request first notice e asked
+first_asks TraceLog request first notice e asked = absurd (none_is_some first e)
+
+-- the deeds of a bounce log that there is, and what follows them
+pub record FoundAndTold (settings : SettingsSaid) (first : PostfixRequest) (moment serial : ℕ) (rest deeds : List Deed) : Type 0 where
+  pub own : List Deed
+  pub deeds_are : deeds ≡ own ++ rest
+  pub bytes : List ℕ
+  pub bytes_are : IsRequestIn bytes first
+  pub bounce_log : IsCarriedOut settings Bounce first bytes moment serial (Ok 0) own
+
+flushed_and_told : (settings : SettingsSaid) (first : PostfixRequest) (moment serial : ℕ) (more rest deeds : List Deed)
+    → FlushesBounceLog settings first moment serial (Ok carried_out) more → deeds ≡ more ++ rest → FoundAndTold settings first moment serial rest deeds
+flushed_and_told settings first moment serial more rest deeds (answered.no_memory is refused) e = absurd (false_is_true refused)
+flushed_and_told settings first moment serial more rest deeds (answered.flushed bytes are out) e = record {
+  own = more;
+  deeds_are = e;
+  bytes = bytes;
+  bytes_are = are;
   bounce_log = out;
 }
 
-told_in_turn : (settings : SettingsSaid) (request : PostfixRequest) (notice : NoticeRequest) (bytes : List ℕ) (moment serial : ℕ) (answer : RequestAnswer) (gained deeds : List Deed) (named : List ℕ)
-    → notice_asked request ≡ Some notice → IsFlushedInTurn settings Defer request bytes moment serial answer gained → answer ≡ Ok 0
-    → gained ≡ LogSought Bounce named (Ok true) ∷ deeds → IsToldFirst settings request notice bytes moment serial deeds
-told_in_turn settings request notice bytes moment serial answer gained deeds named asked (answered.put_off not_done first_told) zero e =
+found_and_told : (settings : SettingsSaid) (first : PostfixRequest) (moment serial : ℕ) (named : List ℕ) (before rest deeds : List Deed)
+    → IsBounceLogTold settings first moment serial (Ok carried_out) before → before ++ rest ≡ LogSought Bounce named (Ok true) ∷ deeds → FoundAndTold settings first moment serial rest deeds
+found_and_told settings first moment serial named before rest deeds (answered.unsought why is a) e = absurd (not_zero (sym (status_is not_carried_out (Ok carried_out) a)))
+found_and_told settings first moment serial named before rest deeds (answered.no_log is a) e =
+    absurd (true_is_false (sym (ap has_found (ap (λ (front : List Deed). front ++ rest) (sym is) ∙ e))))
+found_and_told settings first moment serial named before rest deeds (answered.told more is flushes) e =
+    flushed_and_told settings first moment serial more rest deeds flushes
+    (sym (ap later e) ∙ ap (λ (front : List Deed). later (front ++ rest)) is)
+
+told_in_turn : (settings : SettingsSaid) (first request : PostfixRequest) (notice : NoticeRequest) (bytes : List ℕ) (moment serial : ℕ) (answer : RequestAnswer) (gained deeds : List Deed) (named : List ℕ)
+    → notice_asked first ≡ Some (without_flags notice) → IsFlushedInTurn settings Defer first request bytes moment serial answer gained → answer ≡ Ok 0
+    → gained ≡ LogSought Bounce named (Ok true) ∷ deeds → IsToldFirst settings first request notice bytes moment serial deeds
+told_in_turn settings first request notice bytes moment serial answer gained deeds named asked (answered.put_off not_done first_told) zero e =
     absurd (true_is_false (ap is_carried_out (sym zero) ∙ not_done))
-told_in_turn settings request notice bytes moment serial answer gained deeds named asked (answered.in_turn first rest is first_told out) zero e =
-    let found = found_and_told settings request bytes moment (bounce_serial serial) named first rest deeds first_told (sym is ∙ e) in
+told_in_turn settings first request notice bytes moment serial answer gained deeds named asked (answered.in_turn before rest is first_told out) zero e =
+    let found = found_and_told settings first moment (bounce_serial serial) named before rest deeds first_told (sym is ∙ e) in
     record {
-      first = found.first;
+      first = found.own;
       rest = rest;
       deeds_are = found.deeds_are;
+      own_bytes = found.bytes;
+      own_bytes_are = found.bytes_are;
       bounce_log = found.bounce_log;
-      told = told_or_left settings Bounce request notice bytes moment (bounce_serial serial) (Ok 0) found.first (record { asked = asked; carried_out = found.bounce_log }) refl;
+      told = told_or_left settings Bounce first (without_flags notice) found.bytes moment (bounce_serial serial) (Ok 0) found.own (record { asked = asked; carried_out = found.bounce_log }) refl;
       defer_log = subst (λ (a : RequestAnswer). IsCarriedOut settings Defer request bytes moment serial a rest) zero out;
     }
 
-pub told_first : (settings : SettingsSaid) (request : PostfixRequest) (notice : NoticeRequest) (bytes : List ℕ) (moment serial : ℕ) (answer : RequestAnswer) (gained deeds : List Deed) (named : List ℕ)
-    → is_flush request ≡ true → notice_asked request ≡ Some notice → IsAnswered settings Defer request bytes moment serial answer gained → answer ≡ Ok 0
-    → gained ≡ LogSought Bounce named (Ok true) ∷ deeds → IsToldFirst settings request notice bytes moment serial deeds
-told_first settings request notice bytes moment serial answer gained deeds named flushes asked is zero e =
-    told_in_turn settings request notice bytes moment serial answer gained deeds named asked
-    (subst (λ (b : Bool). MatchBool b (IsFlushedInTurn settings Defer request bytes moment serial answer gained) (IsCarriedOut settings Defer request bytes moment serial answer gained)) flushes is) zero e
+-- what is answered where a flush comes first
+in_turn_if : (settings : SettingsSaid) (service : Service) (first request : PostfixRequest) (bytes : List ℕ) (moment serial : ℕ) (answer : RequestAnswer) (gained : List Deed)
+    → first_flush service request ≡ Some first → IsAnswered settings service request bytes moment serial answer gained → IsFlushedInTurn settings service first request bytes moment serial answer gained
+in_turn_if settings service first request bytes moment serial answer gained e is =
+    subst (λ (found : Option PostfixRequest). MatchOption found (IsCarriedOut settings service request bytes moment serial answer gained) (λ flush. IsFlushedInTurn settings service flush request bytes moment serial answer gained)) e is
+
+pub told_first : (settings : SettingsSaid) (first request : PostfixRequest) (notice : NoticeRequest) (bytes : List ℕ) (moment serial : ℕ) (answer : RequestAnswer) (gained deeds : List Deed) (named : List ℕ)
+    → bounce_flush request ≡ Some first → notice_asked request ≡ Some notice → IsAnswered settings Defer request bytes moment serial answer gained → answer ≡ Ok 0
+    → gained ≡ LogSought Bounce named (Ok true) ∷ deeds → IsToldFirst settings first request notice bytes moment serial deeds
+told_first settings first request notice bytes moment serial answer gained deeds named flushes asked is zero e =
+    told_in_turn settings first request notice bytes moment serial answer gained deeds named (flush_asks request first notice flushes asked)
+    (in_turn_if settings Defer first request bytes moment serial answer gained flushes is) zero e
 
 -- ---- logs that are removed
 
@@ -101,18 +144,21 @@ part_of (one ∷ first) rest [] after deed e =
 part_of (one ∷ first) rest (other ∷ before) after deed e =
     part_more one other first rest before after deed (ap (first_or one) e) (part_of first rest before after deed (ap later e))
 
-removed_by_one : (settings : SettingsSaid) (service own_service : Service) (request : PostfixRequest) (notice : NoticeRequest) (bytes : List ℕ) (moment serial own_serial : ℕ) (answer : RequestAnswer) (gained earlier own before after : List Deed) (log : Service) (id : List ℕ) (given : Answer)
-    → IsLogOf service request serial own_service own_serial → notice_asked request ≡ Some notice → IsCarriedOut settings own_service request bytes moment own_serial answer gained → before ≡ earlier ++ own → gained ≡ own ++ LogRemoved log id given ∷ after
+removed_by_one : (settings : SettingsSaid) (service own_service : Service) (request own_request : PostfixRequest) (notice own_notice : NoticeRequest) (bytes : List ℕ) (moment serial own_serial : ℕ) (answer : RequestAnswer) (gained earlier own before after : List Deed) (log : Service) (id : List ℕ) (given : Answer)
+    → IsLogOf service request notice serial own_service own_request own_notice own_serial → notice_asked own_request ≡ Some own_notice → IsCarriedOut settings own_service own_request bytes moment own_serial answer gained
+    → before ≡ earlier ++ own → gained ≡ own ++ LogRemoved log id given ∷ after
     → IsRemovedInTurn settings service request notice moment serial answer before after log id
-removed_by_one settings service own_service request notice bytes moment serial own_serial answer gained earlier own before after log id given log_is asked out before_is e =
-    let removed = removed_only_after settings own_service request notice bytes moment own_serial answer gained own after log id given (record { asked = asked; carried_out = out }) e in
+removed_by_one settings service own_service request own_request notice own_notice bytes moment serial own_serial answer gained earlier own before after log id given log_is asked out before_is e =
+    let removed = removed_only_after settings own_service own_request own_notice bytes moment own_serial answer gained own after log id given (record { asked = asked; carried_out = out }) e in
     record {
       earlier = earlier;
       own = own;
       before_is = before_is;
+      own_request = own_request;
+      own_notice = own_notice;
       own_serial = own_serial;
-      log_is = subst (λ (of : Service). IsLogOf service request serial of own_serial) (sym removed.of_service) log_is;
-      removed = subst (λ (of : Service). IsRemovedAfter settings of request notice moment own_serial answer own after log id) (sym removed.of_service) removed;
+      log_is = subst (λ (of : Service). IsLogOf service request notice serial of own_request own_notice own_serial) (sym removed.of_service) log_is;
+      removed = subst (λ (of : Service). IsRemovedAfter settings of own_request own_notice moment own_serial answer own after log id) (sym removed.of_service) removed;
     }
 
 -- a request that is answered 0 removes nothing for CLEAN, so what is done after a removal is free
@@ -127,61 +173,79 @@ later_too settings service request notice moment serial answer before more after
   earlier = in_turn.earlier;
   own = in_turn.own;
   before_is = in_turn.before_is;
+  own_request = in_turn.own_request;
+  own_notice = in_turn.own_notice;
   own_serial = in_turn.own_serial;
   log_is = in_turn.log_is;
   removed = record {
     of_service = in_turn.removed.of_service;
     of_message = in_turn.removed.of_message;
-    told = inl (told_before settings log request notice moment in_turn.own_serial in_turn.own more in_turn.removed.told);
+    told = inl (told_before settings log in_turn.own_request in_turn.own_notice moment in_turn.own_serial in_turn.own more in_turn.removed.told);
   };
 }
 
-removed_from_bounce_log : (settings : SettingsSaid) (service : Service) (request : PostfixRequest) (notice : NoticeRequest) (bytes : List ℕ) (moment serial : ℕ) (answer : RequestAnswer) (gained before after : List Deed) (log : Service) (id : List ℕ) (given : Answer)
-    → ends_message service request ≡ true → notice_asked request ≡ Some notice → IsBounceLogTold settings request bytes moment (bounce_serial serial) answer gained → gained ≡ before ++ LogRemoved log id given ∷ after
+-- nothing is removed by looking for the bounce log alone
+removed_by_looking : (settings : SettingsSaid) (service : Service) (request : PostfixRequest) (notice : NoticeRequest) (moment serial : ℕ) (answer : RequestAnswer) (id named : List ℕ) (found : Result Bool DeedFault) (gained before after : List Deed) (log : Service) (given : Answer)
+    → gained ≡ LogSought Bounce named found ∷ [] → gained ≡ before ++ LogRemoved log id given ∷ after → IsRemovedInTurn settings service request notice moment serial answer before after log id
+removed_by_looking settings service request notice moment serial answer id named found gained before after log given is e =
+    let past = past_block (LogSought Bounce named found ∷ []) [] before after (LogRemoved log id given) (refl, tt) refl (sym is ∙ e) in
+    absurd (nothing_after past.more after (LogRemoved log id given) past.rest_is)
+
+removed_by_flush : (settings : SettingsSaid) (service : Service) (first request : PostfixRequest) (notice : NoticeRequest) (moment serial : ℕ) (answer : RequestAnswer) (own gained before after : List Deed) (log : Service) (id : List ℕ) (given : Answer)
+    → first_flush service request ≡ Some first → notice_asked request ≡ Some notice → FlushesBounceLog settings first moment (bounce_serial serial) answer own
+    → gained ≡ LogSought Bounce (queue_id_of first) (Ok true) ∷ own → gained ≡ before ++ LogRemoved log id given ∷ after
     → IsRemovedInTurn settings service request notice moment serial answer before after log id
-removed_from_bounce_log settings service request notice bytes moment serial answer gained before after log id given ends asked (answered.unsought why is a) e =
-    let past = past_block (LogSought Bounce (queue_id_of request) (Err why) ∷ []) [] before after (LogRemoved log id given) (refl, tt) refl (sym is ∙ e) in
-    absurd (nothing_after past.more after (LogRemoved log id given) past.rest_is)
-removed_from_bounce_log settings service request notice bytes moment serial answer gained before after log id given ends asked (answered.no_log is a) e =
-    let past = past_block (LogSought Bounce (queue_id_of request) (Ok false) ∷ []) [] before after (LogRemoved log id given) (refl, tt) refl (sym is ∙ e) in
-    absurd (nothing_after past.more after (LogRemoved log id given) past.rest_is)
-removed_from_bounce_log settings service request notice bytes moment serial answer gained before after log id given ends asked (answered.told own is out) e =
-    let sought = LogSought Bounce (queue_id_of request) (Ok true) ∷ [] in
+removed_by_flush settings service first request notice moment serial answer own gained before after log id given first_is asked (answered.no_memory none refused) is e =
+    removed_by_looking settings service request notice moment serial answer id (queue_id_of first) (Ok true) gained before after log given
+    (is ∙ ap (λ (deeds : List Deed). LogSought Bounce (queue_id_of first) (Ok true) ∷ deeds) none) e
+removed_by_flush settings service first request notice moment serial answer own gained before after log id given first_is asked (answered.flushed bytes are out) is e =
+    let sought = LogSought Bounce (queue_id_of first) (Ok true) ∷ [] in
     let past = past_block sought own before after (LogRemoved log id given) (refl, tt) refl (sym is ∙ e) in
-    removed_by_one settings service Bounce request notice bytes moment serial (bounce_serial serial) answer own sought past.more before after log id given (law.bounce_log ends refl refl) asked out past.before_is past.rest_is
+    removed_by_one settings service Bounce request first notice (without_flags notice) bytes moment serial (bounce_serial serial) answer own sought past.more before after log id given
+    (law.bounce_log refl first_is refl refl) (first_asks service request first notice first_is asked) out past.before_is past.rest_is
 
-removed_from_part : (settings : SettingsSaid) (service : Service) (request : PostfixRequest) (notice : NoticeRequest) (bytes : List ℕ) (moment serial : ℕ) (answer : RequestAnswer) (first rest before after : List Deed) (log : Service) (id : List ℕ) (given : Answer)
-    → ends_message service request ≡ true → notice_asked request ≡ Some notice → IsBounceLogTold settings request bytes moment (bounce_serial serial) (Ok carried_out) first → IsCarriedOut settings service request bytes moment serial answer rest
-    → InPart first rest before after (LogRemoved log id given) → IsRemovedInTurn settings service request notice moment serial answer before after log id
-removed_from_part settings service request notice bytes moment serial answer first rest before after log id given ends asked first_told out (in_first more is after_is) =
-    later_too settings service request notice moment serial answer before more after log id
-    (removed_from_bounce_log settings service request notice bytes moment serial (Ok carried_out) first before more log id given ends asked first_told is)
-removed_from_part settings service request notice bytes moment serial answer first rest before after log id given ends asked first_told out (in_rest more is rest_is) =
-    removed_by_one settings service service request notice bytes moment serial serial answer rest first more before after log id given (law.own_log refl refl) asked out is rest_is
-
-removed_in_flush : (settings : SettingsSaid) (service : Service) (request : PostfixRequest) (notice : NoticeRequest) (bytes : List ℕ) (moment serial : ℕ) (answer : RequestAnswer) (gained before after : List Deed) (log : Service) (id : List ℕ) (given : Answer)
-    → ends_message service request ≡ true → notice_asked request ≡ Some notice → IsFlushedInTurn settings service request bytes moment serial answer gained → gained ≡ before ++ LogRemoved log id given ∷ after
+removed_from_bounce_log : (settings : SettingsSaid) (service : Service) (first request : PostfixRequest) (notice : NoticeRequest) (moment serial : ℕ) (answer : RequestAnswer) (gained before after : List Deed) (log : Service) (id : List ℕ) (given : Answer)
+    → first_flush service request ≡ Some first → notice_asked request ≡ Some notice → IsBounceLogTold settings first moment (bounce_serial serial) answer gained → gained ≡ before ++ LogRemoved log id given ∷ after
     → IsRemovedInTurn settings service request notice moment serial answer before after log id
-removed_in_flush settings service request notice bytes moment serial answer gained before after log id given ends asked (answered.put_off not_done first_told) e =
-    removed_from_bounce_log settings service request notice bytes moment serial answer gained before after log id given ends asked first_told e
-removed_in_flush settings service request notice bytes moment serial answer gained before after log id given ends asked (answered.in_turn first rest is first_told out) e =
-    removed_from_part settings service request notice bytes moment serial answer first rest before after log id given ends asked first_told out
-    (part_of first rest before after (LogRemoved log id given) (sym is ∙ e))
+removed_from_bounce_log settings service first request notice moment serial answer gained before after log id given first_is asked (answered.unsought why is a) e =
+    removed_by_looking settings service request notice moment serial answer id (queue_id_of first) (Err why) gained before after log given is e
+removed_from_bounce_log settings service first request notice moment serial answer gained before after log id given first_is asked (answered.no_log is a) e =
+    removed_by_looking settings service request notice moment serial answer id (queue_id_of first) (Ok false) gained before after log given is e
+removed_from_bounce_log settings service first request notice moment serial answer gained before after log id given first_is asked (answered.told own is flushes) e =
+    removed_by_flush settings service first request notice moment serial answer own gained before after log id given first_is asked flushes is e
 
-removed_if : (ends : Bool) (settings : SettingsSaid) (service : Service) (request : PostfixRequest) (notice : NoticeRequest) (bytes : List ℕ) (moment serial : ℕ) (answer : RequestAnswer) (gained before after : List Deed) (log : Service) (id : List ℕ) (given : Answer)
-    → ends_message service request ≡ ends → notice_asked request ≡ Some notice
-    → MatchBool ends (IsFlushedInTurn settings service request bytes moment serial answer gained) (IsCarriedOut settings service request bytes moment serial answer gained)
+removed_from_part : (settings : SettingsSaid) (service : Service) (first request : PostfixRequest) (notice : NoticeRequest) (bytes : List ℕ) (moment serial : ℕ) (answer : RequestAnswer) (front rest before after : List Deed) (log : Service) (id : List ℕ) (given : Answer)
+    → first_flush service request ≡ Some first → notice_asked request ≡ Some notice → IsBounceLogTold settings first moment (bounce_serial serial) (Ok carried_out) front → IsCarriedOut settings service request bytes moment serial answer rest
+    → InPart front rest before after (LogRemoved log id given) → IsRemovedInTurn settings service request notice moment serial answer before after log id
+removed_from_part settings service first request notice bytes moment serial answer front rest before after log id given first_is asked first_told out (in_first more is after_is) =
+    later_too settings service request notice moment serial answer before more after log id
+    (removed_from_bounce_log settings service first request notice moment serial (Ok carried_out) front before more log id given first_is asked first_told is)
+removed_from_part settings service first request notice bytes moment serial answer front rest before after log id given first_is asked first_told out (in_rest more is rest_is) =
+    removed_by_one settings service service request request notice notice bytes moment serial serial answer rest front more before after log id given (law.own_log refl refl refl refl) asked out is rest_is
+
+removed_in_flush : (settings : SettingsSaid) (service : Service) (first request : PostfixRequest) (notice : NoticeRequest) (bytes : List ℕ) (moment serial : ℕ) (answer : RequestAnswer) (gained before after : List Deed) (log : Service) (id : List ℕ) (given : Answer)
+    → first_flush service request ≡ Some first → notice_asked request ≡ Some notice → IsFlushedInTurn settings service first request bytes moment serial answer gained → gained ≡ before ++ LogRemoved log id given ∷ after
+    → IsRemovedInTurn settings service request notice moment serial answer before after log id
+removed_in_flush settings service first request notice bytes moment serial answer gained before after log id given first_is asked (answered.put_off not_done first_told) e =
+    removed_from_bounce_log settings service first request notice moment serial answer gained before after log id given first_is asked first_told e
+removed_in_flush settings service first request notice bytes moment serial answer gained before after log id given first_is asked (answered.in_turn front rest is first_told out) e =
+    removed_from_part settings service first request notice bytes moment serial answer front rest before after log id given first_is asked first_told out
+    (part_of front rest before after (LogRemoved log id given) (sym is ∙ e))
+
+removed_if : (found : Option PostfixRequest) (settings : SettingsSaid) (service : Service) (request : PostfixRequest) (notice : NoticeRequest) (bytes : List ℕ) (moment serial : ℕ) (answer : RequestAnswer) (gained before after : List Deed) (log : Service) (id : List ℕ) (given : Answer)
+    → first_flush service request ≡ found → notice_asked request ≡ Some notice
+    → MatchOption found (IsCarriedOut settings service request bytes moment serial answer gained) (λ first. IsFlushedInTurn settings service first request bytes moment serial answer gained)
     → gained ≡ before ++ LogRemoved log id given ∷ after → IsRemovedInTurn settings service request notice moment serial answer before after log id
-removed_if true settings service request notice bytes moment serial answer gained before after log id given ends asked is e =
-    removed_in_flush settings service request notice bytes moment serial answer gained before after log id given ends asked is e
-removed_if false settings service request notice bytes moment serial answer gained before after log id given ends asked is e =
-    removed_by_one settings service service request notice bytes moment serial serial answer gained [] before before after log id given (law.own_log refl refl) asked is refl e
+removed_if (Some first) settings service request notice bytes moment serial answer gained before after log id given first_is asked is e =
+    removed_in_flush settings service first request notice bytes moment serial answer gained before after log id given first_is asked is e
+removed_if None settings service request notice bytes moment serial answer gained before after log id given first_is asked is e =
+    removed_by_one settings service service request request notice notice bytes moment serial serial answer gained [] before before after log id given (law.own_log refl refl refl refl) asked is refl e
 
 pub answered_removal : (settings : SettingsSaid) (service : Service) (request : PostfixRequest) (notice : NoticeRequest) (bytes : List ℕ) (moment serial : ℕ) (answer : RequestAnswer) (gained before after : List Deed) (log : Service) (id : List ℕ) (given : Answer)
     → notice_asked request ≡ Some notice → IsAnswered settings service request bytes moment serial answer gained → gained ≡ before ++ LogRemoved log id given ∷ after
     → IsRemovedInTurn settings service request notice moment serial answer before after log id
 answered_removal settings service request notice bytes moment serial answer gained before after log id given asked is e =
-    removed_if (ends_message service request) settings service request notice bytes moment serial answer gained before after log id given refl asked is e
+    removed_if (first_flush service request) settings service request notice bytes moment serial answer gained before after log id given refl asked is e
 
 -- ---- what is handed in
 
@@ -189,41 +253,47 @@ hands_in_own : (settings : SettingsSaid) (service : Service) (request : PostfixR
     → notice_asked request ≡ Some notice → IsCarriedOut settings service request bytes moment serial answer gained → (hand_ins gained ≡ []) ⊎ HandsInOnce settings service request notice moment serial gained
 hands_in_own settings service request notice bytes moment serial answer gained asked out = handed_in_once settings service request notice bytes moment serial answer gained (record { asked = asked; carried_out = out })
 
-after_sought : (settings : SettingsSaid) (request : PostfixRequest) (notice : NoticeRequest) (moment serial : ℕ) (gained own : List Deed) → gained ≡ LogSought Bounce (queue_id_of request) (Ok true) ∷ own
-    → (hand_ins own ≡ []) ⊎ HandsInOnce settings Bounce request notice moment (bounce_serial serial) own → (hand_ins gained ≡ []) ⊎ HandsInOfBounceLog settings request notice moment serial gained
-after_sought settings request notice moment serial gained own is (inl none) = inl (ap hand_ins is ∙ none)
-after_sought settings request notice moment serial gained own is (inr once) = inr (record { own = own; gained_are = is; once = once })
+after_sought : (settings : SettingsSaid) (service : Service) (first request : PostfixRequest) (notice : NoticeRequest) (moment serial : ℕ) (gained own : List Deed) → first_flush service request ≡ Some first → gained ≡ LogSought Bounce (queue_id_of first) (Ok true) ∷ own
+    → (hand_ins own ≡ []) ⊎ HandsInOnce settings Bounce first (without_flags notice) moment (bounce_serial serial) own → (hand_ins gained ≡ []) ⊎ HandsInOfBounceLog settings service request notice moment serial gained
+after_sought settings service first request notice moment serial gained own first_is is (inl none) = inl (ap hand_ins is ∙ none)
+after_sought settings service first request notice moment serial gained own first_is is (inr once) = inr (record { first = first; first_is = first_is; own = own; gained_are = is; once = once })
 
-bounce_log_hands_in : (settings : SettingsSaid) (request : PostfixRequest) (notice : NoticeRequest) (bytes : List ℕ) (moment serial : ℕ) (answer : RequestAnswer) (gained : List Deed)
-    → notice_asked request ≡ Some notice → IsBounceLogTold settings request bytes moment (bounce_serial serial) answer gained → (hand_ins gained ≡ []) ⊎ HandsInOfBounceLog settings request notice moment serial gained
-bounce_log_hands_in settings request notice bytes moment serial answer gained asked (answered.unsought why is a) = inl (ap hand_ins is)
-bounce_log_hands_in settings request notice bytes moment serial answer gained asked (answered.no_log is a) = inl (ap hand_ins is)
-bounce_log_hands_in settings request notice bytes moment serial answer gained asked (answered.told own is out) =
-    after_sought settings request notice moment serial gained own is (hands_in_own settings Bounce request notice bytes moment (bounce_serial serial) answer own asked out)
+flush_of_bounces_hands_in : (settings : SettingsSaid) (first : PostfixRequest) (notice : NoticeRequest) (moment serial : ℕ) (answer : RequestAnswer) (own : List Deed)
+    → notice_asked first ≡ Some notice → FlushesBounceLog settings first moment serial answer own → (hand_ins own ≡ []) ⊎ HandsInOnce settings Bounce first notice moment serial own
+flush_of_bounces_hands_in settings first notice moment serial answer own asked (answered.no_memory none refused) = inl (ap hand_ins none)
+flush_of_bounces_hands_in settings first notice moment serial answer own asked (answered.flushed bytes are out) = hands_in_own settings Bounce first notice bytes moment serial answer own asked out
 
-flush_hands_in : (settings : SettingsSaid) (service : Service) (request : PostfixRequest) (notice : NoticeRequest) (bytes : List ℕ) (moment serial : ℕ) (answer : RequestAnswer) (gained : List Deed)
-    → notice_asked request ≡ Some notice → IsFlushedInTurn settings service request bytes moment serial answer gained → HandsInInTurn settings service request notice moment serial gained
-flush_hands_in settings service request notice bytes moment serial answer gained asked (answered.put_off not_done first_told) = record {
+bounce_log_hands_in : (settings : SettingsSaid) (service : Service) (first request : PostfixRequest) (notice : NoticeRequest) (moment serial : ℕ) (answer : RequestAnswer) (gained : List Deed)
+    → first_flush service request ≡ Some first → notice_asked request ≡ Some notice → IsBounceLogTold settings first moment (bounce_serial serial) answer gained → (hand_ins gained ≡ []) ⊎ HandsInOfBounceLog settings service request notice moment serial gained
+bounce_log_hands_in settings service first request notice moment serial answer gained first_is asked (answered.unsought why is a) = inl (ap hand_ins is)
+bounce_log_hands_in settings service first request notice moment serial answer gained first_is asked (answered.no_log is a) = inl (ap hand_ins is)
+bounce_log_hands_in settings service first request notice moment serial answer gained first_is asked (answered.told own is flushes) =
+    after_sought settings service first request notice moment serial gained own first_is is
+    (flush_of_bounces_hands_in settings first (without_flags notice) moment (bounce_serial serial) answer own (first_asks service request first notice first_is asked) flushes)
+
+flush_hands_in : (settings : SettingsSaid) (service : Service) (first request : PostfixRequest) (notice : NoticeRequest) (bytes : List ℕ) (moment serial : ℕ) (answer : RequestAnswer) (gained : List Deed)
+    → first_flush service request ≡ Some first → notice_asked request ≡ Some notice → IsFlushedInTurn settings service first request bytes moment serial answer gained → HandsInInTurn settings service request notice moment serial gained
+flush_hands_in settings service first request notice bytes moment serial answer gained first_is asked (answered.put_off not_done first_told) = record {
   first = gained;
   rest = [];
   gained_are = sym (append-nil gained);
-  of_bounce_log = bounce_log_hands_in settings request notice bytes moment serial answer gained asked first_told;
+  of_bounce_log = bounce_log_hands_in settings service first request notice moment serial answer gained first_is asked first_told;
   of_own_log = inl refl;
 }
-flush_hands_in settings service request notice bytes moment serial answer gained asked (answered.in_turn first rest is first_told out) = record {
-  first = first;
+flush_hands_in settings service first request notice bytes moment serial answer gained first_is asked (answered.in_turn front rest is first_told out) = record {
+  first = front;
   rest = rest;
   gained_are = is;
-  of_bounce_log = bounce_log_hands_in settings request notice bytes moment serial (Ok carried_out) first asked first_told;
+  of_bounce_log = bounce_log_hands_in settings service first request notice moment serial (Ok carried_out) front first_is asked first_told;
   of_own_log = hands_in_own settings service request notice bytes moment serial answer rest asked out;
 }
 
-hands_in_if : (ends : Bool) (settings : SettingsSaid) (service : Service) (request : PostfixRequest) (notice : NoticeRequest) (bytes : List ℕ) (moment serial : ℕ) (answer : RequestAnswer) (gained : List Deed)
-    → notice_asked request ≡ Some notice
-    → MatchBool ends (IsFlushedInTurn settings service request bytes moment serial answer gained) (IsCarriedOut settings service request bytes moment serial answer gained)
+hands_in_if : (found : Option PostfixRequest) (settings : SettingsSaid) (service : Service) (request : PostfixRequest) (notice : NoticeRequest) (bytes : List ℕ) (moment serial : ℕ) (answer : RequestAnswer) (gained : List Deed)
+    → first_flush service request ≡ found → notice_asked request ≡ Some notice
+    → MatchOption found (IsCarriedOut settings service request bytes moment serial answer gained) (λ first. IsFlushedInTurn settings service first request bytes moment serial answer gained)
     → HandsInInTurn settings service request notice moment serial gained
-hands_in_if true settings service request notice bytes moment serial answer gained asked is = flush_hands_in settings service request notice bytes moment serial answer gained asked is
-hands_in_if false settings service request notice bytes moment serial answer gained asked is = record {
+hands_in_if (Some first) settings service request notice bytes moment serial answer gained first_is asked is = flush_hands_in settings service first request notice bytes moment serial answer gained first_is asked is
+hands_in_if None settings service request notice bytes moment serial answer gained first_is asked is = record {
   first = [];
   rest = gained;
   gained_are = refl;
@@ -234,20 +304,21 @@ hands_in_if false settings service request notice bytes moment serial answer gai
 pub answered_hand_ins : (settings : SettingsSaid) (service : Service) (request : PostfixRequest) (notice : NoticeRequest) (bytes : List ℕ) (moment serial : ℕ) (answer : RequestAnswer) (gained : List Deed)
     → notice_asked request ≡ Some notice → IsAnswered settings service request bytes moment serial answer gained → HandsInInTurn settings service request notice moment serial gained
 answered_hand_ins settings service request notice bytes moment serial answer gained asked is =
-    hands_in_if (ends_message service request) settings service request notice bytes moment serial answer gained asked is
+    hands_in_if (first_flush service request) settings service request notice bytes moment serial answer gained refl asked is
 
-none_of_bounce_log : (settings : SettingsSaid) (request : PostfixRequest) (notice : NoticeRequest) (moment serial : ℕ) (gained : List Deed) → notice_asked request ≡ Some notice → is_no_sender settings.double_bounce notice.sender ≡ true
-    → (hand_ins gained ≡ []) ⊎ HandsInOfBounceLog settings request notice moment serial gained → hand_ins gained ≡ []
-none_of_bounce_log settings request notice moment serial gained asked none (inl is) = is
-none_of_bounce_log settings request notice moment serial gained asked none (inr found) =
-    ap hand_ins found.gained_are ∙ none_once settings Bounce request notice moment (bounce_serial serial) found.own asked none (inr found.once)
+none_of_bounce_log : (settings : SettingsSaid) (service : Service) (request : PostfixRequest) (notice : NoticeRequest) (moment serial : ℕ) (gained : List Deed) → notice_asked request ≡ Some notice → is_no_sender settings.double_bounce notice.sender ≡ true
+    → (hand_ins gained ≡ []) ⊎ HandsInOfBounceLog settings service request notice moment serial gained → hand_ins gained ≡ []
+none_of_bounce_log settings service request notice moment serial gained asked none (inl is) = is
+none_of_bounce_log settings service request notice moment serial gained asked none (inr found) =
+    ap hand_ins found.gained_are
+    ∙ none_once settings Bounce found.first (without_flags notice) moment (bounce_serial serial) found.own (first_asks service request found.first notice found.first_is asked) none (inr found.once)
 
 pub answered_to_nobody : (settings : SettingsSaid) (service : Service) (request : PostfixRequest) (notice : NoticeRequest) (bytes : List ℕ) (moment serial : ℕ) (answer : RequestAnswer) (gained : List Deed)
     → notice_asked request ≡ Some notice → IsAnswered settings service request bytes moment serial answer gained → is_no_sender settings.double_bounce notice.sender ≡ true → hand_ins gained ≡ []
 answered_to_nobody settings service request notice bytes moment serial answer gained asked is none =
     let handed = answered_hand_ins settings service request notice bytes moment serial answer gained asked is in
     ap hand_ins handed.gained_are
-    ∙ none_of_both handed.first handed.rest (none_of_bounce_log settings request notice moment serial handed.first asked none handed.of_bounce_log)
+    ∙ none_of_both handed.first handed.rest (none_of_bounce_log settings service request notice moment serial handed.first asked none handed.of_bounce_log)
     (none_once settings service request notice moment serial handed.rest asked none handed.of_own_log)
 
 -- ---- appends

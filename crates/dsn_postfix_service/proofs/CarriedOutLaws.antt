@@ -282,7 +282,7 @@ none_once settings service request notice moment serial gained asked none (inl i
 none_once settings service request notice moment serial gained asked none (inr once) =
     let letters = once.asked in
     let no_notices : letters.notices ≡ [] = sym (same_notices [] letters.notices _ (no_sender_plan settings.double_bounce service request notice _ once.found.log asked none) letters.planned) in
-    let no_letters : once.letters ≡ [] = subst (λ (ns : List NoticeFacts). AreLettersOf (message_said settings.lifetime notice letters.records) moment serial ns once.letters) no_notices letters.each in
+    let no_letters : once.letters ≡ [] = subst (λ (ns : List NoticeFacts). AreLettersOf (message_said settings notice letters.records) moment serial ns once.letters) no_notices letters.each in
     let no_front : once.front ≡ [] = empty_front once.front once.rest (sym no_letters ∙ once.letters_are) in
     subst (λ (ls : List Letter). AreHandedIn settings.host ls (hand_ins gained)) no_front once.each
 
@@ -346,7 +346,7 @@ end_told : (settings : SettingsSaid) (service : Service) (request : PostfixReque
     → ToldSo settings service request notice moment serial telling front told → EndsTelling service bytes telling answer last → answer ≡ Ok 0
     → AreAllTold settings service request notice moment serial front ⊎ (LeftOver settings service request notice moment serial told × (last ≡ PassedOn service bytes (Ok 0) ∷ []))
 end_told settings service request notice bytes moment serial answer Told front told last so ends zero = inl so
-end_told settings service request notice bytes moment serial answer Unsayable front told last so passes zero =
+end_told settings service request notice bytes moment serial answer (Unsayable why) front told last so passes zero =
     inr (so, passed_with_zero service bytes last passes.given passes.passed (status_is 0 (Ok (status_passed_on passes.given)) (sym passes.answer_is ∙ zero)))
 end_told settings service request notice bytes moment serial answer RefusedForGood front told last so passes zero =
     inr (so, passed_with_zero service bytes last passes.given passes.passed (status_is 0 (Ok (status_passed_on passes.given)) (sym passes.answer_is ∙ zero)))

@@ -13,7 +13,7 @@ use Rattle.dsn_postfix.specs.declared.postfix_request.NoticeRequest.{NoticeReque
 use Rattle.dsn_postfix.specs.declared.postfix_request.PostfixRequest.{PostfixRequest}
 use Rattle.dsn_postfix_service.specs.declared.hand_in.hand_in_fault.HandInFault.{HandInFault}
 use Rattle.dsn_postfix_service.specs.declared.requests.deed_fault.DeedFault.{DeedFault}
-use Rattle.dsn_postfix_service.specs.requests.AnsweredRequest.{bounce_serial, IsBounceLogTold, IsFlushedInTurn, in_turn, told}
+use Rattle.dsn_postfix_service.specs.requests.AnsweredRequest.{bounce_serial, FlushesBounceLog, IsBounceLogTold, IsFlushedInTurn, in_turn, told}
 use Rattle.dsn_postfix_service.specs.requests.AppendDeeds.{IsAppended, record_bytes, tried}
 use Rattle.dsn_postfix_service.specs.requests.CarriedOut.{IsCarriedOut, queue_id_of}
 use Rattle.dsn_postfix_service.specs.requests.Deed.{Answer, Appended, Deed, HandedIn, LogReleased, LogSought, MessageRead}
@@ -41,6 +41,13 @@ Are = List Deed → Type 0
 with_both : (done : Option (List Deed)) (one two : List Deed) → with_deeds (with_deeds done one) two ≡ with_deeds done (one ++ two)
 with_both None one two = refl
 with_both (Some done) one two = ap (λ (deeds : List Deed). Some deeds) (append_assoc done one two)
+
+with_none : (done : Option (List Deed)) → done ≡ with_deeds done []
+with_none None = refl
+with_none (Some done) = ap (λ (deeds : List Deed). Some deeds) (sym (append-nil done))
+
+pub gains_none : {S : Type 0} → (deeds : S → Option (List Deed)) (old : S) (P : Are) → P [] → Gains deeds old old P
+gains_none deeds old P are = record { gained = []; after = with_none (deeds old); are = are }
 
 pub gains_one : {S : Type 0} → (deeds : S → Option (List Deed)) (old new : S) (deed : Deed) (P : Are) → deeds new ≡ with_deeds (deeds old) (deed ∷ []) → P (deed ∷ []) → Gains deeds old new P
 gains_one deeds old new deed P after are = record { gained = deed ∷ []; after = after; are = are }
@@ -258,12 +265,12 @@ notified deeds old between released new settings service request notice bytes mo
 
 -- ---- the bounce log, and then another
 
-pub bounce_log_told : {S : Type 0} → (deeds : S → Option (List Deed)) (old between new : S) (settings : SettingsSaid) (request : PostfixRequest) (bytes : List ℕ) (moment serial : ℕ) (answer : RequestAnswer) (id : List ℕ) (found : Bool)
-    → id ≡ queue_id_of request → found ≡ true → deeds between ≡ with_deeds (deeds old) (LogSought Bounce id (Ok found) ∷ []) → Gains deeds between new (IsCarriedOut settings Bounce request bytes moment serial answer)
-    → Gains deeds old new (IsBounceLogTold settings request bytes moment serial answer)
-bounce_log_told deeds old between new settings request bytes moment serial answer id found named is first last = record {
-  gained = LogSought Bounce (queue_id_of request) (Ok true) ∷ last.gained;
-  after = after_both deeds old between new (LogSought Bounce (queue_id_of request) (Ok true) ∷ []) last.gained
+pub bounce_log_told : {S : Type 0} → (deeds : S → Option (List Deed)) (old between new : S) (settings : SettingsSaid) (flush : PostfixRequest) (moment serial : ℕ) (answer : RequestAnswer) (id : List ℕ) (found : Bool)
+    → id ≡ queue_id_of flush → found ≡ true → deeds between ≡ with_deeds (deeds old) (LogSought Bounce id (Ok found) ∷ []) → Gains deeds between new (FlushesBounceLog settings flush moment serial answer)
+    → Gains deeds old new (IsBounceLogTold settings flush moment serial answer)
+bounce_log_told deeds old between new settings flush moment serial answer id found named is first last = record {
+  gained = LogSought Bounce (queue_id_of flush) (Ok true) ∷ last.gained;
+  after = after_both deeds old between new (LogSought Bounce (queue_id_of flush) (Ok true) ∷ []) last.gained
       (first ∙ (λ i. with_deeds (deeds old) (LogSought Bounce (named i) (Ok (is i)) ∷ []))) last.after;
   are = told last.gained refl last.are;
 }
@@ -275,9 +282,9 @@ pub carried_out_is : (answer : RequestAnswer) → is_carried_out answer ≡ true
 carried_out_is (Ok status) e = ap (λ (n : ℕ). Ok n) (zero_is status e)
 carried_out_is (Err why) e = absurd (false_not_true e)
 
-pub flushed_in_turn : {S : Type 0} → (deeds : S → Option (List Deed)) (old between new : S) (settings : SettingsSaid) (service : Service) (request : PostfixRequest) (bytes : List ℕ) (moment serial : ℕ) (before answer : RequestAnswer)
-    → is_carried_out before ≡ true → Gains deeds old between (IsBounceLogTold settings request bytes moment (bounce_serial serial) before) → Gains deeds between new (IsCarriedOut settings service request bytes moment serial answer)
-    → Gains deeds old new (IsFlushedInTurn settings service request bytes moment serial answer)
-flushed_in_turn deeds old between new settings service request bytes moment serial before answer done first last =
+pub flushed_in_turn : {S : Type 0} → (deeds : S → Option (List Deed)) (old between new : S) (settings : SettingsSaid) (service : Service) (flush request : PostfixRequest) (bytes : List ℕ) (moment serial : ℕ) (before answer : RequestAnswer)
+    → is_carried_out before ≡ true → Gains deeds old between (IsBounceLogTold settings flush moment (bounce_serial serial) before) → Gains deeds between new (IsCarriedOut settings service request bytes moment serial answer)
+    → Gains deeds old new (IsFlushedInTurn settings service flush request bytes moment serial answer)
+flushed_in_turn deeds old between new settings service flush request bytes moment serial before answer done first last =
     gains_more deeds old between new _ _ _ first last
-    (λ one two told out. in_turn one two refl (subst (λ (a : RequestAnswer). IsBounceLogTold settings request bytes moment (bounce_serial serial) a one) (carried_out_is before done) told) out)
+    (λ one two told out. in_turn one two refl (subst (λ (a : RequestAnswer). IsBounceLogTold settings flush moment (bounce_serial serial) a one) (carried_out_is before done) told) out)

@@ -10,7 +10,7 @@ use Rattle.dsn_postfix.specs.files.LogRecord.{LoggedFields}
 use Rattle.dsn_postfix_service.specs.declared.letters.letter_fault.LetterFault.TheVariants.{Outcome, RemoteType}
 use Rattle.dsn_postfix_service.specs.letters.NoticeDraft.{is_returned_whole, postfix_fields, returned_text, tried_until}
 use Rattle.dsn_postfix_service.specs.letters.PlainStatus.{plain_status}
-use Rattle.dsn_postfix_service.specs.letters.ToldOutcome.{diagnostic_said, fields_told, first_told_fault, original_said}
+use Rattle.dsn_postfix_service.specs.letters.ToldOutcome.{diagnostic_said, fields_told, first_told_fault, original_said, unless_final}
 
 -- ---- statuses
 
@@ -115,6 +115,53 @@ original_without_type = refl
 original_of_x400 : original_said (codes "x400;/C=US/O=Acme/") [] ≡ record { kind = codes "x400"; text = codes "/C=US/O=Acme/" }
 original_of_x400 = refl
 
+-- smtpd(8) writes the address of RCPT down as if it had come with ORCPT: a notice says it of a recipient that was rewritten
+said_as_final : fields_told None (record {
+  recipient = codes "bob@example.org";
+  original_recipient = [];
+  offset = 727;
+  dsn_original = codes "rfc822;bob@example.org";
+  notify_flags = 0;
+  status = codes "5.1.1";
+  action = codes "failed";
+  diagnostic_type = [];
+  diagnostic_text = [];
+  mta_type = [];
+  mta_name = [];
+  reason = codes "no";
+}) ≡ record {
+  recipient = codes "bob@example.org";
+  recipient_type = [];
+  original = [];
+  original_type = [];
+  action = 1;
+  status = codes "5.1.1";
+  mta = [];
+  diagnostic = codes "no";
+  diagnostic_type = codes "X-Postfix";
+  reason = codes "no";
+  last_attempt = None;
+  retry_until = None;
+  extensions = [];
+}
+said_as_final = refl
+
+type_in_capitals : unless_final (codes "bob@example.org") (original_said (codes "RFC822;bob@example.org") []) ≡ record { kind = []; text = [] }
+type_in_capitals = refl
+
+before_rewriting : unless_final (codes "no.bob@example.org") (original_said [] (codes "bob@example.org")) ≡ record { kind = []; text = codes "bob@example.org" }
+before_rewriting = refl
+
+not_rewritten : unless_final (codes "bob@example.org") (original_said [] (codes "bob@example.org")) ≡ record { kind = []; text = [] }
+not_rewritten = refl
+
+-- a sender is told its own spelling, and another type of the same bytes
+other_spelling : unless_final (codes "bob@example.org") (original_said (codes "rfc822;Bob@example.org") []) ≡ record { kind = codes "rfc822"; text = codes "Bob@example.org" }
+other_spelling = refl
+
+other_type : unless_final (codes "bob@example.org") (original_said (codes "utf-8;bob@example.org") []) ≡ record { kind = codes "utf-8"; text = codes "bob@example.org" }
+other_type = refl
+
 -- a diagnostic needs both its type and its text
 type_alone : diagnostic_said (codes "smtp") [] (codes "no") ≡ record { kind = codes "X-Postfix"; text = codes "no" }
 type_alone = refl
@@ -135,11 +182,22 @@ they_are_extension_fields : is_extension_text (codes "X-Postfix-Queue-ID: 090B8A
 unfolding are_extension_lines is_extension_line
 they_are_extension_fields = refl
 
-whole_if_wanted : is_returned_whole Whole (codes "A: b\n\nc\n") ≡ true
+whole_if_wanted : is_returned_whole Whole 50000 (codes "A: b\n\nc\n") ≡ true
 whole_if_wanted = refl
 
-header_if_wanted : returned_text (is_returned_whole Header (codes "A: b\n\nc\n")) (codes "A: b\n\nc\n") ≡ codes "A: b\n"
+header_if_wanted : returned_text (is_returned_whole Header 50000 (codes "A: b\n\nc\n")) (codes "A: b\n\nc\n") ≡ codes "A: b\n"
 header_if_wanted = refl
+
+-- bounce_size_limit: the last byte that it allows, and one more
+whole_at_the_limit : is_returned_whole Whole 8 (codes "A: b\n\nc\n") ≡ true
+whole_at_the_limit = refl
+
+header_beyond_the_limit : returned_text (is_returned_whole Whole 7 (codes "A: b\n\nc\n")) (codes "A: b\n\nc\n") ≡ codes "A: b\n"
+header_beyond_the_limit = refl
+
+-- as Postfix has it, the limit cuts no header
+header_over_the_limit : returned_text (is_returned_whole Whole 1 (codes "A: b\n\nc\n")) (codes "A: b\n\nc\n") ≡ codes "A: b\n"
+header_over_the_limit = refl
 
 failures_are_final : tried_until Bounce 1700000000 432000 ≡ None
 failures_are_final = refl

@@ -1,9 +1,12 @@
 -- Worked examples of requests that are carried out, each computed.
-use Rattle.std.proofs.Common.{◌≡◌, ℕ, true, false, List, [], ◌∷◌, codes, refl, Ok, Err, Some, None}
+use Rattle.std.proofs.Common.{◌≡◌, ℕ, true, false, List, [], ◌∷◌, ◌++◌, codes, refl, Ok, Err, Some, None}
+use Rattle.std.specs.Fmt.{digits}
 use Rattle.dsn_text.specs.declared.no_memory.NoMemory.{NoMemory}
 use Rattle.dsn_text.specs.declared.service.Service.{Service}
 use Rattle.dsn_text.specs.declared.service.Service.TheVariants.{Bounce, Defer}
+use Rattle.dsn_postfix.specs.Attribute.{attribute_bytes}
 use Rattle.dsn_postfix.specs.LoggedAppend.{logged_of, unlogged_field, unlogged_of}
+use Rattle.dsn_postfix.specs.PostfixRequest.{IsRequestIn, postfix_request_bytes}
 use Rattle.dsn_postfix.specs.QuotedAddress.{needs_no_quotes}
 use Rattle.dsn_postfix.specs.declared.postfix_request.AppendRequest.{AppendRequest}
 use Rattle.dsn_postfix.specs.declared.postfix_request.DeliveryReport.{DeliveryReport}
@@ -15,8 +18,9 @@ use Rattle.dsn_postfix_service.specs.declared.requests.deed_fault.DeedFault.TheV
 use Rattle.dsn_postfix_service.specs.declared.hand_in.hand_in_fault.HandInFault.TheVariants.{Refused}
 use Rattle.dsn_postfix_service.specs.declared.hand_in.hand_in_step.HandInStep.TheVariants.{Recipient}
 use Rattle.dsn_postfix_service.specs.declared.requests.not_accepted.NotAccepted.TheVariants as not_accepted
+use Rattle.dsn_postfix_service.specs.declared.requests.pass_reason.PassReason.{PassReason}
 use Rattle.dsn_postfix_service.specs.declared.requests.telling.Telling.TheVariants as telling
-use Rattle.dsn_postfix_service.specs.requests.AnsweredRequest.{IsAnswered, ends_message}
+use Rattle.dsn_postfix_service.specs.requests.AnsweredRequest.{IsAnswered, first_flush, without_flags}
 use Rattle.dsn_postfix_service.specs.requests.AnsweredRequest as answered
 use Rattle.dsn_postfix_service.specs.requests.AppendDeeds.{IsAppended, record_bytes, tried, unsayable}
 use Rattle.dsn_postfix_service.specs.requests.CarriedOut.{IsCarriedOut, must_clean}
@@ -39,6 +43,7 @@ asked flags = record {
   queue_name = codes "active";
   queue_id = id;
   encoding = [];
+  names_sendopts = false;
   send_options = 0;
   sender = codes "ann@example.com";
   envelope_id = [];
@@ -76,7 +81,7 @@ append_with flags = record {
 -- ---- whole requests
 
 abbrev settings : SettingsSaid
-settings = record { host = codes "mx.example.net"; double_bounce = codes "double-bounce@mx.example.net"; lifetime = 432000 }
+settings = record { host = codes "mx.example.net"; double_bounce = codes "double-bounce@mx.example.net"; lifetime = 432000; size_limit = 50000 }
 
 abbrev append_of_bob : Answer → Deed
 append_of_bob answer = Appended Bounce id (record_bytes Bounce (append_with 1)) answer
@@ -124,8 +129,8 @@ status_needs_a_deed status (tried none given is comes) = absurd (no_deed (append
 status_needs_a_deed status (unsayable field some passes) = absurd (no_deed (PassedOn Bounce [] passes.given) passes.passed)
 
 -- nor to a request for notices that ends with nobody told, unless what can't be said is passed on
-unsayable_needs_a_deed : (answer : RequestAnswer) → EndsTelling Bounce [] telling.Unsayable answer [] → ⊥
-unsayable_needs_a_deed answer passes = no_deed (PassedOn Bounce [] passes.given) passes.passed
+unsayable_needs_a_deed : (why : PassReason) (answer : RequestAnswer) → EndsTelling Bounce [] (telling.Unsayable why) answer [] → ⊥
+unsayable_needs_a_deed why answer passes = no_deed (PassedOn Bounce [] passes.given) passes.passed
 
 -- nor to one whose first notice is refused for good
 refused_needs_a_deed : (answer : RequestAnswer) → EndsTelling Bounce [] telling.RefusedForGood answer [] → ⊥
@@ -144,21 +149,36 @@ first_refused_for_now = refl
 
 -- ---- the bounce log first
 
-flush_of_deferred_is_last : ends_message Defer (Flush (asked 0)) ≡ true
-flush_of_deferred_is_last = refl
+flush_of_deferred_has_a_first : first_flush Defer (Flush (asked 0)) ≡ Some (Flush (asked 0))
+flush_of_deferred_has_a_first = refl
 
-verp_of_deferred_is_last : ends_message Defer (Verp (asked 0) (codes "+=")) ≡ true
-verp_of_deferred_is_last = refl
+verp_of_deferred_has_a_first : first_flush Defer (Verp (asked 0) (codes "+=")) ≡ Some (Verp (asked 0) (codes "+="))
+verp_of_deferred_has_a_first = refl
 
-flush_of_bounced_is_not_last : ends_message Bounce (Flush (asked 0)) ≡ false
-flush_of_bounced_is_not_last = refl
+flush_of_bounced_has_no_first : first_flush Bounce (Flush (asked 3)) ≡ None
+flush_of_bounced_has_no_first = refl
 
-warning_is_not_last : ends_message Defer (Warn (asked 0)) ≡ false
-warning_is_not_last = refl
+warning_has_no_first : first_flush Defer (Warn (asked 0)) ≡ None
+warning_has_no_first = refl
+
+-- CLEAN and DELRCPT stay with the defer log, and other flags go along
+first_without_flags : first_flush Defer (Flush (asked 3)) ≡ Some (Flush (asked 0))
+first_without_flags = refl
+
+first_with_others : first_flush Defer (Flush (asked 1026)) ≡ Some (Flush (asked 1024))
+first_with_others = refl
+
+-- its bytes, which are what is passed on: those of tests/postfix/flush-defer.bin but for the flags and the texts
+first_as_bytes : postfix_request_bytes (Flush (without_flags (asked 2)))
+    ≡ codes "nrequest" ++ 0 ∷ codes "1" ++ 0 ∷ codes "flags" ++ 0 ∷ codes "0" ++ 0 ∷ codes "queue_name" ++ 0 ∷ codes "active" ++ 0
+    ∷ codes "queue_id" ++ 0 ∷ codes "6BB87A7E6A1" ++ 0 ∷ codes "encoding" ++ 0 ∷ 0 ∷ codes "smtputf8" ++ 0 ∷ codes "0" ++ 0
+    ∷ codes "sender" ++ 0 ∷ codes "ann@example.com" ++ 0 ∷ codes "envelope_id" ++ 0 ∷ 0 ∷ codes "ret_flags" ++ 0 ∷ codes "0" ++ 0 ∷ 0 ∷ []
+unfolding digits postfix_request_bytes attribute_bytes
+first_as_bytes = refl
 
 -- a flush of a log that can't be read
-unread_at : (service : Service) (serial : ℕ) → IsCarriedOut settings service (Flush (asked 0)) [] 0 serial (Ok not_carried_out) (LogRead service id (Err fault.Failed) ∷ LogReleased ∷ [])
-unread_at service serial = record {
+unread_at : (service : Service) (bytes : List ℕ) (serial : ℕ) → IsCarriedOut settings service (Flush (asked 0)) bytes 0 serial (Ok not_carried_out) (LogRead service id (Err fault.Failed) ∷ LogReleased ∷ [])
+unread_at service bytes serial = record {
   done = LogRead service id (Err fault.Failed) ∷ LogReleased ∷ [];
   cleaned = [];
   gained_are = refl;
@@ -177,17 +197,22 @@ unread_at service serial = record {
 bounce_log_unknown : IsAnswered settings Defer (Flush (asked 1)) [] 0 0 (Ok not_carried_out) (LogSought Bounce id (Err fault.Failed) ∷ [])
 bounce_log_unknown = answered.put_off refl (answered.unsought fault.Failed refl refl)
 
--- there is one, which can't be read: the defer log isn't touched
-bounce_log_unread : IsAnswered settings Defer (Flush (asked 0)) [] 0 0 (Ok not_carried_out) (LogSought Bounce id (Ok true) ∷ LogRead Bounce id (Err fault.Failed) ∷ LogReleased ∷ [])
-bounce_log_unread = answered.put_off refl (answered.told (LogRead Bounce id (Err fault.Failed) ∷ LogReleased ∷ []) refl (unread_at Bounce 500000))
+-- there is one, which can't be read: neither log is touched, also with CLEAN
+bounce_log_unread : (bytes : List ℕ) → IsRequestIn bytes (Flush (asked 0)) → IsAnswered settings Defer (Flush (asked 3)) [] 0 0 (Ok not_carried_out) (LogSought Bounce id (Ok true) ∷ LogRead Bounce id (Err fault.Failed) ∷ LogReleased ∷ [])
+bounce_log_unread bytes are =
+    answered.put_off refl (answered.told (LogRead Bounce id (Err fault.Failed) ∷ LogReleased ∷ []) refl (answered.flushed bytes are (unread_at Bounce bytes 500000)))
+
+-- there is one, and no memory for the bytes of its flush
+bounce_log_without_memory : (refused : NoMemory) → IsAnswered settings Defer (Flush (asked 3)) [] 0 0 (Err refused) (LogSought Bounce id (Ok true) ∷ [])
+bounce_log_without_memory why = answered.put_off refl (answered.told [] refl (answered.no_memory refl refl))
 
 -- there is none: the defer log is read
 defer_log_unread : IsAnswered settings Defer (Flush (asked 0)) [] 0 0 (Ok not_carried_out) (LogSought Bounce id (Ok false) ∷ LogRead Defer id (Err fault.Failed) ∷ LogReleased ∷ [])
-defer_log_unread = answered.in_turn (LogSought Bounce id (Ok false) ∷ []) (LogRead Defer id (Err fault.Failed) ∷ LogReleased ∷ []) refl (answered.no_log refl refl) (unread_at Defer 0)
+defer_log_unread = answered.in_turn (LogSought Bounce id (Ok false) ∷ []) (LogRead Defer id (Err fault.Failed) ∷ LogReleased ∷ []) refl (answered.no_log refl refl) (unread_at Defer [] 0)
 
 -- a flush of the bounce log asks for no other
 bounce_log_alone : IsAnswered settings Bounce (Flush (asked 0)) [] 0 0 (Ok not_carried_out) (LogRead Bounce id (Err fault.Failed) ∷ LogReleased ∷ [])
-bounce_log_alone = unread_at Bounce 0
+bounce_log_alone = unread_at Bounce [] 0
 
 -- ---- parts
 

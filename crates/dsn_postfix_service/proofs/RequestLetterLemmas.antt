@@ -29,7 +29,7 @@ first_if_none (Some x) P E Q is = is
 -- ---- why a notice is no letter
 
 pub reason_as : (P Q : Type 0) (why : NoLetters) → IsReason P why → (P → Q) → IsReason Q why
-reason_as P Q Unsayable is follows = follows is
+reason_as P Q (Unsayable why) is follows = follows is
 reason_as P Q NoMemory is follows = tt
 
 -- ---- letters

@@ -85,7 +85,7 @@ pub record LeftOver (settings : SettingsSaid) (service : Service) (request : Pos
 -- what was told where telling ends so: of all deeds, which begin with a front that removes no log
 abbrev pub ToldSo : SettingsSaid → Service → PostfixRequest → NoticeRequest → ℕ → ℕ → Telling → List Deed → List Deed → Type 0
 ToldSo settings service request notice moment serial Told front told = AreAllTold settings service request notice moment serial front
-ToldSo settings service request notice moment serial Unsayable front told = LeftOver settings service request notice moment serial told
+ToldSo settings service request notice moment serial (Unsayable why) front told = LeftOver settings service request notice moment serial told
 ToldSo settings service request notice moment serial RefusedForGood front told = LeftOver settings service request notice moment serial told
 ToldSo settings service request notice moment serial Failed front told = Unit {0}
 ToldSo settings service request notice moment serial NoMemory front told = Unit {0}
@@ -211,9 +211,9 @@ mail_parts : (settings : SettingsSaid) (service : Service) (request : PostfixReq
     → TellingParts settings service request notice moment serial telling (readings service request notice found ++ gained)
 mail_parts settings service request notice moment serial found telling gained (notices.no_memory t is) =
     quiet_parts settings service request notice moment serial telling _ (told_as settings service request notice moment serial telling NoMemory _ _ t tt) (read_alone service request notice found gained is)
-mail_parts settings service request notice moment serial found telling gained (notices.unsayable t is unsaid) =
+mail_parts settings service request notice moment serial found telling gained (notices.unsayable why t is unsaid) =
     quiet_parts settings service request notice moment serial telling _
-    (told_as settings service request notice moment serial telling Unsayable _ _ t (record { found = found; tried = gained; told_is = refl; why = laws.unsayable unsaid is }))
+    (told_as settings service request notice moment serial telling (Unsayable why) _ _ t (record { found = found; tried = gained; told_is = refl; why = laws.unsayable unsaid is }))
     (read_alone service request notice found gained is)
 mail_parts settings service request notice moment serial found telling gained (notices.letters made asked tells) =
     letters_parts settings service request notice moment serial found made telling gained asked tells
@@ -234,7 +234,7 @@ ends_block : (service : Service) (bytes : List ℕ) (telling : Telling) (answer 
 ends_block service bytes Told answer last ends = block_is last [] [] ends.0 no_deeds
 ends_block service bytes Failed answer last ends = block_is last [] [] ends.0 no_deeds
 ends_block service bytes NoMemory answer last ends = block_is last [] [] ends.0 no_deeds
-ends_block service bytes Unsayable answer last ends = block_is last _ [] ends.passed (passed_alone service bytes ends.given)
+ends_block service bytes (Unsayable why) answer last ends = block_is last _ [] ends.passed (passed_alone service bytes ends.given)
 ends_block service bytes RefusedForGood answer last ends = block_is last _ [] ends.passed (passed_alone service bytes ends.given)
 
 released_block : (last : List Deed) → Block last [] → Block (LogReleased ∷ last) []

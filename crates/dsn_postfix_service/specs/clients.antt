@@ -1,2 +1,3 @@
+pub mod HeardClient
 pub mod ListDialogue
 pub mod ServedClient

@@ -2,3 +2,4 @@ pub mod FolderHashing
 pub mod HashedId
 pub mod PathInQueue
 pub mod OwnService
+pub mod QueueEntry

@@ -5,6 +5,7 @@
 #![tactic(auto)]
 
 mod clients;
+mod event_log;
 mod hand_in;
 mod letters;
 mod mail_server;
@@ -12,16 +13,19 @@ mod queue_folder;
 mod requests;
 mod serving;
 
-pub use clients::{ClientFault, serve_client};
+pub use clients::{ClientFault, HeardClient, answer_client, hear_client, refuse_client};
 pub use hand_in::{
     Connect, HandInFault, HandInStep, LONGEST_REPLY, Notice, ReplyBuffer, ReplyClass, ReplyCode,
     ReplyFault, Session, greet, hand_in_notice, hand_in_over, leave, queue_id_in,
 };
 pub use letters::{LetterFault, ReportedMessage, letter_of_notice};
-pub use queue_folder::{FolderHashing, PostfixPlace, ask_own_service, path_in_queue};
-pub use requests::{
-    DeedFault, MailSystem, RequestTerms, ServiceSettings, answer_request, answered_appends_stand,
-    bounce_logs_are_told_first, logs_are_removed_after_acceptance, no_notice_causes_another,
-    notices_are_handed_in_once,
+pub use queue_folder::{
+    FolderHashing, MOST_DEPTH, OtherDepth, PostfixPlace, QueueFault, ask_own_service,
+    depth_against, path_in_queue,
 };
-pub use serving::{Listeners, serve_postfix};
+pub use requests::{
+    DeedFault, MailSystem, PassReason, RequestTerms, ServiceSettings, answer_request,
+    answered_appends_stand, bounce_logs_are_told_first, logs_are_removed_after_acceptance,
+    no_notice_causes_another, notices_are_handed_in_once,
+};
+pub use serving::{Listeners, OtherAccount, StartFault, check_owner, serve_postfix};

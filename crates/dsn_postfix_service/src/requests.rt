@@ -14,6 +14,7 @@ mod not_accepted;
 mod notice_task;
 mod notify;
 mod pass_on;
+mod pass_reason;
 mod places_done;
 mod request_letters;
 mod request_terms;
@@ -29,5 +30,6 @@ pub use laws::{
 };
 pub use mail_system::MailSystem;
 pub(crate) use pass_on::{NOT_CARRIED_OUT, pass_on};
+pub use pass_reason::PassReason;
 pub use request_terms::RequestTerms;
 pub use service_settings::ServiceSettings;

@@ -1,53 +1,53 @@
 //! The command `postfix`.
 use crate::postfix_serving::PostfixServing;
 use crate::refusal::Refusal;
-use dsn_postfix_service::{Listeners, serve_postfix};
+use dsn_postfix_service::{Listeners, PostfixPlace, StartFault, serve_postfix};
 use dsn_text::fault_code;
-use std::io;
 use std::sync::Wait;
 use std::thread::Threads;
+use std::time::Clock;
 
 /// The exit status of a run that could not have its sockets, or that ended.
 const FAULT: u8 = 1;
 
 /// Serves the programs of a Postfix until the process is ended, and returns the status. The runtime
 /// may start threads and wait in `main` alone, so it comes a second time as what may.
-pub(crate) fn run_postfix<R: Threads + Wait + Sync>(
+pub(crate) fn run_postfix<R: Threads + Wait + Clock + Copy + Send + Sync + Drop + 'static>(
     rt: &HostRuntime,
     waiting: &R,
     serving: PostfixServing,
 ) -> Result<u8, Refusal> {
     let hashed = serving.values.hashed_queues(rt.alloc())?;
-    let listeners = match listen(rt, &serving) {
+    let place = serving.place(hashed.as_slice());
+    let listeners = match listen(rt, &place, serving.values.inherits) {
         Ok(listeners) => listeners,
-        Err(error) => return Ok(print_fault(rt, serving.folder.as_str(), &error)),
+        Err(fault) => return Ok(print_fault(rt, place.root, &fault)),
     };
-    serve_postfix(
-        rt,
-        waiting,
-        &listeners,
-        serving.place(hashed.as_slice()),
-        serving.settings(),
-        serving.values.version,
-    );
+    let served = serve_postfix(rt, waiting, &listeners, place, serving.settings());
+    if served.is_err() {
+        return Err(Refusal::NoMemory);
+    }
     let _ = eprintln!(rt; "fault {}", fault_code::CREW_REFUSED);
     Ok(FAULT)
 }
 
 /// The sockets of a run, which it makes or has inherited.
-fn listen(rt: &HostRuntime, serving: &PostfixServing) -> io::Result<Listeners> {
-    let folder = serving.folder.as_str();
-    if !serving.values.inherits {
-        return Listeners::make(rt, folder);
+fn listen(
+    rt: &HostRuntime,
+    place: &PostfixPlace<'_>,
+    inherits: bool,
+) -> Result<Listeners, StartFault> {
+    if !inherits {
+        return Listeners::make(rt, place);
     }
     // Nothing else has these descriptors: the process has opened no file so far that is still open,
     // and no thread but this one runs.
-    unsafe { Listeners::inherit(rt, folder) }
+    unsafe { Listeners::inherit(rt, place) }
 }
 
-/// Prints that the sockets could not be had, and what the system said. Returns the status.
-fn print_fault(rt: &HostRuntime, folder: &str, error: &io::Error) -> u8 {
+/// Prints why the Postfix isn't served. Returns the status.
+fn print_fault(rt: &HostRuntime, folder: &str, fault: &StartFault) -> u8 {
     let _ = eprintln!(rt; "fault {}", fault_code::SOCKET);
-    let _ = eprintln!(rt; "{folder}/private: {error}");
+    let _ = eprintln!(rt; "{folder}/{fault}");
     FAULT
 }

@@ -1,7 +1,7 @@
 //! The options of `postfix`.
 use crate::arguments::number_of;
 use crate::refusal::Refusal;
-use dsn_postfix::PostfixVersion;
+use dsn_postfix_service::MOST_DEPTH;
 use std::env::Args;
 
 /// How many words `postfix` has after its options.
@@ -10,16 +10,16 @@ const WORDS: usize = 3;
 /// The longest time for which a delivery is tried, in seconds: a hundred days, as Postfix has it.
 const MOST_LIFETIME: u32 = 8_640_000;
 
-/// The deepest that files of a hashed queue stand.
-const MOST_DEPTH: u32 = 16;
+/// The largest `bounce_size_limit` of Postfix, in bytes.
+const MOST_SIZE_LIMIT: u32 = 2_147_483_647;
 
 /// What the options of `postfix` ask for, if anything.
 #[derive(Drop)]
 pub(crate) struct PostfixOptions {
-    /// The version of Postfix.
-    pub(crate) version: Option<PostfixVersion>,
     /// For how many seconds a delivery is tried.
     pub(crate) lifetime: Option<u32>,
+    /// How many bytes a message has at most if it is returned whole.
+    pub(crate) size_limit: Option<u32>,
     /// The sender of notices about notices.
     pub(crate) double_bounce: Option<String>,
     /// The names of the hashed queues.
@@ -34,8 +34,8 @@ impl PostfixOptions {
     /// The options among these words, each given once at most: the words before the last three.
     pub(crate) fn of(words: &mut Args) -> Result<PostfixOptions, Refusal> {
         let mut options = PostfixOptions {
-            version: None,
             lifetime: None,
+            size_limit: None,
             double_bounce: None,
             hashed: None,
             depth: None,
@@ -54,11 +54,11 @@ impl PostfixOptions {
     /// Takes one option, with its value if it has one.
     fn take(&mut self, option: &str, words: &mut Args) -> Result<(), Refusal> {
         match option {
-            "--postfix" if self.version.is_none() => {
-                self.version = Some(version_of(value_of(words)?.as_str())?);
-            }
             "--lifetime" if self.lifetime.is_none() => {
                 self.lifetime = Some(number_of(&value_of(words)?, MOST_LIFETIME)?);
+            }
+            "--bounce-size-limit" if self.size_limit.is_none() => {
+                self.size_limit = Some(number_of(&value_of(words)?, MOST_SIZE_LIMIT)?);
             }
             "--double-bounce" if self.double_bounce.is_none() => {
                 self.double_bounce = Some(value_of(words)?);
@@ -79,16 +79,4 @@ impl PostfixOptions {
 /// The value of an option.
 fn value_of(words: &mut Args) -> Result<String, Refusal> {
     words.next().ok_or(Refusal::Usage)
-}
-
-/// The version of Postfix that a word names.
-fn version_of(word: &str) -> Result<PostfixVersion, Refusal> {
-    match word {
-        "3.6" => Ok(PostfixVersion::V3_6),
-        "3.7" => Ok(PostfixVersion::V3_7),
-        "3.8" => Ok(PostfixVersion::V3_8),
-        "3.9" => Ok(PostfixVersion::V3_9),
-        "3.10" => Ok(PostfixVersion::V3_10),
-        _ => Err(Refusal::Usage),
-    }
 }

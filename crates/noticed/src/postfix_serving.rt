@@ -41,6 +41,7 @@ impl PostfixServing {
             site: &self.site,
             double_bounce: self.values.double_bounce.as_bytes(),
             lifetime: self.values.lifetime,
+            size_limit: self.values.size_limit,
         }
     }
 }

@@ -1,11 +1,13 @@
 //! What options of `postfix` change.
 use crate::postfix_options::PostfixOptions;
 use crate::refusal::Refusal;
-use dsn_postfix::{PostfixVersion, QueueName};
+use dsn_postfix::QueueName;
 use std::alloc::Global;
 
 /// What holds where no option says otherwise, as in postconf(5).
 const USUAL_LIFETIME: u32 = 432_000;
+
+const USUAL_SIZE_LIMIT: u32 = 50_000;
 
 const USUAL_HASHED: &str = "deferred, defer";
 
@@ -14,10 +16,10 @@ const USUAL_DEPTH: u32 = 1;
 /// What options of `postfix` change.
 #[derive(Drop)]
 pub(crate) struct PostfixValues {
-    /// The version of Postfix.
-    pub(crate) version: PostfixVersion,
     /// For how many seconds a delivery is tried.
     pub(crate) lifetime: u32,
+    /// How many bytes a message has at most if it is returned whole.
+    pub(crate) size_limit: u32,
     /// The sender of notices about notices.
     pub(crate) double_bounce: String,
     /// The names of the hashed queues, where an option gives them.
@@ -36,8 +38,8 @@ impl PostfixValues {
         host: &str,
     ) -> Result<PostfixValues, Refusal> {
         let PostfixOptions {
-            version,
             lifetime,
+            size_limit,
             double_bounce,
             hashed,
             depth,
@@ -48,8 +50,8 @@ impl PostfixValues {
             None => usual_double_bounce(alloc, host)?,
         };
         Ok(PostfixValues {
-            version: version.unwrap_or(PostfixVersion::V3_7),
             lifetime: lifetime.unwrap_or(USUAL_LIFETIME),
+            size_limit: size_limit.unwrap_or(USUAL_SIZE_LIMIT),
             double_bounce,
             hashed,
             depth: depth.unwrap_or(USUAL_DEPTH),

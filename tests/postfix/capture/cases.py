@@ -22,6 +22,8 @@ class Case:
     whole: bytes | None = None  # all of the message, in place of header and body
     filtered: bool = False  # whether it comes through the mail filter
     command: list = field(default_factory=list)  # options of sendmail(1), where the message comes by that
+    port: str = ""  # the name of the port, if it is neither of the two
+    told: str | None = None  # the notices that bounce(8) sends, in words, if they are checked
 
     def text(self) -> bytes:
         if self.whole is not None:

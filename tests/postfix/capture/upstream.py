@@ -1,5 +1,6 @@
 """The mail server to which the private Postfix relays: it answers each RCPT by the first word of the recipient's local
-part, keeps the notices that come from nobody, apart from all other mail."""
+part, keeps the notices that come from nobody, apart from all other mail. It speaks LMTP (RFC 2033) to a client that
+greets it by LHLO: each recipient then has a reply of its own to the message."""
 import socketserver
 import threading
 
@@ -21,6 +22,9 @@ REPLIES = {
     "short": b"550 5.7.1",
     "zeros": b"550 5.01.1 with a zero in front",
     "busy": b"421 4.3.2 closing down",
+    "contrary": b"550 4.7.1 it says later, and means never",
+    "never": b"450 5.7.1 it says never, and means later",
+    "large": b"550 5.999.999 numbers of three digits",
 }
 EXTENSIONS = ["mail.example.org", "8BITMIME", "SMTPUTF8", "ENHANCEDSTATUSCODES", "SIZE 10000000"]
 
@@ -51,20 +55,23 @@ class Upstream(socketserver.StreamRequestHandler):
         text = []
         while (line := self.rfile.readline()) not in (b".\r\n", b""):
             text.append((line[1:] if line.startswith(b".") else line).replace(b"\r\n", b"\n"))
-        refused = any(it.lower().startswith(b"data") for it in self.taken)
-        if not refused and self.sender:
-            self.server.others.append((self.sender, self.taken, b"".join(text)))
-        elif not refused:
-            self.server.notices.append((self.taken, b"".join(text)))
-        self.say(b"554 5.6.0 not with this text" if refused else b"250 2.0.0 taken")
+        refused = [it for it in self.taken if it.lower().startswith(b"data")]
+        kept = [it for it in self.taken if it not in refused] if self.speaks_lmtp or not refused else []
+        if kept and self.sender:
+            self.server.others.append((self.sender, kept, b"".join(text)))
+        elif kept:
+            self.server.notices.append((kept, b"".join(text)))
+        for it in self.taken if self.speaks_lmtp else [(refused or kept)[0]]:
+            self.say(b"554 5.6.0 not with this text" if it in refused else b"250 2.0.0 taken")
         self.taken = []
 
     def handle(self):
-        self.sender, self.taken = b"", []
+        self.sender, self.taken, self.speaks_lmtp = b"", [], False
         self.say(b"220 mail.example.org ESMTP")
         for line in self.rfile:
             verb = line[:4].upper()
-            if verb in (b"EHLO", b"HELO"):
+            if verb in (b"EHLO", b"HELO", b"LHLO"):
+                self.speaks_lmtp = verb == b"LHLO"
                 self.hello()
             elif verb == b"MAIL":
                 self.sender, self.taken = line[line.index(b"<") + 1 : line.rindex(b">")], []

@@ -6,8 +6,10 @@ use crate::postfix_service::memory_system::{MemorySystem, UNHEARD};
 use crate::postfix_service::requests::{APPEND, RECORD};
 use crate::postfix_service::server::Server;
 use dsn_outcome::{Plain, Stream};
-use dsn_postfix::{ListBuffer, ListFault, PostfixVersion};
-use dsn_postfix_service::{ClientFault, DeedFault, ServiceSettings, serve_client};
+use dsn_postfix::ListFault;
+use dsn_postfix_service::{
+    ClientFault, DeedFault, ServiceSettings, answer_client, hear_client, refuse_client,
+};
 use dsn_text::Service;
 use std::alloc::AllocGlobal;
 use std::cell::RefCell;
@@ -55,7 +57,7 @@ const CLIENTS: [Client; 7] = [
         says: b"nrequest\077\0\0",
         end: Ok(7),
         heard: b"protocol\0delivery_status_protocol\0\0status\07\0\0",
-        lines: b"pass-on B\n",
+        lines: b"pass-on B?\n",
         ..APPENDING
     },
     // nothing is done for a client that says no list
@@ -92,9 +94,9 @@ const CLIENTS: [Client; 7] = [
 ];
 
 /// Serves a client over a stream, and says how that ended.
-fn served<R: AllocGlobal + Clock, S: Stream>(
+fn served<R: AllocGlobal + Clock, S: Stream + Drop>(
     rt: &R,
-    stream: &mut S,
+    stream: S,
     system: &mut MemorySystem<'_>,
 ) -> Result<Result<u32, ClientFault>, Fail> {
     let site = site(rt.alloc())?;
@@ -102,15 +104,18 @@ fn served<R: AllocGlobal + Clock, S: Stream>(
         site: &site,
         double_bounce: b"double-bounce@mx.example.net",
         lifetime: 432_000,
+        size_limit: 50_000,
     };
-    Ok(serve_client(
+    let mut client = match hear_client(rt.alloc(), stream) {
+        Ok(client) => client,
+        Err(fault) => return Ok(Err(fault)),
+    };
+    Ok(answer_client(
         rt,
         rt.alloc(),
         &settings,
-        PostfixVersion::V3_7,
         Service::Bounce,
-        stream,
-        &mut ListBuffer::new(rt.alloc()),
+        &mut client,
         0,
         system,
     ))
@@ -123,13 +128,13 @@ fn end_of<R: AllocGlobal + Clock>(
     system: &mut MemorySystem<'_>,
     heard: &RefCell<Vec<u8>>,
 ) -> Result<Result<u32, ClientFault>, Fail> {
-    let mut stream = Plain::new(Server {
+    let stream = Plain::new(Server {
         script: client.says,
         most: 50,
         calls: client.calls,
         heard,
     });
-    served(rt, &mut stream, system)
+    served(rt, stream, system)
 }
 
 /// A client is served as it must be.
@@ -156,5 +161,29 @@ fn clients_are_served(rt: HostRuntime) -> Result<(), Fail> {
     for client in &CLIENTS {
         expect_served(&rt, client)?;
     }
+    Ok(())
+}
+
+/// Refuses a client, and says what it was told.
+fn refusal<R: AllocGlobal>(rt: &R, heard: &RefCell<Vec<u8>>) -> Result<u32, ClientFault> {
+    let stream = Plain::new(Server {
+        script: APPEND,
+        most: 50,
+        calls: ALWAYS,
+        heard,
+    });
+    let mut client = hear_client(rt.alloc(), stream)?;
+    refuse_client(rt.alloc(), &mut client)
+}
+
+#[test]
+fn a_client_that_is_refused_hears_so(rt: HostRuntime) -> Result<(), Fail> {
+    let heard = RefCell::new(Vec::new(rt.alloc()));
+    same(&rt, refusal(&rt, &heard), Ok(4_294_967_295));
+    same(
+        &rt,
+        heard.into_inner().as_slice(),
+        b"protocol\0delivery_status_protocol\0\0status\04294967295\0\0",
+    );
     Ok(())
 }

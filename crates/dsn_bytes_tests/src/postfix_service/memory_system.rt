@@ -4,7 +4,7 @@ ghost use Rattle.std.specs.Prelude.{None};
 use crate::texts::{append_all, joined};
 use dsn_postfix::{PostfixRequest, QueueName};
 use dsn_postfix_service::{
-    DeedFault, HandInFault, HandInStep, MailSystem, ReplyBuffer, ReplyFault,
+    DeedFault, HandInFault, HandInStep, MailSystem, PassReason, ReplyBuffer, ReplyFault,
 };
 use dsn_text::{Address, QueueId, Service};
 use std::alloc::Global;
@@ -65,6 +65,14 @@ fn copied(alloc: Global, text: &[u8]) -> Result<Vec<u8>, DeedFault> {
     match joined(alloc, &[text]) {
         Ok(copy) => Ok(copy),
         Err(_) => Err(DeedFault::NoMemory),
+    }
+}
+
+/// The flags of a request, which have one digit here.
+fn flags_of(request: &[u8]) -> u8 {
+    match request.get(b"nrequest\01\0flags\0".len()) {
+        Some(digit) => *digit,
+        None => b'?',
     }
 }
 
@@ -148,8 +156,13 @@ impl MailSystem for MemorySystem<'_> {
         self.done(b"mark", &digits(place))
     }
 
-    fn pass_on(&mut self, service: Service, _request: &[u8]) -> Result<u32, DeedFault> {
-        self.done(b"pass-on", &[service.letter()])?;
+    fn pass_on(
+        &mut self,
+        service: Service,
+        request: &[u8],
+        _why: PassReason,
+    ) -> Result<u32, DeedFault> {
+        self.done(b"pass-on", &[service.letter(), flags_of(request)])?;
         Ok(self.status)
     }
 

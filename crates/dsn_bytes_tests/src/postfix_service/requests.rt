@@ -39,6 +39,7 @@ enum Asked {
     Marking,
     CleanMarking,
     FromQuoted,
+    CleanMarkingFromQuoted,
     FromNobody,
     FromDoubleBounce,
     Verp,
@@ -78,6 +79,10 @@ const CLEAN_MARKING: &[u8] =
 const FROM_QUOTED: &[u8] =
     b"nrequest\01\0flags\00\0queue_name\0active\0queue_id\06BB87A7E6A1\0encoding\0\0smtputf8\00\0sender\0a b@example.com\0envelope_id\0\0ret_flags\00\0\0";
 
+/// The same with CLEAN, where the recipients are to be marked as done.
+const CLEAN_MARKING_FROM_QUOTED: &[u8] =
+    b"nrequest\01\0flags\03\0queue_name\0active\0queue_id\06BB87A7E6A1\0encoding\0\0smtputf8\00\0sender\0a b@example.com\0envelope_id\0\0ret_flags\00\0\0";
+
 /// Notices of a message that has no sender.
 const FROM_NOBODY: &[u8] =
     b"nrequest\01\0flags\00\0queue_name\0active\0queue_id\06BB87A7E6A1\0encoding\0\0smtputf8\00\0sender\0\0envelope_id\0\0ret_flags\00\0\0";
@@ -109,6 +114,7 @@ fn bytes_of(asked: Asked) -> &'static [u8] {
         Asked::Marking => MARKING,
         Asked::CleanMarking => CLEAN_MARKING,
         Asked::FromQuoted => FROM_QUOTED,
+        Asked::CleanMarkingFromQuoted => CLEAN_MARKING_FROM_QUOTED,
         Asked::FromNobody => FROM_NOBODY,
         Asked::FromDoubleBounce => FROM_DOUBLE_BOUNCE,
         Asked::Verp => VERP,
@@ -218,7 +224,7 @@ const TOLD: &[u8] = b"log B\nmessage active\nhand-in ann@example.com\nremove B\n
 const UNTOLD: &[u8] = b"log B\nmessage active\nhand-in ann@example.com\nrelease \n";
 
 /// The lines of a flush of the bounce log that is passed on.
-const PASSED_ON: &[u8] = b"log B\nmessage active\nrelease \npass-on B\n";
+const PASSED_ON: &[u8] = b"log B\nmessage active\nrelease \npass-on B0\n";
 
 /// The lines of a flush of the bounce log whose second notice isn't taken.
 const SECOND_UNTOLD: &[u8] =
@@ -275,13 +281,13 @@ const APPENDS: [Case; 7] = [
     Case {
         asked: Asked::SpacedAppend,
         logs: Logs::Nothing,
-        lines: b"pass-on B\n",
+        lines: b"pass-on B0\n",
         ..BOUNCES_PASSED_ON
     },
     Case {
         asked: Asked::SpacedAppend,
         well: 0,
-        lines: b"pass-on B\n",
+        lines: b"pass-on B0\n",
         ..BOUNCES_FAIL
     },
 ];
@@ -345,7 +351,7 @@ const OF_ONE_LOG: [Case; 18] = [
     Case {
         well: 2,
         refusal: Some(*b"550"),
-        lines: b"log B\nmessage active\nhand-in ann@example.com\nrelease \npass-on B\n",
+        lines: b"log B\nmessage active\nhand-in ann@example.com\nrelease \npass-on B0\n",
         ..BOUNCES_PASSED_ON
     },
     Case {
@@ -391,7 +397,7 @@ const OF_ONE_LOG: [Case; 18] = [
 ];
 
 /// Requests about the defer log of a message that may have both: the bounce log is told first.
-const OF_BOTH_LOGS: [Case; 21] = [
+const OF_BOTH_LOGS: [Case; 23] = [
     BOTH,
     Case {
         logs: Logs::Other,
@@ -407,13 +413,26 @@ const OF_BOTH_LOGS: [Case; 21] = [
     Case {
         asked: Asked::FromQuoted,
         status: 7,
-        lines: b"seek B\nlog B\nmessage active\nrelease \npass-on B\n",
+        lines: b"seek B\nlog B\nmessage active\nrelease \npass-on B0\n",
         ..BOTH
     },
     Case {
         asked: Asked::FromQuoted,
         postfix: 0,
-        lines: b"seek B\nlog B\nmessage active\nrelease \npass-on B\nlog D\nmessage active\nrelease \npass-on D\n",
+        lines: b"seek B\nlog B\nmessage active\nrelease \npass-on B0\nlog D\nmessage active\nrelease \npass-on D0\n",
+        ..BOTH
+    },
+    // the bounce log's flush has neither CLEAN nor DELRCPT, which are about the defer log
+    Case {
+        asked: Asked::CleanMarkingFromQuoted,
+        status: 7,
+        lines: b"seek B\nlog B\nmessage active\nrelease \npass-on B0\n",
+        ..BOTH
+    },
+    Case {
+        asked: Asked::CleanMarkingFromQuoted,
+        postfix: 0,
+        lines: b"seek B\nlog B\nmessage active\nrelease \npass-on B0\nlog D\nmessage active\nrelease \npass-on D3\n",
         ..BOTH
     },
     // the defer log is told after a bounce log that was refused and passed on
@@ -421,14 +440,14 @@ const OF_BOTH_LOGS: [Case; 21] = [
         well: 3,
         refusal: Some(*b"554"),
         postfix: 0,
-        lines: b"seek B\nlog B\nmessage active\nhand-in ann@example.com\nrelease \npass-on B\nlog D\nmessage active\nhand-in ann@example.com\nremove D\nrelease \n",
+        lines: b"seek B\nlog B\nmessage active\nhand-in ann@example.com\nrelease \npass-on B0\nlog D\nmessage active\nhand-in ann@example.com\nremove D\nrelease \n",
         ..BOTH
     },
     Case {
         well: 3,
         refusal: Some(*b"554"),
         status: 7,
-        lines: b"seek B\nlog B\nmessage active\nhand-in ann@example.com\nrelease \npass-on B\n",
+        lines: b"seek B\nlog B\nmessage active\nhand-in ann@example.com\nrelease \npass-on B0\n",
         ..BOTH
     },
     // a recipient of the defer log may have the record of one that bounced
@@ -495,7 +514,7 @@ const OF_BOTH_LOGS: [Case; 21] = [
         well: 9,
         ..BOTH_FAIL
     },
-    // with CLEAN no defer log is removed before its turn
+    // with CLEAN no defer log is removed before its turn, and no bounce log at all
     Case {
         asked: Asked::Clean,
         well: 0,
@@ -505,7 +524,7 @@ const OF_BOTH_LOGS: [Case; 21] = [
     Case {
         asked: Asked::Clean,
         well: 1,
-        lines: b"seek B\nlog B\nrelease \nremove B\n",
+        lines: b"seek B\nlog B\nrelease \n",
         ..BOTH_FAIL
     },
 ];
@@ -532,6 +551,7 @@ fn answered(
         site: &site,
         double_bounce: b"double-bounce@mx.example.net",
         lifetime: 432_000,
+        size_limit: 50_000,
     };
     let terms = RequestTerms {
         settings: &settings,

@@ -50,10 +50,11 @@ abbrev pub postfix_fields : List ℕ → List ℕ → List ℕ
 postfix_fields queue_id sender =
     postfix_field (codes "X-Postfix-Queue-ID: ") queue_id ++ sender_field sender
 
--- a message that is wanted back goes back whole where there is room for it, and else its header
-abbrev pub is_returned_whole : ReturnedPart → List ℕ → Bool
-is_returned_whole Whole text = nat_le (length text) longest_header
-is_returned_whole Header text = false
+-- A message that is wanted back goes back whole if it has at most as many bytes as the mail system returns, and as a notice
+-- has room for. Otherwise its header does, however long that is.
+abbrev pub is_returned_whole : ReturnedPart → ℕ → List ℕ → Bool
+is_returned_whole Whole size_limit text = nat_le (length text) size_limit && nat_le (length text) longest_header
+is_returned_whole Header size_limit text = false
 
 abbrev pub returned_text : Bool → List ℕ → List ℕ
 returned_text true text = text
@@ -71,8 +72,8 @@ abbrev pub draft_fields_told : MessageSaid → NoticeFacts → DraftFields
 draft_fields_told message notice = record {
   return_path = notice_address notice;
   envelope_id = message.envelope_id;
-  header = returned_text (is_returned_whole notice.returned message.text) message.text;
-  returned = returned_byte_of (is_returned_whole notice.returned message.text);
+  header = returned_text (is_returned_whole notice.returned message.size_limit message.text) message.text;
+  returned = returned_byte_of (is_returned_whole notice.returned message.size_limit message.text);
   wording = by_outcome;
   extensions = postfix_fields message.queue_id message.sender;
 }

@@ -9,6 +9,7 @@ pub record MessageSaid : Type 0 where
   pub envelope_id : List ℕ
   pub text : List ℕ
   pub lifetime : ℕ
+  pub size_limit : ℕ
 
 -- the texts that the program's references point to
 abbrev pub message_said_in : ReportedMessage → MessageSaid
@@ -19,4 +20,5 @@ message_said_in message = record {
   envelope_id = message.envelope_id.now;
   text = message.text.now;
   lifetime = message.lifetime;
+  size_limit = message.size_limit;
 }

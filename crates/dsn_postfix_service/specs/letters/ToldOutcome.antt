@@ -1,6 +1,6 @@
 -- What a record of a log says of a recipient, as the fields of an outcome. Postfix writes the same of it into its own notices,
 -- but for texts that it has and an outcome hasn't: a longer diagnostic or reason ends after 800 bytes.
-use Rattle.std.specs.Prelude.{ℕ, ◌==◌, Bool, true, List, [], ◌∷◌, take, codes, Option, Some, None, unwrap_or, if◌then◌else◌}
+use Rattle.std.specs.Prelude.{ℕ, ◌==◌, ◌&&◌, Bool, true, List, [], ◌∷◌, take, codes, Option, Some, None, unwrap_or, if◌then◌else◌}
 use Rattle.std.specs.List.{before_first, after_first}
 use Rattle.std.specs.Option.{option_map}
 use Rattle.std.specs.Str.{bytes_eq, str_eq_ignore_ascii_case}
@@ -33,6 +33,20 @@ original_said (byte ∷ said) rewritten = record {
   text = after_first is_semicolon (byte ∷ said);
 }
 
+-- the type of an address where none is said (RFC 3464 section 2.3.1)
+abbrev pub is_usual_type : List ℕ → Bool
+is_usual_type [] = true
+is_usual_type (byte ∷ kind) = str_eq_ignore_ascii_case (byte ∷ kind) (codes "rfc822")
+
+-- The original recipient, unless it is the final one. Postfix writes down the address of each RCPT command as if its sender
+-- had named it by ORCPT (RFC 3461 section 4.2): of an address that is the final one nothing says whether a sender did.
+abbrev pub unless_final : List ℕ → TypedText → TypedText
+unless_final recipient original =
+    if is_usual_type original.kind && bytes_eq original.text recipient then record { kind = []; text = [] } else original
+
+abbrev pub original_told : LoggedFields → TypedText
+original_told fields = unless_final fields.recipient (original_said fields.dsn_original fields.original_recipient)
+
 -- where no remote system said anything, the mail system's own reason stands for it
 abbrev pub reason_said : List ℕ → TypedText
 reason_said [] = record { kind = []; text = [] }
@@ -63,8 +77,8 @@ abbrev pub fields_told : Option ℕ → LoggedFields → Fields
 fields_told until fields = record {
   recipient = fields.recipient;
   recipient_type = [];
-  original = (original_said fields.dsn_original fields.original_recipient).text;
-  original_type = (original_said fields.dsn_original fields.original_recipient).kind;
+  original = (original_told fields).text;
+  original_type = (original_told fields).kind;
   action = action_said fields.action;
   status = plain_status fields.status;
   mta = fields.mta_name;

@@ -1,7 +1,9 @@
 -- What is done for a request, and before it for the bounce log of a message that Postfix removes after it.
-use Rattle.std.specs.Prelude.{◌≡◌, ℕ, ◌+◌, ◌%◌, ◌^◌, Bool, true, false, List, [], ◌∷◌, ◌++◌, Ok, Err, MatchBool}
+use Rattle.std.specs.Prelude.{◌≡◌, ℕ, ◌+◌, ◌*◌, ◌/◌, ◌%◌, ◌^◌, Bool, true, false, List, [], ◌∷◌, ◌++◌, Option, Some, None, Ok, Err, IsErr, MatchOption}
 use Rattle.dsn_text.specs.declared.service.Service.{Service}
 use Rattle.dsn_text.specs.declared.service.Service.TheVariants.{Bounce, Defer, Trace as TraceLog}
+use Rattle.dsn_postfix.specs.PostfixRequest.{IsRequestIn}
+use Rattle.dsn_postfix.specs.declared.postfix_request.NoticeRequest.{NoticeRequest}
 use Rattle.dsn_postfix.specs.declared.postfix_request.PostfixRequest.{PostfixRequest}
 use Rattle.dsn_postfix.specs.declared.postfix_request.PostfixRequest.TheVariants.{Append, Flush, Warn, Verp, One, Trace}
 use Rattle.dsn_postfix_service.specs.requests.CarriedOut.{IsCarriedOut, queue_id_of}
@@ -10,50 +12,73 @@ use Rattle.dsn_postfix_service.specs.requests.RequestStatus.{RequestAnswer, carr
 use Rattle.dsn_postfix_service.specs.requests.ServiceSettings.{SettingsSaid}
 use Rattle.dsn_postfix_service.specs.declared.requests.deed_fault.DeedFault.{DeedFault}
 
-abbrev pub is_flush : PostfixRequest → Bool
-is_flush (Append append) = false
-is_flush (Flush notice) = true
-is_flush (Warn notice) = false
-is_flush (Verp notice delimiters) = true
-is_flush (One notice recipient report) = false
-is_flush (Trace notice) = false
+-- CLEAN (1) and DELRCPT (2) are about the log of the service that is asked, and about no other
+abbrev pub without_flags : NoticeRequest → NoticeRequest
+without_flags notice = record {
+  flags = notice.flags / 4 * 4;
+  queue_name = notice.queue_name;
+  queue_id = notice.queue_id;
+  encoding = notice.encoding;
+  names_sendopts = notice.names_sendopts;
+  send_options = notice.send_options;
+  sender = notice.sender;
+  envelope_id = notice.envelope_id;
+  returns = notice.returns;
+}
 
--- Once a flush of the defer log is answered 0, Postfix removes the message. A bounce log that it still has would never be
--- told after that.
-abbrev pub ends_message : Service → PostfixRequest → Bool
-ends_message Bounce request = false
-ends_message Defer request = is_flush request
-ends_message TraceLog request = false
+-- the flush of its message's bounce log that a flush asks for
+abbrev pub bounce_flush : PostfixRequest → Option PostfixRequest
+bounce_flush (Append append) = None
+bounce_flush (Flush notice) = Some (Flush (without_flags notice))
+bounce_flush (Warn notice) = None
+bounce_flush (Verp notice delimiters) = Some (Verp (without_flags notice) delimiters)
+bounce_flush (One notice recipient report) = None
+bounce_flush (Trace notice) = None
+
+-- The flush that comes before a request to a service, if one does. Once a flush of the defer log is answered 0, Postfix
+-- removes the message. A bounce log that it still has would never be told after that.
+abbrev pub first_flush : Service → PostfixRequest → Option PostfixRequest
+first_flush Bounce request = None
+first_flush Defer request = bounce_flush request
+first_flush TraceLog request = None
 
 -- Letters of both logs are of one kind, about one message and of one moment: so those of the bounce log have serials of
 -- their own.
 abbrev pub bounce_serial : ℕ → ℕ
 bounce_serial serial = (serial + 500000) % 2 ^ 64
 
--- it is asked whether the message has a bounce log, and if so, the same request is carried out on that log
-pub data IsBounceLogTold (settings : SettingsSaid) (request : PostfixRequest) (bytes : List ℕ) (moment serial : ℕ)
-    (answer : RequestAnswer) (gained : List Deed) : Type 0 where
-  unsought : (fault : DeedFault) → gained ≡ LogSought Bounce (queue_id_of request) (Err fault) ∷ []
-      → answer ≡ Ok not_carried_out → IsBounceLogTold settings request bytes moment serial answer gained
-  no_log : gained ≡ LogSought Bounce (queue_id_of request) (Ok false) ∷ []
-      → answer ≡ Ok carried_out → IsBounceLogTold settings request bytes moment serial answer gained
-  told : (more : List Deed) → gained ≡ LogSought Bounce (queue_id_of request) (Ok true) ∷ more
-      → IsCarriedOut settings Bounce request bytes moment serial answer more
-      → IsBounceLogTold settings request bytes moment serial answer gained
+-- The flush of a bounce log is carried out on it. Its own bytes are what is passed on; without memory for these nothing is
+-- done.
+pub data FlushesBounceLog (settings : SettingsSaid) (first : PostfixRequest) (moment serial : ℕ) (answer : RequestAnswer)
+    (gained : List Deed) : Type 0 where
+  no_memory : gained ≡ [] → IsErr answer → FlushesBounceLog settings first moment serial answer gained
+  flushed : (bytes : List ℕ) → IsRequestIn bytes first → IsCarriedOut settings Bounce first bytes moment serial answer gained
+      → FlushesBounceLog settings first moment serial answer gained
+
+-- it is asked whether the message has a bounce log, and if so, that log is flushed
+pub data IsBounceLogTold (settings : SettingsSaid) (first : PostfixRequest) (moment serial : ℕ) (answer : RequestAnswer)
+    (gained : List Deed) : Type 0 where
+  unsought : (fault : DeedFault) → gained ≡ LogSought Bounce (queue_id_of first) (Err fault) ∷ []
+      → answer ≡ Ok not_carried_out → IsBounceLogTold settings first moment serial answer gained
+  no_log : gained ≡ LogSought Bounce (queue_id_of first) (Ok false) ∷ []
+      → answer ≡ Ok carried_out → IsBounceLogTold settings first moment serial answer gained
+  told : (more : List Deed) → gained ≡ LogSought Bounce (queue_id_of first) (Ok true) ∷ more
+      → FlushesBounceLog settings first moment serial answer more
+      → IsBounceLogTold settings first moment serial answer gained
 
 -- the bounce log is told first; unless that is answered 0 the log of the service is left as it is, also by CLEAN
-pub data IsFlushedInTurn (settings : SettingsSaid) (service : Service) (request : PostfixRequest) (bytes : List ℕ)
+pub data IsFlushedInTurn (settings : SettingsSaid) (service : Service) (first request : PostfixRequest) (bytes : List ℕ)
     (moment serial : ℕ) (answer : RequestAnswer) (gained : List Deed) : Type 0 where
-  put_off : is_carried_out answer ≡ false → IsBounceLogTold settings request bytes moment (bounce_serial serial) answer gained
-      → IsFlushedInTurn settings service request bytes moment serial answer gained
-  in_turn : (first rest : List Deed) → gained ≡ first ++ rest
-      → IsBounceLogTold settings request bytes moment (bounce_serial serial) (Ok carried_out) first
+  put_off : is_carried_out answer ≡ false → IsBounceLogTold settings first moment (bounce_serial serial) answer gained
+      → IsFlushedInTurn settings service first request bytes moment serial answer gained
+  in_turn : (before rest : List Deed) → gained ≡ before ++ rest
+      → IsBounceLogTold settings first moment (bounce_serial serial) (Ok carried_out) before
       → IsCarriedOut settings service request bytes moment serial answer rest
-      → IsFlushedInTurn settings service request bytes moment serial answer gained
+      → IsFlushedInTurn settings service first request bytes moment serial answer gained
 
 -- these deeds were done for a request, all of them and in this order, and this answers it
 abbrev pub IsAnswered : SettingsSaid → Service → PostfixRequest → List ℕ → ℕ → ℕ → RequestAnswer → List Deed → Type 0
 IsAnswered settings service request bytes moment serial answer gained =
-    MatchBool (ends_message service request)
-    (IsFlushedInTurn settings service request bytes moment serial answer gained)
+    MatchOption (first_flush service request)
     (IsCarriedOut settings service request bytes moment serial answer gained)
+    (λ first. IsFlushedInTurn settings service first request bytes moment serial answer gained)

@@ -13,6 +13,7 @@ use Rattle.dsn_postfix_service.specs.requests.RequestStatus.{PassesOn, RequestAn
 use Rattle.dsn_postfix_service.specs.requests.ServiceSettings.{SettingsSaid}
 use Rattle.dsn_postfix_service.specs.declared.requests.not_accepted.NotAccepted.{NotAccepted}
 use Rattle.dsn_postfix_service.specs.declared.requests.not_accepted.NotAccepted.TheVariants as not_accepted
+use Rattle.dsn_postfix_service.specs.declared.requests.pass_reason.PassReason.{PassReason}
 use Rattle.dsn_postfix_service.specs.declared.requests.telling.Telling.{Telling}
 use Rattle.dsn_postfix_service.specs.declared.requests.telling.Telling.TheVariants.{Told, Unsayable, RefusedForGood, Failed, NoMemory}
 
@@ -41,7 +42,7 @@ pub data TellsOfMail (settings : SettingsSaid) (service : Service) (request : Po
     (moment serial : ℕ) (found : MailRead) (telling : Telling) (gained : List Deed) : Type 0 where
   no_memory : telling ≡ NoMemory → gained ≡ []
       → TellsOfMail settings service request notice moment serial found telling gained
-  unsayable : telling ≡ Unsayable → gained ≡ [] → CantBeSaid settings service request notice found
+  unsayable : (why : PassReason) → telling ≡ Unsayable why → gained ≡ [] → CantBeSaid settings service request notice found
       → TellsOfMail settings service request notice moment serial found telling gained
   letters : (made : List Letter) → AreLettersAsked settings service request notice moment serial found made
       → TellsLetters settings service request notice found made (places_done service request notice found.log) telling gained
@@ -60,7 +61,7 @@ pub data Tells (settings : SettingsSaid) (service : Service) (request : PostfixR
 abbrev pub EndsTelling : Service → List ℕ → Telling → RequestAnswer → List Deed → Type 0
 EndsTelling service bytes Told answer gained = (gained ≡ []) × (answer ≡ Ok carried_out)
 EndsTelling service bytes Failed answer gained = (gained ≡ []) × (answer ≡ Ok not_carried_out)
-EndsTelling service bytes Unsayable answer gained = PassesOn service bytes answer gained
+EndsTelling service bytes (Unsayable why) answer gained = PassesOn service bytes answer gained
 EndsTelling service bytes RefusedForGood answer gained = PassesOn service bytes answer gained
 EndsTelling service bytes NoMemory answer gained = (gained ≡ []) × IsErr answer
 

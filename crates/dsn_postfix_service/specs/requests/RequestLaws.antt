@@ -4,12 +4,13 @@ use Rattle.dsn_outcome.specs.Letter.{Letter}
 use Rattle.dsn_text.specs.declared.service.Service.{Service}
 use Rattle.dsn_text.specs.declared.service.Service.TheVariants.{Bounce, Defer}
 use Rattle.dsn_postfix.specs.NoticePlan.{notice_asked}
+use Rattle.dsn_postfix.specs.PostfixRequest.{IsRequestIn}
 use Rattle.dsn_postfix.specs.declared.postfix_request.AppendRequest.{AppendRequest}
 use Rattle.dsn_postfix.specs.declared.postfix_request.NoticeRequest.{NoticeRequest}
 use Rattle.dsn_postfix.specs.declared.postfix_request.PostfixRequest.{PostfixRequest}
 use Rattle.dsn_postfix_service.specs.hand_in.HandIn.{is_refused_for_good}
 use Rattle.dsn_postfix_service.specs.requests.AppendDeeds.{record_bytes}
-use Rattle.dsn_postfix_service.specs.requests.AnsweredRequest.{bounce_serial, ends_message}
+use Rattle.dsn_postfix_service.specs.requests.AnsweredRequest.{bounce_serial, first_flush, without_flags}
 use Rattle.dsn_postfix_service.specs.requests.CarriedOut.{IsCarriedOut, must_clean, queue_id_of}
 use Rattle.dsn_postfix_service.specs.requests.Deed.{Appended, Deed, HandedIn, LogRead, LogReleased, LogRemoved, LogSought, MarkedDone, MessageRead, PassedOn}
 use Rattle.dsn_postfix_service.specs.requests.Finishing.{AreMarked}
@@ -127,12 +128,14 @@ pub record IsLeftToPostfix (settings : SettingsSaid) (service : Service) (reques
   pub gained_are : gained ≡ readings service request notice found ++ (tried ++ LogReleased ∷ PassedOn service bytes (Ok 0) ∷ [])
   pub why : IsLeftOver settings service request notice moment serial found tried
 
--- a log of a request to a service, with the first serial of its letters: the service's own, or the bounce log of a message
--- that the request ends
-pub data IsLogOf (service : Service) (request : PostfixRequest) (serial : ℕ) (log : Service) (own_serial : ℕ) : Type 0 where
-  own_log : log ≡ service → own_serial ≡ serial → IsLogOf service request serial log own_serial
-  bounce_log : ends_message service request ≡ true → log ≡ Bounce → own_serial ≡ bounce_serial serial
-      → IsLogOf service request serial log own_serial
+-- a log of a request to a service, with the request about that log and the first serial of its letters: the service's own,
+-- or the bounce log that is flushed first, without CLEAN and DELRCPT
+pub data IsLogOf (service : Service) (request : PostfixRequest) (notice : NoticeRequest) (serial : ℕ) (log : Service)
+    (own_request : PostfixRequest) (own_notice : NoticeRequest) (own_serial : ℕ) : Type 0 where
+  own_log : log ≡ service → own_request ≡ request → own_notice ≡ notice → own_serial ≡ serial
+      → IsLogOf service request notice serial log own_request own_notice own_serial
+  bounce_log : log ≡ Bounce → first_flush service request ≡ Some own_request → own_notice ≡ without_flags notice
+      → own_serial ≡ bounce_serial serial → IsLogOf service request notice serial log own_request own_notice own_serial
 
 -- The log that is removed is one of the request's. The deeds on it follow some earlier ones, and it is removed after them as by
 -- a request that is carried out on it alone.
@@ -141,16 +144,20 @@ pub record IsRemovedInTurn (settings : SettingsSaid) (service : Service) (reques
   pub earlier : List Deed
   pub own : List Deed
   pub before_is : before ≡ earlier ++ own
+  pub own_request : PostfixRequest
+  pub own_notice : NoticeRequest
   pub own_serial : ℕ
-  pub log_is : IsLogOf service request serial log own_serial
-  pub removed : IsRemovedAfter settings log request notice moment own_serial answer own after log id
+  pub log_is : IsLogOf service request notice serial log own_request own_notice own_serial
+  pub removed : IsRemovedAfter settings log own_request own_notice moment own_serial answer own after log id
 
--- a bounce log was found, and the deeds after that hand in its notices
-pub record HandsInOfBounceLog (settings : SettingsSaid) (request : PostfixRequest) (notice : NoticeRequest) (moment serial : ℕ)
-    (gained : List Deed) : Type 0 where
+-- a bounce log was found, and the deeds after that hand in the notices of its flush
+pub record HandsInOfBounceLog (settings : SettingsSaid) (service : Service) (request : PostfixRequest) (notice : NoticeRequest)
+    (moment serial : ℕ) (gained : List Deed) : Type 0 where
+  pub first : PostfixRequest
+  pub first_is : first_flush service request ≡ Some first
   pub own : List Deed
-  pub gained_are : gained ≡ LogSought Bounce (queue_id_of request) (Ok true) ∷ own
-  pub once : HandsInOnce settings Bounce request notice moment (bounce_serial serial) own
+  pub gained_are : gained ≡ LogSought Bounce (queue_id_of first) (Ok true) ∷ own
+  pub once : HandsInOnce settings Bounce first (without_flags notice) moment (bounce_serial serial) own
 
 -- first notices of the bounce log are handed in, if any, and then those of the service's own log
 pub record HandsInInTurn (settings : SettingsSaid) (service : Service) (request : PostfixRequest) (notice : NoticeRequest)
@@ -158,19 +165,21 @@ pub record HandsInInTurn (settings : SettingsSaid) (service : Service) (request 
   pub first : List Deed
   pub rest : List Deed
   pub gained_are : gained ≡ first ++ rest
-  pub of_bounce_log : (hand_ins first ≡ []) ⊎ HandsInOfBounceLog settings request notice moment serial first
+  pub of_bounce_log : (hand_ins first ≡ []) ⊎ HandsInOfBounceLog settings service request notice moment serial first
   pub of_own_log : (hand_ins rest ≡ []) ⊎ HandsInOnce settings service request notice moment serial rest
 
--- First the request was carried out on the bounce log alone: all of its notices were accepted, or none, and Postfix's own
--- service answered 0. Only then was anything done on the defer log.
-pub record IsToldFirst (settings : SettingsSaid) (request : PostfixRequest) (notice : NoticeRequest) (bytes : List ℕ)
-    (moment serial : ℕ) (deeds : List Deed) : Type 0 where
+-- First the flush of the bounce log was carried out on that log alone: all of its notices were accepted, or none, and
+-- Postfix's own service answered 0 to that flush. Only then was anything done on the defer log.
+pub record IsToldFirst (settings : SettingsSaid) (bounce_request request : PostfixRequest) (notice : NoticeRequest)
+    (bytes : List ℕ) (moment serial : ℕ) (deeds : List Deed) : Type 0 where
   pub first : List Deed
   pub rest : List Deed
   pub deeds_are : deeds ≡ first ++ rest
-  pub bounce_log : IsCarriedOut settings Bounce request bytes moment (bounce_serial serial) (Ok carried_out) first
-  pub told : AreToldFirst settings Bounce request notice moment (bounce_serial serial) first
-      ⊎ IsLeftToPostfix settings Bounce request notice bytes moment (bounce_serial serial) first
+  pub own_bytes : List ℕ
+  pub own_bytes_are : IsRequestIn own_bytes bounce_request
+  pub bounce_log : IsCarriedOut settings Bounce bounce_request own_bytes moment (bounce_serial serial) (Ok carried_out) first
+  pub told : AreToldFirst settings Bounce bounce_request (without_flags notice) moment (bounce_serial serial) first
+      ⊎ IsLeftToPostfix settings Bounce bounce_request (without_flags notice) own_bytes moment (bounce_serial serial) first
   pub defer_log : IsCarriedOut settings Defer request bytes moment serial (Ok carried_out) rest
 
 -- an append that is answered 0 stands in its log, or Postfix's own service answered 0 to it

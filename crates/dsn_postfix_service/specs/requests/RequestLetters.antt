@@ -27,18 +27,20 @@ use Rattle.dsn_postfix_service.specs.requests.RequestStatus.{has_flag}
 use Rattle.dsn_postfix_service.specs.requests.ServiceSettings.{SettingsSaid}
 use Rattle.dsn_postfix_service.specs.declared.requests.no_letters.NoLetters.{NoLetters}
 use Rattle.dsn_postfix_service.specs.declared.requests.no_letters.NoLetters.TheVariants.{NoMemory, Unsayable}
+use Rattle.dsn_postfix_service.specs.declared.requests.pass_reason.PassReason.TheVariants.{NoLetter}
 
 -- ---- what notices say of the message
 
 -- when it came and its text are the file's to say; its sender and its envelope id are the request's
-abbrev pub message_said : ℕ → NoticeRequest → List PlacedBytes → MessageSaid
-message_said lifetime notice records = record {
+abbrev pub message_said : SettingsSaid → NoticeRequest → List PlacedBytes → MessageSaid
+message_said settings notice records = record {
   queue_id = notice.queue_id;
   arrival = (said_of_message records).arrival;
   sender = notice.sender;
   envelope_id = notice.envelope_id;
   text = message_text records;
-  lifetime = lifetime;
+  lifetime = settings.lifetime;
+  size_limit = settings.size_limit;
 }
 
 -- ---- letters
@@ -68,7 +70,7 @@ pub record AreLettersAsked (settings : SettingsSaid) (service : Service) (reques
   pub listed : RecordsFrom found.file (first_place found.file) records ending
   pub notices : List NoticeFacts
   pub planned : notices_of settings.double_bounce service request (recipients_of records) found.log ≡ Ok notices
-  pub each : AreLettersOf (message_said settings.lifetime notice records) moment serial notices letters
+  pub each : AreLettersOf (message_said settings notice records) moment serial notices letters
 
 -- some letters, and then that of a notice
 pub record GainsLetter (message : MessageSaid) (moment serial : ℕ) (notice : NoticeFacts) (old new : List Letter) : Type 0 where
@@ -91,17 +93,17 @@ pub record CantBeSaid (settings : SettingsSaid) (service : Service) (request : P
   pub records : List PlacedBytes
   pub ending : QueueEnding
   pub listed : RecordsFrom found.file (first_place found.file) records ending
-  pub unsaid : IsUnsaid (message_said settings.lifetime notice records)
+  pub unsaid : IsUnsaid (message_said settings notice records)
       (notices_of settings.double_bounce service request (recipients_of records) found.log)
 
 -- what a notice that is no letter comes to
 abbrev pub reason_of : LetterFault → NoLetters
 reason_of fault.NoMemory = NoMemory
-reason_of why = Unsayable
+reason_of why = Unsayable (NoLetter why)
 
 -- why there are no letters: they can't be said, or memory was refused
 abbrev pub IsReason : Type 0 → NoLetters → Type 0
-IsReason Unsaid Unsayable = Unsaid
+IsReason Unsaid (Unsayable why) = Unsaid
 IsReason Unsaid NoMemory = Unit {0}
 
 -- ---- who is done after them

@@ -6,6 +6,7 @@ pub record SettingsSaid : Type 0 where
   pub host : List ℕ
   pub double_bounce : List ℕ
   pub lifetime : ℕ
+  pub size_limit : ℕ
 
 -- the texts that the program's references point to
 abbrev pub settings_said_in : ServiceSettings → SettingsSaid
@@ -13,4 +14,5 @@ settings_said_in settings = record {
   host = settings.site.now;
   double_bounce = settings.double_bounce.now;
   lifetime = settings.lifetime;
+  size_limit = settings.size_limit;
 }

@@ -11,7 +11,7 @@ pub enum ClientFault {
     /// The protocol couldn't be announced to it. Nothing was read.
     #[error("the protocol could not be announced")]
     Unannounced,
-    /// It said no list. Nothing was done for it.
+    /// It said no list, or the memory for one was refused. Nothing was done for it.
     #[error("no list was read: {0}")]
     NoList(ListFault),
     /// The system's clock gave no moment. Nothing was done for it.

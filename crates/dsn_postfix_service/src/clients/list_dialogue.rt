@@ -4,20 +4,19 @@ ghost use Rattle.dsn_postfix_service.specs.clients.ListDialogue.{HearsList, Hear
 
 use dsn_device::Stream;
 use dsn_postfix::{ListBuffer, ListFault};
+use std::alloc::Global;
 
-/// Hears a list, as [`ListBuffer::read_next`] reads it. The buffer lends it.
-pub(crate) fn hear_list<'a, S: Stream>(
-    stream: &mut S,
-    buffer: &'a mut ListBuffer,
-) -> Result<&'a [u8], ListFault>
-    ensures heard { IfOk result (λ list. HearsList S.Source stream.old stream.new list.now) }
+/// Hears a list, as [`ListBuffer::read_next`] reads it.
+pub(crate) fn hear_list<S: Stream>(alloc: Global, stream: &mut S) -> Result<Vec<u8>, ListFault>
+    ensures heard { IfOk result (λ list. HearsList S.Source stream.old stream.new list.items) }
     ensures none { IfErr result (λ fault. HearsNoList S.Source stream.old stream.new fault) }
 {
+    let mut buffer = ListBuffer::new(alloc);
     match buffer.read_next(stream) {
         Ok(()) => {}
         Err(fault) => return Err(fault),
     }
-    let Some(list) = buffer.list() else {
+    let Some(list) = buffer.into_list() else {
         unreachable!()
     };
     Ok(list)

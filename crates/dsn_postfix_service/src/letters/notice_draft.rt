@@ -65,12 +65,12 @@ fn postfix_fields(alloc: Global, queue_id: &[u8], sender: &[u8]) -> Result<Vec<u
     Ok(fields)
 }
 
-/// Whether a message goes back whole.
-fn is_returned_whole(part: ReturnedPart, text: &[u8]) -> bool
-    ensures { result ≡ is_returned_whole part text.now }
+/// Whether a message goes back whole, where at most so many bytes do.
+fn is_returned_whole(part: ReturnedPart, size_limit: u32, text: &[u8]) -> bool
+    ensures { result ≡ is_returned_whole part size_limit text.now }
 {
     match part {
-        ReturnedPart::Whole => text.len() <= LONGEST_HEADER,
+        ReturnedPart::Whole => text.len() <= size_limit as usize && text.len() <= LONGEST_HEADER,
         ReturnedPart::Header => false,
     }
 }
@@ -113,7 +113,7 @@ pub(super) fn draft_told(
         return Err(LetterFault::Quotes);
     }
     let fields = postfix_fields(alloc, message.queue_id.bytes(), message.sender)?;
-    let whole = is_returned_whole(notice.returned, message.text);
+    let whole = is_returned_whole(notice.returned, message.size_limit, message.text);
     let parts = DraftParts {
         return_path: &address,
         envelope_id: message.envelope_id,

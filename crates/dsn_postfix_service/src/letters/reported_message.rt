@@ -16,4 +16,6 @@ pub struct ReportedMessage<'a> {
     pub text: &'a [u8],
     /// For how many seconds after it came delivery is tried.
     pub lifetime: u32,
+    /// How many bytes it has at most if it is returned whole.
+    pub size_limit: u32,
 }

@@ -3,7 +3,7 @@ ghost use Rattle.std.specs.Prelude.{◌≡◌, ◌≤◌, length, take, IfErr, I
 ghost use Rattle.std.specs.List.{after_first, before_first, position_or_len};
 ghost use Rattle.dsn_postfix.specs.files.LogRecord.{logged_fields_in};
 ghost use Rattle.dsn_postfix_service.specs.letters.LetterFault.{IsLetterFault};
-ghost use Rattle.dsn_postfix_service.specs.letters.ToldOutcome.{action_said, diagnostic_said, first_told_fault, is_remote_type, is_semicolon, original_said, outcome_told};
+ghost use Rattle.dsn_postfix_service.specs.letters.ToldOutcome.{action_said, diagnostic_said, first_told_fault, is_remote_type, is_semicolon, is_usual_type, original_said, original_told, outcome_told, unless_final};
 ghost use Rattle.dsn_text.specs.Text.{longest_clean};
 
 use crate::letters::letter_fault::LetterFault;
@@ -77,6 +77,38 @@ fn original_said<'a>(said: &'a [u8], rewritten: &'a [u8]) -> TypedText<'a>
     }
 }
 
+/// Whether a type of address is the usual one, which an empty type stands for.
+fn is_usual_type(kind: &[u8]) -> bool
+    ensures { result ≡ is_usual_type kind.now }
+{
+    kind.is_empty() || kind.eq_ignore_ascii_case(b"rfc822")
+}
+
+/// An original recipient, unless it is the final one: the notice says that one anyway.
+fn unless_final<'a>(recipient: &[u8], original: TypedText<'a>) -> TypedText<'a>
+    ensures kind { result.kind.now ≡ (unless_final recipient.now
+        (record { kind = original.entry.kind.now; text = original.entry.text.now })).kind }
+    ensures text { result.text.now ≡ (unless_final recipient.now
+        (record { kind = original.entry.kind.now; text = original.entry.text.now })).text }
+{
+    if is_usual_type(original.kind) && original.text == recipient {
+        return TypedText {
+            kind: b"",
+            text: b"",
+        };
+    }
+    original
+}
+
+/// The original recipient that a notice says of a record.
+fn original_told<'a>(found: &LogRecord<'a>) -> TypedText<'a>
+    ensures kind { result.kind.now ≡ (original_told (logged_fields_in found.now)).kind }
+    ensures text { result.text.now ≡ (original_told (logged_fields_in found.now)).text }
+{
+    let original = original_said(found.dsn_original, found.original_recipient);
+    unless_final(found.recipient, original)
+}
+
 /// The diagnostic with its type, or the mail system's own reason in its place.
 fn diagnostic_said<'a>(kind: &'a [u8], text: &'a [u8], reason: &'a [u8]) -> TypedText<'a>
     ensures kind { result.kind.now ≡ (diagnostic_said kind.now text.now reason.now).kind }
@@ -140,7 +172,7 @@ pub(super) fn outcome_told(
     if !is_remote_type(found.mta_type, found.mta_name) {
         return Err(LetterFault::RemoteType);
     }
-    let original = original_said(found.dsn_original, found.original_recipient);
+    let original = original_told(found);
     let diagnostic = diagnostic_said(found.diagnostic_type, found.diagnostic_text, found.reason);
     let status = plain_status(alloc, found.status)?;
     let types = Types {

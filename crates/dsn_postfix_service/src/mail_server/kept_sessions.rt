@@ -1,97 +1,95 @@
 //! The sessions with the mail server that are kept from one notice to another.
-use crate::hand_in::{HandInFault, Notice, ReplyBuffer, Session, hand_in_over};
+use crate::hand_in::{
+    HandInFault, HandInStep, Notice, ReplyBuffer, ReplyFault, Session, hand_in_over,
+};
 use crate::mail_server::mail_connection::MailServer;
 use crate::queue_folder::Connection;
+use crossbeam_channel::{Receiver, Sender, bounded};
 use dsn_device::Plain;
-use std::alloc::Global;
-use std::mem;
+use std::alloc::{AllocError, Global};
 use std::net::TcpStream;
-use std::sync::{Condvar, Mutex, Wait};
+use std::sync::Wait;
+use std::time::{Clock, Duration};
 
-/// How many notices are handed in at once. Others wait: a notice that was taken is told twice where the process is killed before its log
-/// is removed, and the more go to the server's disk at once, the longer that takes each.
-const MOST_AT_ONCE: u32 = 2;
+/// How many notices are handed in at once. Others wait: a notice that was taken is told twice where
+/// the process is killed before its log is removed, and the more go to the server's disk at once,
+/// the longer that takes each.
+const MOST_AT_ONCE: usize = 2;
+
+/// For how many seconds a notice waits for its turn: so a server that doesn't answer holds no more
+/// requests than these.
+const SECONDS_FOR_TURN: u64 = 60;
 
 /// A session over a socket.
 type MailSession = Session<Plain<Connection<TcpStream>>>;
 
-/// Sessions that nobody uses, and how many are used.
+/// A turn to hand in one notice, with the session that the last one has left.
 #[derive(Drop)]
-struct IdleSessions {
-    /// Those that were used since the last round.
-    fresh: Vec<MailSession>,
-    /// Those that were not.
-    stale: Vec<MailSession>,
-    /// How many notices are handed in just now.
-    at_work: u32,
+struct Turn {
+    session: Option<MailSession>,
+    /// Whether the session was used since the last round.
+    is_fresh: bool,
 }
 
-/// The sessions that are kept: a notice is handed in in one of them, if there is one. There are never more than notices may be
-/// handed in at once.
+/// The turns that nobody has. A notice is handed in by who has one.
 #[derive(Drop)]
 pub(crate) struct KeptSessions {
-    idle: Mutex<IdleSessions>,
-    /// Told of each notice that is no longer handed in.
-    ended: Condvar,
+    back: Sender<Turn>,
+    turns: Receiver<Turn>,
 }
 
 impl KeptSessions {
     /// With no session.
-    pub(crate) fn new(alloc: Global) -> KeptSessions {
-        KeptSessions {
-            idle: Mutex::new(IdleSessions {
-                fresh: Vec::new(alloc),
-                stale: Vec::new(alloc),
-                at_work: 0,
-            }),
-            ended: Condvar::new(),
+    pub(crate) fn new<W: Wait>(alloc: Global, waiting: &W) -> Result<KeptSessions, AllocError> {
+        let (back, turns) = bounded(alloc, MOST_AT_ONCE)?;
+        let kept = KeptSessions { back, turns };
+        for _ in 0..MOST_AT_ONCE {
+            kept.put_back(waiting, None, false);
         }
+        Ok(kept)
     }
 
-    /// Waits until another notice may be handed in, and takes the session that was used last.
-    fn take<W: Wait>(&self, waiting: &W) -> Option<MailSession> {
-        let guard = self.idle.lock(waiting);
-        let mut idle = self
-            .ended
-            .wait_while(waiting, guard, |idle| idle.at_work >= MOST_AT_ONCE);
-        idle.at_work = idle.at_work.saturating_add(1);
-        match idle.fresh.pop() {
-            Some(session) => Some(session),
-            None => idle.stale.pop(),
-        }
+    /// Gives a turn back, with a session that is kept.
+    fn put_back<W: Wait>(&self, waiting: &W, session: Option<MailSession>, is_fresh: bool) {
+        // there is room: no more turns are taken than there are
+        let _ = self.back.try_send(waiting, Turn { session, is_fresh });
     }
 
-    /// Says that a notice is no longer handed in, and keeps the session in which it was accepted. Gives back a session that
-    /// isn't kept.
-    fn put_back<W: Wait>(&self, waiting: &W, session: Option<MailSession>) -> Option<MailSession> {
-        let mut idle = self.idle.lock(waiting);
-        idle.at_work = idle.at_work.saturating_sub(1);
-        self.ended.notify_one();
-        match session {
-            Some(session) if session.may_go_on() => match idle.fresh.push(session) {
-                Ok(()) => None,
-                Err(refused) => Some(refused.value),
-            },
-            left => left,
+    /// The session of a turn, or that of another turn that nobody has.
+    fn session_for<W: Wait>(&self, waiting: &W, turn: Turn) -> Option<MailSession> {
+        if turn.session.is_some() {
+            return turn.session;
         }
+        let other = self.turns.try_recv(waiting).ok()?;
+        self.put_back(waiting, None, false);
+        other.session
     }
 
-    /// Hands a notice to a mail server, in a session that is kept, or else in a new one.
-    pub(crate) fn hand_in<W: Wait>(
+    /// Hands a notice to a mail server, in a session that is kept, or else in a new one. One that
+    /// waits too long for its turn is a greeting that wasn't heard.
+    pub(crate) fn hand_in<W: Wait + Clock>(
         &self,
         waiting: &W,
         server: &mut MailServer<'_>,
         notice: &Notice<'_>,
         reply: &mut ReplyBuffer,
     ) -> Result<(), HandInFault> {
-        let kept = self.take(waiting);
+        let limit = Duration::from_secs(SECONDS_FOR_TURN);
+        let Ok(turn) = self.turns.recv_timeout(waiting, limit) else {
+            return Err(HandInFault::Unheard(HandInStep::Greeting, ReplyFault::Read));
+        };
+        let session = self.session_for(waiting, turn);
         let host = server.host;
-        let (session, handed) = match hand_in_over(server, kept, host, notice, reply) {
+        let (session, handed) = match hand_in_over(server, session, host, notice, reply) {
             Ok(session) => (Some(session), Ok(())),
             Err(fault) => (None, Err(fault)),
         };
-        if let Some(left) = self.put_back(waiting, session) {
-            left.end();
+        match session {
+            Some(session) if !session.may_go_on() => {
+                self.put_back(waiting, None, false);
+                session.end();
+            }
+            kept => self.put_back(waiting, kept, true),
         }
         handed
     }
@@ -99,23 +97,23 @@ impl KeptSessions {
     /// Ends the sessions that weren't used since the call before this one.
     pub(crate) fn end_stale<W: Wait>(&self, waiting: &W) {
         for _ in 0..MOST_AT_ONCE {
-            match self.take_stale(waiting) {
-                Some(session) => session.end(),
-                None => break,
+            let Ok(turn) = self.turns.try_recv(waiting) else {
+                return;
+            };
+            let Turn { session, is_fresh } = turn;
+            if is_fresh {
+                self.put_back(waiting, session, false);
+            } else {
+                self.put_back(waiting, None, false);
+                end(session);
             }
         }
-        self.begin_round(waiting);
     }
+}
 
-    /// Takes a stale session.
-    fn take_stale<W: Wait>(&self, waiting: &W) -> Option<MailSession> {
-        self.idle.lock(waiting).stale.pop()
-    }
-
-    /// Those that are fresh are stale from now on.
-    fn begin_round<W: Wait>(&self, waiting: &W) {
-        let mut guard = self.idle.lock(waiting);
-        let idle: &mut IdleSessions = &mut guard;
-        mem::swap(&mut idle.fresh, &mut idle.stale);
+/// Ends a session, if there is one.
+fn end(session: Option<MailSession>) {
+    if let Some(session) = session {
+        session.end();
     }
 }

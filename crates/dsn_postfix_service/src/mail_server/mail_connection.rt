@@ -4,7 +4,6 @@ use crate::queue_folder::{Connection, PostfixPlace};
 use dsn_device::Plain;
 use dsn_text::MtaName;
 use std::io;
-use std::io::Eprint;
 use std::net::{SocketAddr, TcpStream};
 use std::time::Duration;
 
@@ -22,6 +21,8 @@ pub(crate) struct MailServer<'a> {
     address: &'a SocketAddr,
     /// The name by which it knows the client.
     pub(super) host: &'a MtaName,
+    /// Why the last connection could not be made, if it could not.
+    pub(crate) unconnected: Option<io::Error>,
 }
 
 impl<'a> MailServer<'a> {
@@ -31,6 +32,7 @@ impl<'a> MailServer<'a> {
             rt,
             address: &place.hand_in,
             host: place.host,
+            unconnected: None,
         }
     }
 }
@@ -38,12 +40,12 @@ impl<'a> MailServer<'a> {
 impl Connect<Plain<Connection<TcpStream>>> for MailServer<'_> {
     ghost gives = { λ _ _ _. Unit {0} };
 
-    // Where no connection could be made, that is a greeting that wasn't heard, and a line says why.
+    // If no connection could be made, that is a greeting that wasn't heard.
     fn connect(&mut self) -> Result<Plain<Connection<TcpStream>>, HandInFault> {
         match connect_with_limits(self.rt, self.address) {
             Ok(stream) => Ok(Plain::new(Connection::new(stream))),
             Err(error) => {
-                let _ = eprintln!(self.rt; "{}: {error}", self.address);
+                self.unconnected = Some(error);
                 Err(HandInFault::Unheard(HandInStep::Greeting, ReplyFault::Read))
             }
         }

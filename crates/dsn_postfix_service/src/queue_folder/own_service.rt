@@ -8,7 +8,7 @@ use crate::clients::hear_list;
 use crate::hand_in::say;
 use crate::requests::DeedFault;
 use dsn_device::Stream;
-use dsn_postfix::{ListBuffer, ListFault, decode_status};
+use dsn_postfix::{ListFault, decode_status};
 use std::alloc::Global;
 
 /// The list with which each of Postfix's services begins.
@@ -23,42 +23,42 @@ pub fn ask_own_service<S: Stream>(
 ) -> Result<u32, DeedFault>
     ensures { AsksOwnService S.Source S.Drain stream.old stream.new request.now result }
 {
-    let mut buffer = ListBuffer::new(alloc);
-    match hear_announcement(stream, &mut buffer) {
+    match hear_announcement(alloc, stream) {
         Ok(()) => {}
         Err(why) => return Err(why),
     }
     match say(stream, request) {
-        Ok(()) => hear_status(stream, &mut buffer),
+        Ok(()) => hear_status(alloc, stream),
         Err(_) => Err(DeedFault::Failed),
     }
 }
 
 /// Waits for the announcement.
-fn hear_announcement<S: Stream>(stream: &mut S, buffer: &mut ListBuffer) -> Result<(), DeedFault>
+fn hear_announcement<S: Stream>(alloc: Global, stream: &mut S) -> Result<(), DeedFault>
     ensures heard { OnOk result (HearsList S.Source stream.old stream.new announcement_bytes) }
     ensures none { IfErr result
         (λ why. HearsNoAnnouncement S.Source stream.old stream.new why) }
 {
-    match hear_list(stream, buffer) {
-        Ok(list) if is_announcement(list) => Ok(()),
+    match hear_list(alloc, stream) {
+        Ok(list) if is_announcement(&list) => Ok(()),
         Ok(_) => Err(DeedFault::Failed),
         Err(fault) => Err(deed_fault_of(fault)),
     }
 }
 
 /// Waits for the status.
-fn hear_status<S: Stream>(stream: &mut S, buffer: &mut ListBuffer) -> Result<u32, DeedFault>
+fn hear_status<S: Stream>(alloc: Global, stream: &mut S) -> Result<u32, DeedFault>
     ensures heard { IfOk result
         (λ status. HearsList S.Source stream.old stream.new (status_bytes status)) }
     ensures none { IfErr result (λ why. HearsNoStatus S.Source stream.old stream.new why) }
 {
-    match hear_list(stream, buffer) {
-        Ok(list) => match decode_status(list) {
-            Ok(status) => Ok(status),
-            Err(_) => Err(DeedFault::Failed),
-        },
-        Err(fault) => Err(deed_fault_of(fault)),
+    let list = match hear_list(alloc, stream) {
+        Ok(list) => list,
+        Err(fault) => return Err(deed_fault_of(fault)),
+    };
+    match decode_status(&list) {
+        Ok(status) => Ok(status),
+        Err(_) => Err(DeedFault::Failed),
     }
 }
 

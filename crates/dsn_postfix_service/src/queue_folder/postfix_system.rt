@@ -1,29 +1,31 @@
 //! A running Postfix as a mail system.
 ghost use Rattle.std.specs.Prelude.{None};
 
+use crate::event_log::EventLog;
 use crate::hand_in::{HandInFault, Notice, ReplyBuffer, queue_id_in};
 use crate::mail_server::{KeptSessions, MailServer};
-use crate::queue_folder::ascii_text::ascii_text;
+use crate::queue_folder::ascii_text::{ascii_text, asked_text};
 use crate::queue_folder::connection::Connection;
 use crate::queue_folder::log_file::{
-    append_synced, has_bytes, open_locked, open_or_make, read_whole, remove_if_there,
+    append_synced, has_bytes, is_there, open_locked, open_or_make, read_whole, remove_if_there,
 };
 use crate::queue_folder::message_file::{mark_done, open_shared};
-use crate::queue_folder::notice_words::{FAILURE_NOTICE, notice_kind};
+use crate::queue_folder::notice_words::{FAILURE_NOTICE, is_discarded, notice_kind};
 use crate::queue_folder::own_service::ask_own_service;
 use crate::queue_folder::postfix_place::PostfixPlace;
-use crate::queue_folder::queue_path::path_in_queue;
+use crate::queue_folder::queue_files::{log_elsewhere, log_path, path_of};
 use crate::queue_folder::service_name::service_name;
-use crate::requests::{DeedFault, MailSystem, queue_id_of};
+use crate::requests::{DeedFault, MailSystem, PassReason, queue_id_of};
 use dsn_device::Plain;
 use dsn_postfix::{PostfixRequest, QueueName};
 use dsn_text::{Address, QueueId, Service};
 use std::alloc::Global;
+use std::fmt::Display;
 use std::fs::File;
-use std::io::{Eprint, Error, ErrorKind};
+use std::io::ErrorKind;
 use std::os::unix::net::UnixStream;
 use std::sync::Wait;
-use std::time::Duration;
+use std::time::{Clock, Duration};
 use std::{fs, io};
 
 /// For how many seconds is waited for each piece of what Postfix's own service says: as long as its programs
@@ -43,6 +45,10 @@ pub(crate) struct PostfixSystem<'a, W> {
     place: &'a PostfixPlace<'a>,
     /// The sessions with the mail server that all threads share.
     sessions: &'a KeptSessions,
+    /// Where its lines go.
+    events: &'a EventLog,
+    /// The sender of notices about notices.
+    double_bounce: &'a [u8],
     /// The log that was read and is locked.
     log: Option<File>,
     /// The message's file that was read and is locked.
@@ -51,6 +57,8 @@ pub(crate) struct PostfixSystem<'a, W> {
     asked: Option<QueueId>,
     /// What the line of a notice calls it.
     kind: &'static str,
+    /// Whether the request is about a notice that is dropped.
+    is_discarded: bool,
 }
 
 impl<'a, W> PostfixSystem<'a, W> {
@@ -60,46 +68,27 @@ impl<'a, W> PostfixSystem<'a, W> {
         waiting: &'a W,
         place: &'a PostfixPlace<'a>,
         sessions: &'a KeptSessions,
+        events: &'a EventLog,
+        double_bounce: &'a [u8],
     ) -> PostfixSystem<'a, W> {
         PostfixSystem {
             rt,
             waiting,
             place,
             sessions,
+            events,
+            double_bounce,
             log: None,
             message: None,
             asked: None,
             kind: FAILURE_NOTICE,
+            is_discarded: false,
         }
     }
 
     /// The queue id of the message that the request is about, if there was a request.
     pub(crate) fn asked(&self) -> Option<QueueId> {
         self.asked
-    }
-}
-
-/// The path of a log.
-fn log_path(
-    rt: &HostRuntime,
-    place: &PostfixPlace<'_>,
-    service: Service,
-    id: QueueId,
-) -> io::Result<String> {
-    path_of(rt, place, service_name(service).as_bytes(), id)
-}
-
-/// The path of a file in a queue.
-fn path_of(
-    rt: &HostRuntime,
-    place: &PostfixPlace<'_>,
-    queue: &[u8],
-    id: QueueId,
-) -> io::Result<String> {
-    let depth = place.hashing.depth_of(queue);
-    match path_in_queue(rt.alloc(), place.root.as_bytes(), queue, depth, id) {
-        Ok(path) => String::from_utf8(path).map_err(|_| Error::from(ErrorKind::InvalidFilename)),
-        Err(_) => Err(Error::from(ErrorKind::OutOfMemory)),
     }
 }
 
@@ -118,48 +107,101 @@ fn own_service(
     Ok(Connection::new(stream))
 }
 
-/// Writes the line of a notice that was accepted, as bounce(8) writes it.
-fn log_notice(rt: &HostRuntime, told: Option<QueueId>, kind: &str, reply: &ReplyBuffer) {
-    let (Some(told), Some(notice)) = (told, queue_id_in(reply.last_text())) else {
-        return;
-    };
-    let (told, notice) = (ascii_text(told.bytes()), ascii_text(notice.bytes()));
-    let _ = eprintln!(rt; "{told}: {kind}: {notice}");
-}
+impl<W: Wait + Clock> PostfixSystem<'_, W> {
+    /// Writes the line of a notice that was accepted, as bounce(8) writes it.
+    fn say_notice(&self, reply: &ReplyBuffer) {
+        let (Some(told), Some(notice)) = (self.asked, queue_id_in(reply.last_text())) else {
+            return;
+        };
+        let (told, notice) = (ascii_text(told.bytes()), ascii_text(notice.bytes()));
+        self.events.say(
+            self.waiting,
+            format_args!("{told}: {}: {notice}", self.kind),
+        );
+    }
 
-/// Writes the line of a notice that wasn't accepted.
-fn log_refusal(rt: &HostRuntime, told: Option<QueueId>, fault: &HandInFault, reply: &ReplyBuffer) {
-    let Some(told) = told else {
-        return;
-    };
-    let (told, reply) = (ascii_text(told.bytes()), ascii_text(reply.last_text()));
-    let _ = eprintln!(rt; "{told}: notice not accepted: {fault}: {reply}");
-}
+    /// Writes the line of a notice that wasn't accepted.
+    fn say_refusal(&self, fault: &HandInFault, reply: &ReplyBuffer) {
+        let Some(told) = self.asked else {
+            return;
+        };
+        let (told, reply) = (ascii_text(told.bytes()), ascii_text(reply.last_text()));
+        self.events.say(
+            self.waiting,
+            format_args!("{told}: notice not accepted: {fault}: {reply}"),
+        );
+    }
 
-/// What comes of a deed, as requests see it. A line says why it failed.
-fn deed<T>(rt: &HostRuntime, what: &str, done: io::Result<T>) -> Result<T, DeedFault> {
-    match done {
-        Ok(value) => Ok(value),
-        Err(error) if error.kind() == ErrorKind::OutOfMemory => Err(DeedFault::NoMemory),
-        Err(error) => {
-            let _ = eprintln!(rt; "{what}: {error}");
-            Err(DeedFault::Failed)
+    /// Writes bounce(8)'s line if the request was about a notice that is dropped. It was carried out.
+    pub(crate) fn say_discarded(&self) {
+        if self.is_discarded {
+            let asked = asked_text(&self.asked);
+            self.events.say(
+                self.waiting,
+                format_args!("warning: {asked}: undeliverable postmaster notification discarded"),
+            );
+        }
+    }
+
+    /// Writes the line of a request that is passed on.
+    fn say_passed_on(&self, service: Service, why: &PassReason) {
+        let (asked, name) = (asked_text(&self.asked), service_name(service));
+        self.events.say(
+            self.waiting,
+            format_args!("{asked}: {name}: passed on: {why}"),
+        );
+    }
+
+    /// Whether a log of a message stands where it would be with other settings. A line says so: the log
+    /// is none of those that are told of.
+    fn has_log_elsewhere(&self, service: Service, id: QueueId) -> Result<bool, DeedFault> {
+        let Some(path) = self.deed(PATH, log_elsewhere(self.rt, self.place, service, id))? else {
+            return Ok(false);
+        };
+        let id = ascii_text(id.bytes());
+        self.events.say(
+            self.waiting,
+            format_args!("{id}: a log stands at {path}, where the options have none"),
+        );
+        Ok(true)
+    }
+
+    /// Writes the line of what the system said of a path, an address or a service.
+    fn say_error<D: Display + Drop>(&self, what: D, error: &io::Error) {
+        self.events
+            .say(self.waiting, format_args!("{what}: {error}"));
+    }
+
+    /// What comes of a deed, as requests see it. A line says why it failed.
+    fn deed<T>(&self, what: &str, done: io::Result<T>) -> Result<T, DeedFault> {
+        match done {
+            Ok(value) => Ok(value),
+            Err(error) if error.kind() == ErrorKind::OutOfMemory => Err(DeedFault::NoMemory),
+            Err(error) => {
+                self.say_error(what, &error);
+                Err(DeedFault::Failed)
+            }
         }
     }
 }
 
-impl<W: Wait> MailSystem for PostfixSystem<'_, W> {
+impl<W: Wait + Clock> MailSystem for PostfixSystem<'_, W> {
     ghost deeds = { λ _. None };
 
     fn begin(&mut self, request: &PostfixRequest<'_>) {
         self.kind = notice_kind(request);
+        self.is_discarded = is_discarded(request, self.double_bounce);
         self.asked = Some(queue_id_of(request));
     }
 
     fn has_log(&mut self, service: Service, id: QueueId) -> Result<bool, DeedFault> {
         let (rt, place): (&HostRuntime, &PostfixPlace<'_>) = (self.rt, self.place);
-        let path = deed(rt, PATH, log_path(rt, place, service, id))?;
-        deed(rt, path.as_str(), has_bytes(rt, path.as_str()))
+        let path = self.deed(PATH, log_path(rt, place, service, id))?;
+        if self.deed(path.as_str(), has_bytes(rt, path.as_str()))? {
+            return Ok(true);
+        }
+        self.has_log_elsewhere(service, id)?;
+        Ok(false)
     }
 
     fn read_log(
@@ -170,11 +212,12 @@ impl<W: Wait> MailSystem for PostfixSystem<'_, W> {
     ) -> Result<Option<Vec<u8>>, DeedFault> {
         let (rt, place): (&HostRuntime, &PostfixPlace<'_>) = (self.rt, self.place);
         self.log = None;
-        let path = deed(rt, PATH, log_path(rt, place, service, id))?;
-        let Some(file) = deed(rt, path.as_str(), open_locked(rt, path.as_str()))? else {
+        let path = self.deed(PATH, log_path(rt, place, service, id))?;
+        let Some(file) = self.deed(path.as_str(), open_locked(rt, path.as_str()))? else {
+            self.has_log_elsewhere(service, id)?;
             return Ok(None);
         };
-        let bytes = deed(rt, path.as_str(), read_whole(rt, &file))?;
+        let bytes = self.deed(path.as_str(), read_whole(rt, &file))?;
         self.log = Some(file);
         Ok(Some(bytes))
     }
@@ -186,15 +229,20 @@ impl<W: Wait> MailSystem for PostfixSystem<'_, W> {
         bytes: &[u8],
     ) -> Result<(), DeedFault> {
         let (rt, place): (&HostRuntime, &PostfixPlace<'_>) = (self.rt, self.place);
-        let path = deed(rt, PATH, log_path(rt, place, service, id))?;
-        let file = deed(rt, path.as_str(), open_or_make(rt, path.as_str()))?;
-        deed(rt, path.as_str(), append_synced(&file, bytes))
+        let path = self.deed(PATH, log_path(rt, place, service, id))?;
+        let is_new = !self.deed(path.as_str(), is_there(rt, path.as_str()))?;
+        // the queue manager would look for that one, and never ask for the notice of a new one
+        if is_new && self.has_log_elsewhere(service, id)? {
+            return Err(DeedFault::Failed);
+        }
+        let file = self.deed(path.as_str(), open_or_make(rt, path.as_str()))?;
+        self.deed(path.as_str(), append_synced(&file, bytes))
     }
 
     fn remove_log(&mut self, service: Service, id: QueueId) -> Result<(), DeedFault> {
         let (rt, place): (&HostRuntime, &PostfixPlace<'_>) = (self.rt, self.place);
-        let path = deed(rt, PATH, log_path(rt, place, service, id))?;
-        let removed = deed(rt, path.as_str(), remove_if_there(rt, path.as_str()));
+        let path = self.deed(PATH, log_path(rt, place, service, id))?;
+        let removed = self.deed(path.as_str(), remove_if_there(rt, path.as_str()));
         self.log = None;
         removed
     }
@@ -207,11 +255,11 @@ impl<W: Wait> MailSystem for PostfixSystem<'_, W> {
     ) -> Result<Vec<u8>, DeedFault> {
         let (rt, place): (&HostRuntime, &PostfixPlace<'_>) = (self.rt, self.place);
         self.message = None;
-        let path = deed(rt, PATH, path_of(rt, place, queue.bytes(), id))?;
-        let Some(file) = deed(rt, path.as_str(), open_shared(rt, path.as_str()))? else {
+        let path = self.deed(PATH, path_of(rt, place, queue.bytes(), id))?;
+        let Some(file) = self.deed(path.as_str(), open_shared(rt, path.as_str()))? else {
             return Ok(Vec::new(rt.alloc()));
         };
-        let bytes = deed(rt, path.as_str(), read_whole(rt, &file))?;
+        let bytes = self.deed(path.as_str(), read_whole(rt, &file))?;
         self.message = Some(file);
         Ok(bytes)
     }
@@ -223,19 +271,17 @@ impl<W: Wait> MailSystem for PostfixSystem<'_, W> {
         reply: &mut ReplyBuffer,
     ) -> Result<(), HandInFault> {
         let (rt, place): (&HostRuntime, &PostfixPlace<'_>) = (self.rt, self.place);
-        let (asked, kind) = (self.asked, self.kind);
         let sessions: &KeptSessions = self.sessions;
         let mut server = MailServer::new(rt, place);
-        match sessions.hand_in(self.waiting, &mut server, &Notice { path, message }, reply) {
-            Ok(()) => {
-                log_notice(rt, asked, kind, reply);
-                Ok(())
-            }
-            Err(fault) => {
-                log_refusal(rt, asked, &fault, reply);
-                Err(fault)
-            }
+        let handed = sessions.hand_in(self.waiting, &mut server, &Notice { path, message }, reply);
+        if let Some(error) = &server.unconnected {
+            self.say_error(place.hand_in, error);
         }
+        match &handed {
+            Ok(()) => self.say_notice(reply),
+            Err(fault) => self.say_refusal(fault, reply),
+        }
+        handed
     }
 
     fn mark_done(
@@ -246,15 +292,23 @@ impl<W: Wait> MailSystem for PostfixSystem<'_, W> {
     ) -> Result<(), DeedFault> {
         let rt: &HostRuntime = self.rt;
         match &self.message {
-            Some(file) => deed(rt, "a recipient's record", mark_done(file, place)),
+            Some(file) => self.deed("a recipient's record", mark_done(file, place)),
             None => Err(DeedFault::Failed),
         }
     }
 
-    fn pass_on(&mut self, service: Service, request: &[u8]) -> Result<u32, DeedFault> {
+    fn pass_on(
+        &mut self,
+        service: Service,
+        request: &[u8],
+        why: PassReason,
+    ) -> Result<u32, DeedFault> {
+        self.say_passed_on(service, &why);
+        // that service says so itself
+        self.is_discarded = false;
         let (rt, place): (&HostRuntime, &PostfixPlace<'_>) = (self.rt, self.place);
         let connected = own_service(rt, place, service);
-        let mut stream = Plain::new(deed(rt, service_name(service), connected)?);
+        let mut stream = Plain::new(self.deed(service_name(service), connected)?);
         ask_own_service(rt.alloc(), &mut stream, request)
     }
 

@@ -1,7 +1,7 @@
 //! Answering one request of Postfix's programs: the bounce log of a message is told before its
 //! defer log.
 ghost use Rattle.std.specs.Prelude.{◌≡◌};
-ghost use Rattle.dsn_postfix_service.specs.requests.AnsweredRequest.{IsAnswered, IsBounceLogTold, IsFlushedInTurn, bounce_serial, ends_message, is_flush};
+ghost use Rattle.dsn_postfix_service.specs.requests.AnsweredRequest.{FlushesBounceLog, IsAnswered, IsBounceLogTold, IsFlushedInTurn, bounce_flush, bounce_serial, first_flush, without_flags};
 ghost use Rattle.dsn_postfix_service.specs.requests.Gains.{Gains};
 ghost use Rattle.dsn_postfix_service.specs.requests.ServiceSettings.{settings_said_in};
 
@@ -9,27 +9,53 @@ use crate::requests::carrying_out::{carry_out, is_carried_out, queue_id_of};
 use crate::requests::mail_system::MailSystem;
 use crate::requests::pass_on::{CARRIED_OUT, NOT_CARRIED_OUT};
 use crate::requests::request_terms::RequestTerms;
-use dsn_postfix::PostfixRequest;
+use dsn_postfix::{NoticeRequest, PostfixRequest, encode_postfix_request};
 use dsn_text::{NoMemory, Service};
 use std::alloc::Global;
 
 /// How far apart the serials of a request's two logs begin.
 const SERIALS_OF_LOG: u64 = 500_000;
 
-/// Whether a request flushes a log: its sender is told that delivery failed.
-fn is_flush(request: &PostfixRequest<'_>) -> bool
-    ensures { result ≡ is_flush request.now }
+/// What a request says of its message, without CLEAN and DELRCPT.
+fn without_flags<'a>(notice: &NoticeRequest<'a>) -> NoticeRequest<'a>
+    ensures { result ≡ without_flags notice.now }
 {
-    matches!(request, PostfixRequest::Flush(_) | PostfixRequest::Verp(..))
+    NoticeRequest {
+        flags: notice.flags / 4 * 4,
+        queue_name: notice.queue_name.lent(),
+        queue_id: notice.queue_id,
+        encoding: notice.encoding.lent(),
+        names_sendopts: notice.names_sendopts,
+        send_options: notice.send_options,
+        sender: notice.sender.lent(),
+        envelope_id: notice.envelope_id.lent(),
+        returns: notice.returns,
+    }
 }
 
-/// Whether a request to a service is the last one about its message.
-fn ends_message(service: Service, request: &PostfixRequest<'_>) -> bool
-    ensures { result ≡ ends_message service request.now }
+/// The flush of its message's bounce log that a flush asks for: its CLEAN and DELRCPT are about the log that it names.
+fn bounce_flush<'a>(request: &PostfixRequest<'a>) -> Option<PostfixRequest<'a>>
+    ensures { result ≡ bounce_flush request.now }
+{
+    match request {
+        PostfixRequest::Flush(notice) => Some(PostfixRequest::Flush(without_flags(notice))),
+        PostfixRequest::Verp(notice, delimiters) => {
+            Some(PostfixRequest::Verp(without_flags(notice), delimiters.lent()))
+        }
+        PostfixRequest::Append(_)
+        | PostfixRequest::Warn(_)
+        | PostfixRequest::One(..)
+        | PostfixRequest::Trace(_) => None,
+    }
+}
+
+/// The flush that comes before a request to a service, if one does.
+fn first_flush<'a>(service: Service, request: &PostfixRequest<'a>) -> Option<PostfixRequest<'a>>
+    ensures { result ≡ first_flush service request.now }
 {
     match service {
-        Service::Defer => is_flush(request),
-        Service::Bounce | Service::Trace => false,
+        Service::Defer => bounce_flush(request),
+        Service::Bounce | Service::Trace => None,
     }
 }
 
@@ -40,18 +66,16 @@ fn bounce_serial(first_serial: u64) -> u64
     first_serial.wrapping_add(SERIALS_OF_LOG)
 }
 
-/// Asks whether the message of a request has a bounce log, and if so, carries the request out on
-/// that log.
-fn tell_bounce_log<M: MailSystem>(
+/// Carries out the flush of a bounce log that was found, by the bytes of that flush.
+fn flush_bounce_log<M: MailSystem>(
     alloc: Global,
     terms: &RequestTerms<'_>,
-    request: &PostfixRequest<'_>,
-    bytes: &[u8],
+    first: &PostfixRequest<'_>,
     system: &mut M,
 ) -> Result<u32, NoMemory>
     ensures { Gains M.deeds system.old system.new
-        (IsBounceLogTold (settings_said_in terms.now.settings.now) request.now bytes.now
-        terms.now.moment (bounce_serial terms.now.first_serial) result) }
+        (FlushesBounceLog (settings_said_in terms.now.settings.now) first.now terms.now.moment
+        (bounce_serial terms.now.first_serial) result) }
 {
     let bounce_terms = RequestTerms {
         settings: terms.settings,
@@ -59,26 +83,44 @@ fn tell_bounce_log<M: MailSystem>(
         moment: terms.moment,
         first_serial: bounce_serial(terms.first_serial),
     };
-    match system.has_log(Service::Bounce, queue_id_of(request)) {
-        Ok(true) => carry_out(alloc, &bounce_terms, request, bytes, system),
+    match encode_postfix_request(alloc, first) {
+        Ok(bytes) => carry_out(alloc, &bounce_terms, first, &bytes, system),
+        Err(refused) => Err(refused),
+    }
+}
+
+/// Asks whether a message has a bounce log, and if so, carries out the flush of that log.
+fn tell_bounce_log<M: MailSystem>(
+    alloc: Global,
+    terms: &RequestTerms<'_>,
+    first: &PostfixRequest<'_>,
+    system: &mut M,
+) -> Result<u32, NoMemory>
+    ensures { Gains M.deeds system.old system.new
+        (IsBounceLogTold (settings_said_in terms.now.settings.now) first.now terms.now.moment
+        (bounce_serial terms.now.first_serial) result) }
+{
+    match system.has_log(Service::Bounce, queue_id_of(first)) {
+        Ok(true) => flush_bounce_log(alloc, terms, first, system),
         Ok(false) => Ok(CARRIED_OUT),
         Err(_) => Ok(NOT_CARRIED_OUT),
     }
 }
 
-/// Flushes the bounce log of a message, if it has one, and only then the log of a service.
+/// Flushes the bounce log of a message, if it has one, and only then carries out a request on the log of its service.
 fn flush_in_turn<M: MailSystem>(
     alloc: Global,
     terms: &RequestTerms<'_>,
+    first: &PostfixRequest<'_>,
     request: &PostfixRequest<'_>,
     bytes: &[u8],
     system: &mut M,
 ) -> Result<u32, NoMemory>
     ensures { Gains M.deeds system.old system.new
-        (IsFlushedInTurn (settings_said_in terms.now.settings.now) terms.now.service request.now
-        bytes.now terms.now.moment terms.now.first_serial result) }
+        (IsFlushedInTurn (settings_said_in terms.now.settings.now) terms.now.service first.now
+        request.now bytes.now terms.now.moment terms.now.first_serial result) }
 {
-    let told = tell_bounce_log(alloc, terms, request, bytes, system);
+    let told = tell_bounce_log(alloc, terms, first, system);
     if !is_carried_out(&told) {
         return told;
     }
@@ -117,9 +159,8 @@ pub fn answer_request<M: MailSystem>(
         (IsAnswered (settings_said_in terms.now.settings.now) terms.now.service request.now bytes.now
         terms.now.moment terms.now.first_serial result) }
 {
-    if ends_message(terms.service, request) {
-        flush_in_turn(alloc, terms, request, bytes, system)
-    } else {
-        carry_out(alloc, terms, request, bytes, system)
+    match first_flush(terms.service, request) {
+        Some(first) => flush_in_turn(alloc, terms, &first, request, bytes, system),
+        None => carry_out(alloc, terms, request, bytes, system),
     }
 }

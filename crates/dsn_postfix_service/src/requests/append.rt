@@ -5,6 +5,7 @@ ghost use Rattle.dsn_postfix_service.specs.requests.Gains.{Gains};
 
 use crate::requests::mail_system::MailSystem;
 use crate::requests::pass_on::{CARRIED_OUT, NOT_CARRIED_OUT, pass_on};
+use crate::requests::pass_reason::PassReason;
 use dsn_postfix::{AppendRequest, logged_as};
 use dsn_text::{NoMemory, Service};
 use std::alloc::Global;
@@ -22,8 +23,9 @@ pub(super) fn append<M: MailSystem>(
     ensures { Gains M.deeds system.old system.new
         (IsAppended service request.now bytes.now result) }
 {
-    let Ok(found) = logged_as(service, request) else {
-        return Ok(pass_on(system, service, bytes));
+    let found = match logged_as(service, request) {
+        Ok(found) => found,
+        Err(field) => return Ok(pass_on(system, service, bytes, PassReason::NoRecord(field))),
     };
     let Ok(record) = found.log_bytes(alloc) else {
         return Err(NoMemory);

@@ -7,7 +7,7 @@ ghost use Rattle.dsn_postfix.specs.declared.postfix_request.AppendRequest.{Appen
 ghost use Rattle.dsn_postfix.specs.declared.postfix_request.NoticeRequest.{NoticeRequest};
 ghost use Rattle.dsn_postfix.specs.declared.postfix_request.PostfixRequest.{PostfixRequest};
 ghost use Rattle.dsn_postfix.specs.declared.postfix_request.PostfixRequest.TheVariants.{Append};
-ghost use Rattle.dsn_postfix_service.specs.requests.AnsweredRequest.{IsAnswered, is_flush};
+ghost use Rattle.dsn_postfix_service.specs.requests.AnsweredRequest.{IsAnswered, bounce_flush};
 ghost use Rattle.dsn_postfix_service.specs.requests.CarriedOut.{IsCarriedOut};
 ghost use Rattle.dsn_postfix_service.specs.requests.Deed.{Answer, Deed, LogRemoved, LogSought};
 ghost use Rattle.dsn_postfix_service.specs.requests.RequestLaws.{HandsInInTurn, HandsInOnce, IsRemovedAfter, IsRemovedInTurn, IsTellingDone, IsToldFirst, StandsOrIsPassedOn, hand_ins};
@@ -21,8 +21,9 @@ ghost use Rattle.dsn_text.specs.declared.service.Service.TheVariants.{Bounce, De
 /// marked as done where it asks for that. So a crash at any moment of a request without CLEAN leaves the log, or the mail
 /// server has all notices of what was read, or the request was passed on, and the log is left to Postfix's own service. The
 /// only other removal is the one that CLEAN asks for: it is the last deed of a request that isn't answered status 0. A request
-/// that is answered may do other deeds first. Then the log is the service's own, or the bounce log where the request ends its
-/// message; the deeds on it stand in a row right before its removal, and the same is true of these.
+/// that is answered may do other deeds first. Then the log is the service's own, or the bounce log that is flushed first; the
+/// deeds on it stand in a row right before its removal, and the same is true of these. CLEAN removes no bounce log that is
+/// flushed first.
 pub fn logs_are_removed_after_acceptance()
     ensures carried_out { (settings : SettingsSaid) (service : Service) (request : PostfixRequest)
         (notice : NoticeRequest) (bytes : List ℕ) (moment serial : ℕ) (answer : RequestAnswer)
@@ -93,17 +94,17 @@ pub fn answered_appends_stand()
         → StandsOrIsPassedOn service request bytes gained }
 {}
 
-/// Where a flush of the defer log is answered 0, and a bounce log was found, that log was read, and each letter of each notice
+/// If a flush of the defer log is answered 0, and a bounce log was found, that log was read, and each letter of each notice
 /// of it was accepted before the first deed on the defer log; or none was, and Postfix's own service answered 0 to the flush
-/// of the bounce log.
+/// of the bounce log, which has neither CLEAN nor DELRCPT.
 pub fn bounce_logs_are_told_first()
-    ensures { (settings : SettingsSaid) (request : PostfixRequest) (notice : NoticeRequest)
+    ensures { (settings : SettingsSaid) (first request : PostfixRequest) (notice : NoticeRequest)
         (bytes : List ℕ) (moment serial : ℕ) (answer : RequestAnswer) (gained deeds : List Deed)
         (named : List ℕ)
-        → is_flush request ≡ true
+        → bounce_flush request ≡ Some first
         → notice_asked request ≡ Some notice
         → IsAnswered settings Defer request bytes moment serial answer gained
         → answer ≡ Ok 0
         → gained ≡ LogSought Bounce named (Ok true) ∷ deeds
-        → IsToldFirst settings request notice bytes moment serial deeds }
+        → IsToldFirst settings first request notice bytes moment serial deeds }
 {}

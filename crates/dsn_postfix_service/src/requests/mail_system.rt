@@ -7,6 +7,7 @@ ghost use Rattle.dsn_postfix_service.specs.requests.Gains.{with_deeds};
 
 use crate::hand_in::{HandInFault, ReplyBuffer};
 use crate::requests::deed_fault::DeedFault;
+use crate::requests::pass_reason::PassReason;
 use dsn_postfix::{PostfixRequest, QueueName};
 use dsn_text::{Address, QueueId, Service};
 use std::alloc::Global;
@@ -89,8 +90,13 @@ pub trait MailSystem {
             ≡ with_deeds (deeds self.old) (MarkedDone queue.now id place result ∷ []) };
 
     /// Passes a request on to Postfix's own service of that name, and says the status that it
-    /// answers.
-    fn pass_on(&mut self, service: Service, request: &[u8]) -> Result<u32, DeedFault>
+    /// answers. The reason is for a line of the system's alone, and no part of the deed.
+    fn pass_on(
+        &mut self,
+        service: Service,
+        request: &[u8],
+        why: PassReason,
+    ) -> Result<u32, DeedFault>
         ensures { deeds self.new
             ≡ with_deeds (deeds self.old) (PassedOn service request.now result ∷ []) };
 

@@ -14,6 +14,7 @@ use crate::requests::no_letters::NoLetters;
 use crate::requests::not_accepted::NotAccepted;
 use crate::requests::notice_task::NoticeTask;
 use crate::requests::pass_on::{CARRIED_OUT, NOT_CARRIED_OUT, pass_on};
+use crate::requests::pass_reason::PassReason;
 use crate::requests::request_terms::RequestTerms;
 use crate::requests::service_settings::ServiceSettings;
 use crate::requests::telling::Telling;
@@ -74,7 +75,7 @@ fn tell_of_mail<M: MailSystem>(
 {
     match make_letters(alloc, task, found) {
         Ok(made) => tell_letters(alloc, task, found, &made, system),
-        Err(NoLetters::Unsayable) => Telling::Unsayable,
+        Err(NoLetters::Unsayable(why)) => Telling::Unsayable(why),
         Err(NoLetters::NoMemory) => Telling::NoMemory,
     }
 }
@@ -105,7 +106,8 @@ fn end_telling<M: MailSystem>(
     match telling {
         Telling::Told => Ok(CARRIED_OUT),
         Telling::Failed => Ok(NOT_CARRIED_OUT),
-        Telling::Unsayable | Telling::RefusedForGood => Ok(pass_on(system, service, bytes)),
+        Telling::Unsayable(why) => Ok(pass_on(system, service, bytes, why)),
+        Telling::RefusedForGood => Ok(pass_on(system, service, bytes, PassReason::Refused)),
         Telling::NoMemory => Err(NoMemory),
     }
 }

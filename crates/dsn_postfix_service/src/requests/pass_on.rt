@@ -4,6 +4,7 @@ ghost use Rattle.dsn_postfix_service.specs.requests.Gains.{Gains};
 ghost use Rattle.dsn_postfix_service.specs.requests.RequestStatus.{PassesOn};
 
 use crate::requests::mail_system::MailSystem;
+use crate::requests::pass_reason::PassReason;
 use dsn_text::Service;
 
 /// The status that says that a request was carried out.
@@ -13,10 +14,15 @@ pub(super) const CARRIED_OUT: u32 = 0;
 pub(crate) const NOT_CARRIED_OUT: u32 = 4_294_967_295;
 
 /// Passes a request on to Postfix's own service, and says the status that answers it.
-pub(crate) fn pass_on<M: MailSystem>(system: &mut M, service: Service, bytes: &[u8]) -> u32
+pub(crate) fn pass_on<M: MailSystem>(
+    system: &mut M,
+    service: Service,
+    bytes: &[u8],
+    why: PassReason,
+) -> u32
     ensures { Gains M.deeds system.old system.new (PassesOn service bytes.now (Ok result)) }
 {
-    match system.pass_on(service, bytes) {
+    match system.pass_on(service, bytes, why) {
         Ok(status) => status,
         Err(_) => NOT_CARRIED_OUT,
     }

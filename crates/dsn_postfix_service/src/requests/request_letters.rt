@@ -16,6 +16,7 @@ use crate::letters::{LetterFault, ReportedMessage, letter_of_notice};
 use crate::requests::mail_found::MailFound;
 use crate::requests::no_letters::NoLetters;
 use crate::requests::notice_task::NoticeTask;
+use crate::requests::pass_reason::PassReason;
 use crate::requests::request_terms::RequestTerms;
 use crate::requests::service_settings::ServiceSettings;
 use dsn_outcome::Letter;
@@ -79,7 +80,7 @@ fn reason_of(fault: LetterFault) -> NoLetters
         | LetterFault::Quotes
         | LetterFault::Draft(_)
         | LetterFault::RemoteType
-        | LetterFault::Outcome(_) => NoLetters::Unsayable,
+        | LetterFault::Outcome(_) => NoLetters::Unsayable(PassReason::NoLetter(fault)),
     }
 }
 
@@ -165,6 +166,7 @@ pub(super) fn letters_asked(
         envelope_id: notice.envelope_id.bytes(),
         text: &text,
         lifetime: settings.lifetime,
+        size_limit: settings.size_limit,
     };
     let double_bounce = settings.double_bounce;
     match plan_notices(
@@ -177,6 +179,6 @@ pub(super) fn letters_asked(
     ) {
         Ok(notices) => letters_of(alloc, &message, &notices, terms.moment, terms.first_serial),
         Err(PlanFault::NoMemory) => Err(NoLetters::NoMemory),
-        Err(PlanFault::Unsaid(_)) => Err(NoLetters::Unsayable),
+        Err(PlanFault::Unsaid(why)) => Err(NoLetters::Unsayable(PassReason::NoPlan(why))),
     }
 }

@@ -10,4 +10,6 @@ pub struct ServiceSettings<'a> {
     pub double_bounce: &'a [u8],
     /// For how many seconds after a message came its delivery is tried (`maximal_queue_lifetime`).
     pub lifetime: u32,
+    /// How many bytes a message has at most if it is returned whole (`bounce_size_limit`).
+    pub size_limit: u32,
 }

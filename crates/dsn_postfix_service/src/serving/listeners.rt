@@ -1,6 +1,8 @@
 //! The sockets at which Postfix's programs ask.
-use crate::queue_folder::socket_name;
+use crate::queue_folder::{PostfixPlace, check_queues, socket_name};
+use crate::serving::account::{check_owner, own_account, owner_of_sockets};
 use crate::serving::folder_lock::FolderLock;
+use crate::serving::start_fault::StartFault;
 use dsn_text::Service;
 use os::FromRawFd;
 use std::fs::Permissions;
@@ -24,9 +26,12 @@ pub struct Listeners {
 }
 
 impl Listeners {
-    /// Locks the folder and makes its sockets, in place of those that a run before has left. An error
-    /// of the kind `WouldBlock` comes where another process has the lock.
-    pub fn make(rt: &HostRuntime, folder: &str) -> io::Result<Listeners> {
+    /// Locks the folder and makes its sockets, in place of those that a run before has left. Nothing is
+    /// made if the folder belongs to another account, or if the queues aren't hashed as the place says.
+    /// An error of the kind `WouldBlock` says that another process has the lock.
+    pub fn make(rt: &HostRuntime, place: &PostfixPlace<'_>) -> Result<Listeners, StartFault> {
+        check_place(rt, place)?;
+        let folder = place.root;
         let lock = FolderLock::take(rt, folder)?;
         Ok(Listeners {
             bounce: made(rt, folder, Service::Bounce)?,
@@ -37,12 +42,18 @@ impl Listeners {
     }
 
     /// Takes the sockets that whoever started the process listens at, and keeps when it ends:
-    /// descriptors 3 to 5, as sd_listen_fds(3) has them. Then it locks the folder.
+    /// descriptors 3 to 5, as sd_listen_fds(3) has them. Then it locks the folder. Errors are as in
+    /// [`Listeners::make`].
     ///
     /// # Safety
     ///
     /// Nothing else of the process may have these descriptors.
-    pub unsafe fn inherit(rt: &HostRuntime, folder: &str) -> io::Result<Listeners> {
+    pub unsafe fn inherit(
+        rt: &HostRuntime,
+        place: &PostfixPlace<'_>,
+    ) -> Result<Listeners, StartFault> {
+        check_place(rt, place)?;
+        let folder = place.root;
         let bounce = UnixListener::from_raw_fd(3);
         let defer = UnixListener::from_raw_fd(4);
         let trace = UnixListener::from_raw_fd(5);
@@ -62,6 +73,13 @@ impl Listeners {
             Service::Trace => &self.trace,
         }
     }
+}
+
+/// Checks as whom a Postfix is served, and that its queues are hashed as is said.
+fn check_place(rt: &HostRuntime, place: &PostfixPlace<'_>) -> Result<(), StartFault> {
+    check_owner(owner_of_sockets(rt, place.root)?, own_account())?;
+    check_queues(rt, place)?;
+    Ok(())
 }
 
 /// Listens at the socket of a service, in place of one that a run before has left.

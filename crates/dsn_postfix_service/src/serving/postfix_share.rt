@@ -1,10 +1,13 @@
 //! What the threads that serve a Postfix share.
+use crate::event_log::EventLog;
 use crate::mail_server::KeptSessions;
 use crate::queue_folder::PostfixPlace;
 use crate::requests::ServiceSettings;
-use dsn_postfix::PostfixVersion;
-use std::alloc::Global;
+use crate::serving::service_queue::ServiceQueue;
+use dsn_text::Service;
+use std::alloc::{AllocError, Global};
 use std::sync::atomic::{AtomicBool, AtomicU64, Ordering};
+use std::sync::{Arc, Wait};
 
 /// How far apart the first serials of two requests are; those of a request's two logs are half as far
 /// apart. So two logs share a serial only where one of them has more than 500,000 notices. Nothing
@@ -18,10 +21,14 @@ pub(super) struct PostfixShare<'a> {
     pub(super) place: PostfixPlace<'a>,
     /// What its notices need to know.
     pub(super) settings: ServiceSettings<'a>,
-    /// Its version.
-    pub(super) version: PostfixVersion,
     /// The sessions with its mail server.
     pub(super) sessions: KeptSessions,
+    /// Where lines go.
+    pub(super) events: Arc<EventLog, Global>,
+    /// The clients of each service that wait for a thread that makes notices.
+    bounce: ServiceQueue<'a>,
+    defer: ServiceQueue<'a>,
+    trace: ServiceQueue<'a>,
     /// The first serial of the next request's notices.
     serial: AtomicU64,
     /// Whether the run is to end, since a service has no thread.
@@ -32,20 +39,33 @@ pub(super) struct PostfixShare<'a> {
 
 impl<'a> PostfixShare<'a> {
     /// What is shared as the threads of this Postfix start.
-    pub(super) fn new(
+    pub(super) fn new<R: Wait>(
         alloc: Global,
+        waiting: &R,
         place: PostfixPlace<'a>,
         settings: ServiceSettings<'a>,
-        version: PostfixVersion,
-    ) -> PostfixShare<'a> {
-        PostfixShare {
+        events: Arc<EventLog, Global>,
+    ) -> Result<PostfixShare<'a>, AllocError> {
+        Ok(PostfixShare {
             place,
             settings,
-            version,
-            sessions: KeptSessions::new(alloc),
+            sessions: KeptSessions::new(alloc, waiting)?,
+            events,
+            bounce: ServiceQueue::new(alloc)?,
+            defer: ServiceQueue::new(alloc)?,
+            trace: ServiceQueue::new(alloc)?,
             serial: AtomicU64::new(0),
             ending: AtomicBool::new(false),
             accept_failed: AtomicBool::new(false),
+        })
+    }
+
+    /// The clients of a service that wait.
+    pub(super) fn queue(&self, service: Service) -> &ServiceQueue<'a> {
+        match service {
+            Service::Bounce => &self.bounce,
+            Service::Defer => &self.defer,
+            Service::Trace => &self.trace,
         }
     }
 
@@ -54,9 +74,12 @@ impl<'a> PostfixShare<'a> {
         self.serial.fetch_add(SERIALS, Ordering::SeqCst)
     }
 
-    /// Says that the run is to end.
-    pub(super) fn end(&self) {
+    /// Says that the run is to end, also to the threads that wait for a client.
+    pub(super) fn end<R: Wait>(&self, waiting: &R) {
         self.ending.store(true, Ordering::SeqCst);
+        for service in [Service::Bounce, Service::Defer, Service::Trace] {
+            self.queue(service).end_one(waiting);
+        }
     }
 
     /// Whether the run is to end.

@@ -1,23 +1,46 @@
-//! The threads that serve the programs of a Postfix.
-use crate::clients::serve_client;
-use crate::queue_folder::{Connection, PostfixPlace, PostfixSystem, ascii_text, socket_name};
-use crate::requests::ServiceSettings;
+//! The threads that serve the programs of a Postfix: some hear clients and append, and some make
+//! notices, so that no append waits for a mail server.
+use crate::clients::{answer_client, hear_client, refuse_client};
+use crate::event_log::EventLog;
+use crate::queue_folder::{
+    Connection, PostfixPlace, PostfixSystem, ascii_text, asked_text, socket_name,
+};
+use crate::requests::{ServiceSettings, queue_id_of};
+use crate::serving::client_connection::ClientConnection;
 use crate::serving::listeners::{Listeners, wake};
 use crate::serving::postfix_share::PostfixShare;
+use crate::serving::service_queue::{Client, WaitingClient};
 use dsn_device::Plain;
-use dsn_postfix::{ListBuffer, PostfixVersion};
+use dsn_postfix::{PostfixRequest, decode_postfix_request, logged_as};
 use dsn_text::{QueueId, Service};
+use std::alloc::AllocError;
+use std::fmt::Display;
 use std::os::unix::net::UnixStream;
 use std::sync::Wait;
-use std::thread::Threads;
-use std::time::Duration;
+use std::thread::{Scope, Threads};
+use std::time::{Clock, Duration, Instant};
 use std::{io, thread};
 
-/// How many clients of one service are served at once. Others wait to be accepted.
-const WORKERS: u32 = 32;
+/// How many threads of one service hear clients and append. Others wait to be accepted.
+const HEARING: u32 = 32;
 
-/// For how many seconds a client may say nothing, or take nothing.
-const SECONDS_FOR_CLIENT: u64 = 60;
+/// How many threads of one service do all else: what they do may have to wait for the mail server,
+/// for Postfix's own service or for a log's lock.
+const TELLING: u32 = 8;
+
+/// How many clients of one service have seconds to say their lists. Postfix's programs say them at
+/// once, and where so many haven't, further ones have the shorter time.
+const MOST_SLOW: u32 = 8;
+
+/// For how long a client may say its list, in milliseconds.
+const FOR_LIST: u64 = 5_000;
+
+/// The same where others are slow.
+const FOR_LIST_IN_HASTE: u64 = 200;
+
+/// For how many seconds a client may wait for a thread that makes notices. The queue manager asks
+/// anew after 1,000, and then nobody should do what it asked before.
+const SECONDS_IN_QUEUE: u64 = 120;
 
 /// How long a thread waits after an accept that failed, in milliseconds.
 const AFTER_FAILED_ACCEPT: u64 = 100;
@@ -25,86 +48,113 @@ const AFTER_FAILED_ACCEPT: u64 = 100;
 /// How long a session with the mail server is kept that nobody uses, in seconds: so long, or twice.
 const SECONDS_KEPT: u64 = 2;
 
-/// Serves the programs of a Postfix, each on one of the threads of the service that it asks. Where a
-/// thread is refused there are fewer. It comes back only where a service has none. What it does is
-/// told on standard error. The runtime comes a second time as what may start threads and wait.
-pub fn serve_postfix<R: Threads + Wait + Sync>(
-    rt: &HostRuntime,
+/// Serves the programs of a Postfix. A client is heard on one of the threads of the service that it
+/// asks, and an append is done there; for all else it waits for another. Where a thread is refused
+/// there are fewer. It comes back only where a service or the event log has none. The runtime comes a
+/// second time as what may start threads and wait.
+pub fn serve_postfix<'a, R: Threads + Wait + Clock + Copy + Send + Sync + Drop + 'static>(
+    rt: &'a HostRuntime,
     waiting: &R,
     listeners: &Listeners,
-    place: PostfixPlace<'_>,
-    settings: ServiceSettings<'_>,
-    version: PostfixVersion,
-) {
-    let share = PostfixShare::new(rt.alloc(), place, settings, version);
-    serve_all(rt, waiting, listeners, &share);
+    place: PostfixPlace<'a>,
+    settings: ServiceSettings<'a>,
+) -> Result<(), AllocError> {
+    match EventLog::start(rt, waiting) {
+        Ok(events) => {
+            let share = PostfixShare::new(rt.alloc(), waiting, place, settings, events)?;
+            serve_all(rt, waiting, listeners, &share);
+        }
+        Err(error) => {
+            let _ = eprintln!(rt; "the event log could not be begun: {error}");
+        }
+    }
+    Ok(())
 }
 
 /// Serves all clients.
-fn serve_all<R: Threads + Wait + Sync>(
-    rt: &HostRuntime,
+fn serve_all<'a, R: Threads + Wait + Clock + Sync>(
+    rt: &'a HostRuntime,
     waiting: &R,
     listeners: &Listeners,
-    share: &PostfixShare<'_>,
+    share: &PostfixShare<'a>,
 ) {
+    say_start(waiting, share);
     thread::scope(thread::scope_env(), waiting, |scope| {
-        for round in 0..WORKERS {
-            let bounce = scope.spawn(move || serve_each(
-                rt,
-                waiting,
-                listeners,
-                Service::Bounce,
-                share,
-            ));
-            let defer = scope.spawn(move || serve_each(
-                rt,
-                waiting,
-                listeners,
-                Service::Defer,
-                share,
-            ));
-            let trace = scope.spawn(move || serve_each(
-                rt,
-                waiting,
-                listeners,
-                Service::Trace,
-                share,
-            ));
-            if bounce.is_err() || defer.is_err() || trace.is_err() {
-                end_without(rt, share, round);
-                break;
-            }
-        }
+        start_rounds(scope, rt, waiting, listeners, share);
         // without this thread the mail server ends them, by its own time limit
         let _ = scope.spawn(move || end_stale_sessions(rt, waiting, share));
-        print_start(rt, share);
     });
 }
 
-/// Prints that the threads listen, unless the run is to end.
-fn print_start(rt: &HostRuntime, share: &PostfixShare<'_>) {
-    if !share.is_ending() {
-        let host = ascii_text(share.settings.site.bytes());
-        let _ = eprintln!(rt; "listening in {} for {host}", share.place.root);
+/// Starts the threads of each service, up to the first round in which one is refused.
+fn start_rounds<'s, 'a: 's, E: 's, R: Threads + Wait + Clock + Sync>(
+    scope: &Scope<'s, E>,
+    rt: &'a HostRuntime,
+    waiting: &'s R,
+    listeners: &'s Listeners,
+    share: &'s PostfixShare<'a>,
+) {
+    for round in 0..HEARING {
+        if !start_round(scope, rt, waiting, listeners, share, round) {
+            end_without(rt, waiting, share, round);
+            return;
+        }
     }
+}
+
+/// Starts a thread of each service that hears clients, and one that makes notices unless there are
+/// enough. Answers whether none was refused.
+fn start_round<'s, 'a: 's, E: 's, R: Threads + Wait + Clock + Sync>(
+    scope: &Scope<'s, E>,
+    rt: &'a HostRuntime,
+    waiting: &'s R,
+    listeners: &'s Listeners,
+    share: &'s PostfixShare<'a>,
+    round: u32,
+) -> bool {
+    for service in [Service::Bounce, Service::Defer, Service::Trace] {
+        let hearing = scope.spawn(move || hear_each(rt, waiting, listeners, service, share));
+        if hearing.is_err() {
+            return false;
+        }
+        if round < TELLING {
+            let telling = scope.spawn(move || tell_each(rt, waiting, service, share));
+            if telling.is_err() {
+                return false;
+            }
+        }
+    }
+    true
+}
+
+/// Says that the sockets are there.
+fn say_start<R: Wait>(waiting: &R, share: &PostfixShare<'_>) {
+    let (root, host) = (share.place.root, ascii_text(share.settings.site.bytes()));
+    share
+        .events
+        .say(waiting, format_args!("listening in {root} for {host}"));
 }
 
 /// Ends the run where threads were refused in the first round, or says that there are fewer.
-fn end_without(rt: &HostRuntime, share: &PostfixShare<'_>, round: u32) {
-    let _ = eprintln!(rt; "a thread was refused: {round} threads a service");
+fn end_without<R: Wait>(rt: &HostRuntime, waiting: &R, share: &PostfixShare<'_>, round: u32) {
     if round == 0 {
-        share.end();
+        // the process ends before its event log might write it
+        let _ = eprintln!(rt; "a thread was refused: 0 threads a service");
+        share.end(waiting);
         wake(rt, share.place.root);
+    } else {
+        let line = format_args!("a thread was refused: {round} threads a service");
+        share.events.say(waiting, line);
     }
 }
 
-/// Serves one client of a service after another, until the run is to end.
-fn serve_each<R: Wait>(
-    rt: &HostRuntime,
+/// Hears one client of a service after another, until the run is to end.
+fn hear_each<'a, R: Wait + Clock>(
+    rt: &'a HostRuntime,
     waiting: &R,
     listeners: &Listeners,
     service: Service,
-    share: &PostfixShare<'_>,
+    share: &PostfixShare<'a>,
 ) {
     for client in listeners.of(service).incoming() {
         if share.is_ending() {
@@ -113,10 +163,130 @@ fn serve_each<R: Wait>(
         match client {
             Ok(stream) => {
                 share.note_accept();
-                serve_one(rt, waiting, stream, service, share);
+                hear_one(rt, waiting, stream, service, share);
             }
-            Err(error) => wait_after(rt, &error, share),
+            Err(error) => wait_after(rt, waiting, &error, share),
         }
+    }
+}
+
+/// Hears a client. What it asks is done at once if that is an append that the log takes; for all
+/// else it waits.
+fn hear_one<'a, R: Wait + Clock>(
+    rt: &'a HostRuntime,
+    waiting: &R,
+    stream: UnixStream,
+    service: Service,
+    share: &PostfixShare<'a>,
+) {
+    let heard = heard_client(rt, waiting, stream, service, share);
+    let Some(mut client) = heard else {
+        return;
+    };
+    if is_logged(service, &client.list) {
+        answer_one(rt, waiting, &mut client, service, share);
+    } else {
+        let_wait(rt, waiting, client, service, share);
+    }
+}
+
+/// What a client asks, or a line that says why it wasn't heard.
+fn heard_client<'a, R: Wait>(
+    rt: &'a HostRuntime,
+    waiting: &R,
+    stream: UnixStream,
+    service: Service,
+    share: &PostfixShare<'a>,
+) -> Option<Client<'a>> {
+    let queue = share.queue(service);
+    let haste = queue.begin_hearing() >= MOST_SLOW;
+    let within = Duration::from_millis(if haste { FOR_LIST_IN_HASTE } else { FOR_LIST });
+    let heard = match ClientConnection::new(rt, stream, within) {
+        Ok(stream) => match hear_client(rt.alloc(), Plain::new(Connection::new(stream))) {
+            Ok(client) => Some(client),
+            Err(fault) => {
+                say_unheard(waiting, service, share, fault);
+                None
+            }
+        },
+        Err(error) => {
+            say_unheard(waiting, service, share, error);
+            None
+        }
+    };
+    queue.end_hearing();
+    heard
+}
+
+/// Whether a list asks to append a record that the log takes.
+fn is_logged(service: Service, list: &[u8]) -> bool {
+    match decode_postfix_request(list) {
+        Ok(PostfixRequest::Append(append)) => logged_as(service, &append).is_ok(),
+        _ => false,
+    }
+}
+
+/// Lets a client wait for a thread that makes notices. Where too many wait it is told at once that
+/// what it asks can't be done now, and its program asks again.
+fn let_wait<'a, R: Wait>(
+    rt: &'a HostRuntime,
+    waiting: &R,
+    client: Client<'a>,
+    service: Service,
+    share: &PostfixShare<'a>,
+) {
+    let Ok(since) = Instant::now(rt) else {
+        return;
+    };
+    let asking = WaitingClient { client, since };
+    if let Err(refused) = share.queue(service).push(waiting, asking) {
+        refuse_one(rt, waiting, refused, service, share);
+    }
+}
+
+/// Tells a client that what it asks can't be done now, and writes a line.
+fn refuse_one<R: Wait>(
+    rt: &HostRuntime,
+    waiting: &R,
+    refused: WaitingClient<'_>,
+    service: Service,
+    share: &PostfixShare<'_>,
+) {
+    let WaitingClient { mut client, .. } = refused;
+    let asked = match decode_postfix_request(&client.list) {
+        Ok(request) => Some(queue_id_of(&request)),
+        Err(_) => None,
+    };
+    if let Ok(status) = refuse_client(rt.alloc(), &mut client) {
+        say_unserved(waiting, service, share, asked, status);
+    }
+}
+
+/// Does what one client of a service after another waits for, until the run is to end.
+fn tell_each<R: Wait + Clock>(
+    rt: &HostRuntime,
+    waiting: &R,
+    service: Service,
+    share: &PostfixShare<'_>,
+) {
+    for _ in waiting.forever() {
+        let Some(asking) = share.queue(service).next(waiting) else {
+            return;
+        };
+        if has_waited_too_long(rt, asking.since) {
+            refuse_one(rt, waiting, asking, service, share);
+        } else {
+            let WaitingClient { mut client, .. } = asking;
+            answer_one(rt, waiting, &mut client, service, share);
+        }
+    }
+}
+
+/// Whether who waits since this moment should ask anew.
+fn has_waited_too_long(rt: &HostRuntime, since: Instant) -> bool {
+    match since.elapsed(rt) {
+        Ok(waited) => waited.as_secs() >= SECONDS_IN_QUEUE,
+        Err(_) => false,
     }
 }
 
@@ -132,61 +302,69 @@ fn end_stale_sessions<R: Wait>(rt: &HostRuntime, waiting: &R, share: &PostfixSha
 }
 
 /// Waits after an accept that failed. The first of a row of failures has a line.
-fn wait_after(rt: &HostRuntime, error: &io::Error, share: &PostfixShare<'_>) {
+fn wait_after<R: Wait>(rt: &HostRuntime, waiting: &R, error: &io::Error, share: &PostfixShare<'_>) {
     if share.note_failed_accept() {
-        let _ = eprintln!(rt; "accept failed: {error}");
+        share
+            .events
+            .say(waiting, format_args!("accept failed: {error}"));
     }
     thread::sleep(rt, Duration::from_millis(AFTER_FAILED_ACCEPT));
 }
 
-/// Serves one client, and writes a line where it wasn't served as it asked.
-fn serve_one<R: Wait>(
+/// Does what a client asks, and writes a line where that wasn't done.
+fn answer_one<R: Wait + Clock>(
     rt: &HostRuntime,
     waiting: &R,
-    stream: UnixStream,
+    client: &mut Client<'_>,
     service: Service,
     share: &PostfixShare<'_>,
 ) {
-    if let Err(error) = set_limits(&stream) {
-        let _ = eprintln!(rt; "{}: client not served: {error}", socket_name(service));
-        return;
-    }
-    let mut system = PostfixSystem::new(rt, waiting, &share.place, &share.sessions);
-    let served = serve_client(
+    let mut system = PostfixSystem::new(
+        rt,
+        waiting,
+        &share.place,
+        &share.sessions,
+        &share.events,
+        share.settings.double_bounce,
+    );
+    let answered = answer_client(
         rt,
         rt.alloc(),
         &share.settings,
-        share.version,
         service,
-        &mut Plain::new(Connection::new(stream)),
-        &mut ListBuffer::new(rt.alloc()),
+        client,
         share.next_serial(),
         &mut system,
     );
-    match served {
-        Ok(0) => {}
-        Ok(status) => print_unserved(rt, service, system.asked(), status),
-        Err(fault) => {
-            let _ = eprintln!(rt; "{}: client not served: {fault}", socket_name(service));
-        }
+    match answered {
+        Ok(0) => system.say_discarded(),
+        Ok(status) => say_unserved(waiting, service, share, system.asked(), status),
+        Err(fault) => say_unheard(waiting, service, share, fault),
     }
 }
 
-/// Writes the line of a request that wasn't carried out.
-fn print_unserved(rt: &HostRuntime, service: Service, asked: Option<QueueId>, status: u32) {
-    let id = match &asked {
-        Some(id) => ascii_text(id.bytes()),
-        None => "no request",
-    };
-    let _ = eprintln!(rt;
-        "{id}: {}: request not carried out: status {status}",
-        socket_name(service)
-    );
+/// Writes the line of a client that wasn't served to the end.
+fn say_unheard<R: Wait, F: Display + Drop>(
+    waiting: &R,
+    service: Service,
+    share: &PostfixShare<'_>,
+    fault: F,
+) {
+    let name = socket_name(service);
+    share.events.say(waiting, format_args!("{name}: client not served: {fault}"));
 }
 
-/// Sets the time limits of a client.
-fn set_limits(stream: &UnixStream) -> io::Result<()> {
-    let limit = Some(Duration::from_secs(SECONDS_FOR_CLIENT));
-    stream.set_read_timeout(limit)?;
-    stream.set_write_timeout(limit)
+/// Writes the line of a request that wasn't carried out.
+fn say_unserved<R: Wait>(
+    waiting: &R,
+    service: Service,
+    share: &PostfixShare<'_>,
+    asked: Option<QueueId>,
+    status: u32,
+) {
+    let (id, name) = (asked_text(&asked), socket_name(service));
+    share.events.say(
+        waiting,
+        format_args!("{id}: {name}: request not carried out: status {status}"),
+    );
 }

@@ -1,8 +1,7 @@
 //! The notices that a request has of a log and a queue file.
 use dsn_postfix::{
-    MessageFacts, NoticeRequest, PlannedNotice, PostfixRequest, PostfixVersion, QueueReader,
-    QueuedRecipient, ReturnedPart, decode_postfix_request, header_of_message, plan_notices,
-    text_of_message,
+    MessageFacts, NoticeRequest, PlannedNotice, PostfixRequest, QueueReader, QueuedRecipient,
+    ReturnedPart, decode_postfix_request, header_of_message, plan_notices, text_of_message,
 };
 use dsn_postfix_service::{LetterFault, ReportedMessage, letter_of_notice};
 use dsn_report::{Site, notice};
@@ -13,6 +12,9 @@ const DOUBLE_BOUNCE: &[u8] = b"double-bounce@mx.example.net";
 
 /// For how many seconds Postfix tries a delivery, unless it is told otherwise.
 const LIFETIME: u32 = 432_000;
+
+/// How many bytes a message has at most that Postfix returns whole, unless it is told otherwise.
+const SIZE_LIMIT: u32 = 50_000;
 
 /// The bytes at the front that a length in four bytes stands before, and those after them.
 pub(crate) fn first_part(bytes: &[u8]) -> Option<(&[u8], &[u8])> {
@@ -93,6 +95,7 @@ fn push_text(
         envelope_id: asked.envelope_id.bytes(),
         text: message,
         lifetime: LIFETIME,
+        size_limit: SIZE_LIMIT,
     };
     match letter_of_notice(rt.alloc(), &about, planned, Stamp::new(1_700_000_000)?, 0) {
         Ok(letter) => push_part(text, rt, "text", &notice(rt.alloc(), &site, &letter).ok()?),
@@ -128,7 +131,7 @@ pub(crate) fn planned(rt: &HostRuntime, service: Service, given: &[u8]) -> Optio
     let (request, rest) = first_part(given)?;
     let (log, rest) = first_part(rest)?;
     let (file, _) = first_part(rest)?;
-    let request = decode_postfix_request(PostfixVersion::V3_7, request).ok()?;
+    let request = decode_postfix_request(request).ok()?;
     let asked = notice_asked(&request)?;
     let facts = MessageFacts::read(file).ok()?;
     let queued = recipients(rt, file)?;

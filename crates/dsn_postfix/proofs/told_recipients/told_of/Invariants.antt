@@ -1,16 +1,17 @@
--- Those who are told of the records so far, the last first, and whom these name.
+-- The outcomes that are told of the records so far, the last first, and all outcomes of these that are to be told.
 use Rattle.std.proofs.Common.{◌≡◌, ◌≤◌, drop, length, map, reverse}
 use Rattle.dsn_postfix.specs.files.LogRecord.{logged_fields_in}
-use Rattle.dsn_postfix.specs.NoticePlan.{told_of}
+use Rattle.dsn_postfix.specs.NoticePlan.{last_of_each}
 use Rattle.dsn_postfix.specs.files.QueueRecipients.{recipient_facts_in}
-use Rattle.dsn_postfix.specs.RecipientSet.{HasNamed}
+use Rattle.dsn_postfix.specs.RecipientSet.{HasOutcomes}
+use Rattle.dsn_postfix.proofs.ToldLemmas.{wanted_in}
 use Rattle.dsn_postfix.proofs.told_recipients.told_of.Given as goal
 
 abbrev pub invariant-loop-left : goal.invariant-loop-left
 invariant-loop-left l = record {
   within : l.left ≤ length l.records;
-  seen : HasNamed l.seen (map logged_fields_in (drop l.left l.records));
-  told : reverse (map logged_fields_in l.told.items) ≡ told_of l.fn.service l.request (map recipient_facts_in l.queued) (map logged_fields_in (drop l.left l.records));
+  seen : HasOutcomes l.seen (wanted_in l.fn.service l.request (map recipient_facts_in l.queued) (drop l.left l.records));
+  told : reverse (map logged_fields_in l.told.items) ≡ last_of_each (wanted_in l.fn.service l.request (map recipient_facts_in l.queued) (drop l.left l.records));
 }
 
 abbrev pub decreases-loop-left : goal.decreases-loop-left

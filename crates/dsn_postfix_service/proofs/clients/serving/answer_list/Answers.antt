@@ -11,4 +11,4 @@ returns-in-Ok g c =
 -- it is none
 pub returns-in-Err : goal.returns-in-Err
 returns-in-Err g c =
-    gains_as g.M.MailSystem.deeds _ _ _ _ c.pass_on.ensures (λ gained passes. other c.in-Err.field-0 c.in-Err.ensures.refused passes)
+    gains_as g.M.MailSystem.deeds _ _ _ _ c.pass_on.ensures (λ gained passes. other c.in-Err.fault c.in-Err.ensures.refused passes)

@@ -13,5 +13,5 @@ returns-in-Ok-say g c =
     asked _ _ _ _ _ _ _ c.hear_status.result c.in-Ok.ensures.heard c.in-Ok-say.ensures.said c.hear_status.ensures.heard c.hear_status.ensures.none
 
 -- it wasn't
-pub returns : goal.returns
-returns g c = unasked _ refl c.in-Ok.ensures.heard c.in-Err-say.ensures.part
+pub returns-in-Err-say : goal.returns-in-Err-say
+returns-in-Err-say g c = unasked _ refl c.in-Ok.ensures.heard c.in-Err-say.ensures.part

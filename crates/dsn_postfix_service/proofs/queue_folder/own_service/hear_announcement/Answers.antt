@@ -1,4 +1,5 @@
-use Rattle.std.proofs.Common.{refl}
+use Rattle.std.proofs.Common.{◌≡◌, refl, subst, sym}
+use Rattle.dsn_postfix.specs.PostfixAnswer.{announcement_bytes}
 use Rattle.dsn_postfix_service.specs.queue_folder.OwnService.HearsNoAnnouncement.{none, other}
 use Rattle.dsn_postfix_service.proofs.OwnServiceLemmas.{not_both}
 use Rattle.dsn_postfix_service.proofs.queue_folder.own_service.hear_announcement.Goals as goal
@@ -6,7 +7,7 @@ use Rattle.dsn_postfix_service.proofs.queue_folder.own_service.hear_announcement
 -- another list
 pub returns-in-Ok-2-clause-none : goal.returns-in-Ok-2-clause-none
 returns-in-Ok-2-clause-none g c =
-    other _ refl c.in-Ok.ensures.heard (λ is. not_both _ (c.is_announcement.ensures.1 is) c.if-is_announcement.false)
+    other _ refl c.in-Ok.ensures.heard (λ is. not_both _ (c.is_announcement.ensures.1 (subst (λ list. list ≡ announcement_bytes) (sym c.deref.ensures.value) is)) c.if-is_announcement.false)
 
 -- no list
 pub returns-in-Err-clause-none : goal.returns-in-Err-clause-none

@@ -1,9 +1,7 @@
-use Rattle.std.proofs.Common.{List, ℕ, Err, [], ◌∷◌, ap, refl, subst}
+use Rattle.std.proofs.Common.{List, ℕ, Err, [], ◌∷◌, ap, refl}
 use Rattle.dsn_text.specs.declared.service.Service.TheVariants.{Bounce}
 use Rattle.dsn_postfix_service.specs.requests.AnsweredRequest.{bounce_serial, unsought}
-use Rattle.dsn_postfix_service.specs.requests.CarriedOut.{IsCarriedOut}
 use Rattle.dsn_postfix_service.specs.requests.Deed.{LogSought}
-use Rattle.dsn_postfix_service.specs.requests.Gains.{Gains}
 use Rattle.dsn_postfix_service.specs.requests.ServiceSettings.{settings_said_in}
 use Rattle.dsn_postfix_service.proofs.DeedLemmas.{bounce_log_told, gains_one}
 use Rattle.dsn_postfix_service.proofs.requests.answering.tell_bounce_log.Goals as goal
@@ -11,9 +9,8 @@ use Rattle.dsn_postfix_service.proofs.requests.answering.tell_bounce_log.Goals a
 -- there is one
 pub returns-in-Ok-true : goal.returns-in-Ok-true
 returns-in-Ok-true g c =
-    bounce_log_told g.M.MailSystem.deeds _ _ _ (settings_said_in c.args.terms.now.settings.now) c.args.request.now c.args.bytes.now c.args.terms.now.moment (bounce_serial c.args.terms.now.first_serial) c.carry_out.result
-    c.queue_id_of.result c.in-Ok-true.field-0 c.queue_id_of.ensures c.in-Ok-true.field-0-test c.in-Ok-true.ensures
-    (subst (λ (n : ℕ). Gains g.M.MailSystem.deeds c.has_log.new.self c.carry_out.new.system (IsCarriedOut (settings_said_in c.args.terms.now.settings.now) Bounce c.args.request.now c.args.bytes.now c.args.terms.now.moment n c.carry_out.result)) c.bounce_serial.ensures c.carry_out.ensures)
+    bounce_log_told g.M.MailSystem.deeds _ _ _ (settings_said_in c.args.terms.now.settings.now) c.args.first.now c.args.terms.now.moment (bounce_serial c.args.terms.now.first_serial) c.flush_bounce_log.result
+    c.queue_id_of.result c.in-Ok-true.field-0 c.queue_id_of.ensures c.in-Ok-true.field-0-test c.in-Ok-true.ensures c.flush_bounce_log.ensures
 
 -- it isn't known whether there is one
 pub returns-in-Err : goal.returns-in-Err

@@ -5,9 +5,9 @@ use Rattle.dsn_postfix_service.proofs.DeedLemmas.{appended, gains_as}
 use Rattle.dsn_postfix_service.proofs.requests.append.append.Goals as goal
 
 -- no line can say it
-pub returns-in_default : goal.returns-in_default
-returns-in_default g c =
-    gains_as g.M.MailSystem.deeds _ _ _ _ c.pass_on.ensures (λ gained passes. unsayable c.in_default.field-0 c.in_default.ensures.logged passes)
+pub returns-in-Err : goal.returns-in-Err
+returns-in-Err g c =
+    gains_as g.M.MailSystem.deeds _ _ _ _ c.pass_on.ensures (λ gained passes. unsayable c.in-Err.field c.in-Err.ensures.logged passes)
 
 -- it was appended
 pub returns-in-Ok-append_to_log : goal.returns-in-Ok-append_to_log
@@ -19,4 +19,4 @@ returns-in-Ok-append_to_log g c =
 pub returns : goal.returns
 returns g c =
     appended g.M.MailSystem.deeds _ _ c.args.service c.args.request.now c.args.bytes.now _ _ _ c.in-Ok.ensures.logged.1
-    (c.deref.ensures.value ∙ c.in-Ok-log_bytes.ensures.1 ∙ ap logged_bytes c.in-Ok.ensures.logged.0) refl c.in-Err.ensures
+    (c.deref.ensures.value ∙ c.in-Ok-log_bytes.ensures.1 ∙ ap logged_bytes c.in-Ok.ensures.logged.0) refl c.in-Err-append_to_log.ensures

@@ -14,6 +14,7 @@ use Rattle.dsn_postfix.specs.files.QueueWalk.{first_place}
 use Rattle.dsn_postfix_service.specs.letters.ReportedMessage.{MessageSaid}
 use Rattle.dsn_postfix_service.specs.requests.MailFound.{mail_read_in}
 use Rattle.dsn_postfix_service.specs.requests.RequestLetters.{AreLettersOf, IsUnsaid, has_fault, message_said}
+use Rattle.dsn_postfix_service.specs.requests.ServiceSettings.{settings_said_in}
 use Rattle.dsn_postfix_service.proofs.RequestLetterLemmas.{err_as, ok_as, reason_as}
 use Rattle.dsn_postfix_service.proofs.requests.request_letters.letters_asked.Goals as goal
 
@@ -40,7 +41,7 @@ returns-in-Ok-plan_notices-clause-letters c =
       listed = listing.lists;
       notices = map notice_facts_in notices;
       planned = planned;
-      each = subst (λ (ns : List PlannedNotice). AreLettersOf (message_said c.args.task.now.terms.now.settings.now.lifetime notice records) c.args.task.now.terms.now.moment c.args.task.now.terms.now.first_serial (map notice_facts_in ns) letters.items) c.deref-in-Ok-plan_notices.ensures.value
+      each = subst (λ (ns : List PlannedNotice). AreLettersOf (message_said (settings_said_in c.args.task.now.terms.now.settings.now) notice records) c.args.task.now.terms.now.moment c.args.task.now.terms.now.first_serial (map notice_facts_in ns) letters.items) c.deref-in-Ok-plan_notices.ensures.value
           (subst (λ (message : MessageSaid). AreLettersOf message c.args.task.now.terms.now.moment c.args.task.now.terms.now.first_serial (map notice_facts_in c.deref-in-Ok-plan_notices.result.now) letters.items)
           (λ i. record {
             queue_id = notice.queue_id;
@@ -49,6 +50,7 @@ returns-in-Ok-plan_notices-clause-letters c =
             envelope_id = c.bytes-2.ensures.same i;
             text = text i;
             lifetime = c.args.task.now.terms.now.settings.now.lifetime;
+            size_limit = c.args.task.now.terms.now.settings.now.size_limit;
           }) are);
     })
 
@@ -67,7 +69,7 @@ returns-in-Ok-plan_notices-clause-none c =
     let arrival : c.arrival_said.result ≡ (said_of_message records).arrival = c.arrival_said.ensures records ending (come_from _ c.deref-3.ensures.value) in
     let notice = c.args.task.now.notice.now in
     let notices : List PlannedNotice = c.in-Ok-plan_notices.notices.items in
-    let said : MessageSaid = message_said c.args.task.now.terms.now.settings.now.lifetime notice records in
+    let said : MessageSaid = message_said (settings_said_in c.args.task.now.terms.now.settings.now) notice records in
     let planned : notices_of c.args.task.now.terms.now.settings.now.double_bounce.now c.args.task.now.terms.now.service c.args.task.now.request.now (recipients_of records) (mail_read_in c.args.found.now).log ≡ Ok (map notice_facts_in notices) =
     (λ i. notices_of c.args.task.now.terms.now.settings.now.double_bounce.now c.args.task.now.terms.now.service c.args.task.now.request.now (sym queued i) (sym c.log.ensures i)) ∙ c.in-Ok-plan_notices.ensures in
     err_as c.letters_of.result _ _ c.letters_of.ensures.none (λ why reason.
@@ -85,6 +87,7 @@ returns-in-Ok-plan_notices-clause-none c =
             envelope_id = c.bytes-2.ensures.same i;
             text = text i;
             lifetime = c.args.task.now.terms.now.settings.now.lifetime;
+            size_limit = c.args.task.now.terms.now.settings.now.size_limit;
           }) fault));
     }))
 
@@ -98,12 +101,12 @@ returns-clause-none c =
     λ other is. subst (λ (f : List ℕ). RecordsFrom f (first_place f) records ending) (sym is) listing.lists in
     let queued : map recipient_facts_in c.deref-5.result.now ≡ recipients_of records =
     ap (map recipient_facts_in) c.deref-5.ensures.value ∙ c.in-Ok.ensures records ending (come_from _ c.deref.ensures.value) in
-    let planned : notices_of c.args.task.now.terms.now.settings.now.double_bounce.now c.args.task.now.terms.now.service c.args.task.now.request.now (recipients_of records) (mail_read_in c.args.found.now).log ≡ Err c.in-Err-Unsaid.field-0-0 =
+    let planned : notices_of c.args.task.now.terms.now.settings.now.double_bounce.now c.args.task.now.terms.now.service c.args.task.now.request.now (recipients_of records) (mail_read_in c.args.found.now).log ≡ Err c.in-Err-Unsaid.why =
     (λ i. notices_of c.args.task.now.terms.now.settings.now.double_bounce.now c.args.task.now.terms.now.service c.args.task.now.request.now (sym queued i) (sym c.log.ensures i))
     ∙ subst (λ (why : PlanFault). IsPlanFault (notices_of c.args.task.now.terms.now.settings.now.double_bounce.now c.args.task.now.terms.now.service c.args.task.now.request.now (map recipient_facts_in c.deref-5.result.now) (option_map (λ log. log.now) c.log.result)) why) c.in-Err-Unsaid.field-0-is c.in-Err-Unsaid.ensures in
     record {
       records = records;
       ending = ending;
       listed = listing.lists;
-      unsaid = subst (λ (plan : Result (List NoticeFacts) CantSay). IsUnsaid (message_said c.args.task.now.terms.now.settings.now.lifetime c.args.task.now.notice.now records) plan) (sym planned) tt;
+      unsaid = subst (λ (plan : Result (List NoticeFacts) CantSay). IsUnsaid (message_said (settings_said_in c.args.task.now.terms.now.settings.now) c.args.task.now.notice.now records) plan) (sym planned) tt;
     }

@@ -1,0 +1,22 @@
+use Rattle.std.proofs.Common.{refl, subst}
+use Rattle.dsn_postfix_service.specs.clients.ServedClient.{DoesAsked}
+use Rattle.dsn_postfix_service.specs.clients.ServedClient.AnswersClient.{done}
+use Rattle.dsn_postfix_service.specs.requests.Gains.{Gains}
+use Rattle.dsn_postfix_service.specs.requests.ServiceSettings.{settings_said_in}
+use Rattle.dsn_postfix_service.proofs.clients.serving.answer_client.Goals as goal
+
+-- it was answered
+pub returns-clause-answered : goal.returns-clause-answered
+returns-clause-answered g c =
+    done c.status_said.result
+    (record {
+      moment = c.in-Some.moment;
+      answer = c.answer_list-answer.result;
+      does = subst
+          (λ list. Gains g.M.MailSystem.deeds c.args.system.now c.answer_list-answer.new.system
+          (DoesAsked (settings_said_in c.args.settings.now) c.args.service list c.in-Some.moment c.args.first_serial
+          c.answer_list-answer.result))
+          c.deref.ensures.value c.answer_list-answer.ensures;
+      status_is = c.status_said.ensures;
+    })
+    c.say_status.ensures

@@ -1,0 +1,63 @@
+//! The paths of logs and of messages in the queue folder of a Postfix.
+use crate::queue_folder::log_file::has_bytes;
+use crate::queue_folder::postfix_place::PostfixPlace;
+use crate::queue_folder::queue_check::MOST_DEPTH;
+use crate::queue_folder::queue_path::path_in_queue;
+use crate::queue_folder::service_name::service_name;
+use dsn_text::{QueueId, Service};
+use std::io;
+use std::io::{Error, ErrorKind};
+
+/// The path of a log.
+pub(super) fn log_path(
+    rt: &HostRuntime,
+    place: &PostfixPlace<'_>,
+    service: Service,
+    id: QueueId,
+) -> io::Result<String> {
+    path_of(rt, place, service_name(service).as_bytes(), id)
+}
+
+/// The path of a file in a queue.
+pub(super) fn path_of(
+    rt: &HostRuntime,
+    place: &PostfixPlace<'_>,
+    queue: &[u8],
+    id: QueueId,
+) -> io::Result<String> {
+    path_at(rt, place, queue, place.hashing.depth_of(queue), id)
+}
+
+/// The path of a file that stands so many folders deep in a queue.
+fn path_at(
+    rt: &HostRuntime,
+    place: &PostfixPlace<'_>,
+    queue: &[u8],
+    depth: u32,
+    id: QueueId,
+) -> io::Result<String> {
+    match path_in_queue(rt.alloc(), place.root.as_bytes(), queue, depth, id) {
+        Ok(path) => String::from_utf8(path).map_err(|_| Error::from(ErrorKind::InvalidFilename)),
+        Err(_) => Err(Error::from(ErrorKind::OutOfMemory)),
+    }
+}
+
+/// The path of a log that stands where it would be with other settings, if there is one that isn't
+/// empty.
+pub(super) fn log_elsewhere(
+    rt: &HostRuntime,
+    place: &PostfixPlace<'_>,
+    service: Service,
+    id: QueueId,
+) -> io::Result<Option<String>> {
+    let queue = service_name(service).as_bytes();
+    for depth in 0..=MOST_DEPTH {
+        if depth != place.hashing.depth_of(queue) {
+            let path = path_at(rt, place, queue, depth, id)?;
+            if has_bytes(rt, path.as_str())? {
+                return Ok(Some(path));
+            }
+        }
+    }
+    Ok(None)
+}

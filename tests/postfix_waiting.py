@@ -1,0 +1,198 @@
+"""What `noticed postfix` does where a mail server, or other clients, are slow. An append is answered within a second all
+the same; a request for notices waits for its turn, for a limited time, or is told at once that it can't be done now;
+and a client that doesn't say its list at once is cut off."""
+import os
+import re
+import threading
+import time
+
+from tests.support.daemon_and_clients import until
+from tests.support.postfix_folder import (
+    ANNOUNCEMENT,
+    FAILED,
+    FILES,
+    Client,
+    Postfix,
+    append,
+    at_once,
+    heard_to_end,
+    notice,
+)
+from tests.support.running import Checks
+
+ONE = "090B8A85C9C"  # the queue id of the message `one`
+AT_ONCE = 2  # notices that are handed in at once
+TELLING, WAITING = 8, 200  # of one service: threads that make notices, and requests that wait for one
+SECONDS_FOR_LIST, SECONDS_FOR_TURN = 5, 60
+FURTHER = 20  # requests for notices beyond those that wait
+
+
+def put_messages(it: Postfix, count: int) -> list:
+    """Makes messages with a bounce log each, and returns their queue ids."""
+    ids = [f"A{number}" for number in range(count)]
+    it.at("deferred/A").mkdir()
+    for message in ids:
+        it.at(f"deferred/A/{message}").write_bytes((FILES / "one/queue").read_bytes())
+        it.at(f"bounce/{message}").write_bytes((FILES / "one/bounce").read_bytes())
+    return ids
+
+
+def expect_appends(checks: Checks, it: Postfix, while_: str, services=("bounce", "defer", "trace")):
+    """An append to each service is answered within a second."""
+    for service in services:
+        began = time.monotonic()
+        status = it.ask(service, append(ONE))
+        seconds = time.monotonic() - began
+        checks.true(f"{while_}: an append to {service}: {status} after {seconds:.2f} s", status == 0 and seconds < 1)
+
+
+def check_one_log(checks: Checks):
+    """Appends to one log at once: all stand in it, each whole."""
+    with Postfix() as it:
+        found = at_once(
+            *(lambda text=f"550 number {number}": it.ask("bounce", append(ONE, text=text)) for number in range(40))
+        )
+        log = it.at(f"bounce/{ONE}").read_text()
+        numbers = sorted(map(int, re.findall(r"diag_text=550 number (\d+)", log)))
+        checks.equal("appends to one log", (found, numbers), ([0] * 40, list(range(40))))
+        one = re.sub(r"number \d+", "number", log[: log.index("\n\n", 1) + 2])
+        checks.true("its records are whole", re.sub(r"number \d+", "number", log) == 40 * one)
+
+
+def check_slow_server(checks: Checks):
+    """A server that takes its time: two notices are handed in side by side, and others wait; no append does."""
+    with Postfix() as it:
+        go, waiting, statuses = threading.Event(), [], []
+        it.server.waits["message"] = lambda: (waiting.append(1), go.wait(30))
+        ids = put_messages(it, 60)
+        asking = threading.Thread(
+            target=lambda: statuses.extend(
+                at_once(*(lambda message=message: it.ask("bounce", notice(1, message)) for message in ids))
+            )
+        )
+        asking.start()
+        checks.true("notices that are handed in side by side", until(lambda: len(waiting) >= AT_ONCE))
+        time.sleep(0.5)
+        checks.equal("and no more", len(waiting), AT_ONCE)
+        expect_appends(checks, it, "60 notices wait")
+        go.set()
+        asking.join()
+        checks.equal("all are told", (statuses, len(it.server.taken)), ([0] * len(ids), len(ids)))
+
+
+class Hanging:
+    """A mail server that accepts connections and says nothing, and more requests for notices than wait, from the first
+    step of this script to its last."""
+
+    def __init__(self):
+        self.postfix, self.statuses, self.end = Postfix(), [], threading.Event()
+        self.postfix.server.waits["connect"] = self.end.wait
+        self.began = time.monotonic()
+        self.ids = put_messages(self.postfix, TELLING + WAITING + FURTHER)
+        for message in self.ids:
+            threading.Thread(target=self.ask, args=(message,), daemon=True).start()
+
+    def ask(self, message: str):
+        with Client(self.postfix.folder, "bounce") as client:
+            client.peer.settimeout(4 * SECONDS_FOR_TURN)
+            status = client.ask(notice(1, message))
+            self.statuses.append((time.monotonic() - self.began, status))
+
+    def check_refused(self, checks: Checks):
+        """Those beyond the ones that wait are answered at once, and appends as well."""
+        checks.true(
+            f"further requests are answered at once: {len(self.statuses)}", until(lambda: len(self.statuses) >= FURTHER)
+        )
+        checks.equal("that they weren't carried out", {status for _, status in self.statuses}, {FAILED})
+        checks.true(
+            "each has a line",
+            until(
+                lambda: sum(line.endswith(f"request not carried out: status {FAILED}") for line in self.postfix.lines())
+                == FURTHER
+            ),
+        )
+        checks.equal("and no other", len(self.statuses), FURTHER)
+        expect_appends(checks, self.postfix, "the mail server hangs")
+
+    def check_turns(self, checks: Checks):
+        """Who had no turn for a minute is answered that it wasn't carried out; the logs stay."""
+        least = FURTHER + TELLING - AT_ONCE
+        checks.true(
+            "a turn is waited for for a minute", until(lambda: len(self.statuses) >= least, 2 * SECONDS_FOR_TURN)
+        )
+        after = sorted(self.statuses)[FURTHER][0]
+        checks.true(f"and no less: {after:.1f} s", SECONDS_FOR_TURN - 1 < after < SECONDS_FOR_TURN + 20)
+        checks.equal("nobody is told that it was done", {status for _, status in self.statuses}, {FAILED})
+        logs = set(os.listdir(self.postfix.at("bounce")))
+        checks.true("all logs are left", logs.issuperset(self.ids))
+        self.end.set()
+
+
+def check_silent_clients(checks: Checks):
+    """Clients that say nothing, or a byte each second: they are cut off after seconds, and no append waits for them."""
+    with Postfix() as it:
+        clients = [Client(it.folder, "bounce") for _ in range(100)]
+        began, ended = time.monotonic(), []
+
+        def wait(number: int, client: Client):
+            request, peer = append("SILENT"), client.peer
+            peer.settimeout(0.9)
+            text, at = b"", 0
+            while True:
+                try:
+                    piece = peer.recv(1000)
+                    text += piece
+                    if not piece:
+                        break
+                except TimeoutError:
+                    if number % 2:
+                        peer.sendall(request[at : at + 1])
+                        at += 1
+                except OSError:
+                    break
+            ended.append((text, time.monotonic() - began))
+
+        for it_is in enumerate(clients):
+            threading.Thread(target=wait, args=it_is, daemon=True).start()
+        expect_appends(checks, it, "100 clients are slow")
+        checks.true("all are cut off", until(lambda: len(ended) == len(clients), 3 * SECONDS_FOR_LIST))
+        seconds = sorted(seconds for _, seconds in ended)
+        checks.true(f"within seconds: {seconds[-1]:.1f}", seconds[-1] < SECONDS_FOR_LIST + 2)
+        checks.equal("they were announced the protocol", {text for text, _ in ended}, {ANNOUNCEMENT})
+        checks.equal("nothing is logged of them", os.listdir(it.at("bounce")), [ONE])
+
+
+def check_one_slow_client(checks: Checks):
+    """A client that is alone has seconds for its list, and not more."""
+    with Postfix() as it:
+        with Client(it.folder, "bounce") as client:
+            request = append(ONE)
+            for piece in (request[:40], request[40:80], request[80:]):
+                client.peer.sendall(piece)
+                time.sleep(1)
+            checks.equal("in pieces", heard_to_end(client.peer), ANNOUNCEMENT + b"status\x000\0\0")
+        with Client(it.folder, "bounce") as client:
+            began = time.monotonic()
+            checks.equal("silent", heard_to_end(client.peer), ANNOUNCEMENT)
+            seconds = time.monotonic() - began
+            checks.true(f"after {seconds:.1f} s", SECONDS_FOR_LIST - 1 < seconds < SECONDS_FOR_LIST + 5)
+
+
+def main():
+    checks = Checks("postfix_waiting: slow clients and slow mail servers, in a queue folder without a Postfix")
+    hanging = Hanging()
+    with hanging.postfix:
+        for check in (
+            hanging.check_refused,
+            check_one_log,
+            check_slow_server,
+            check_silent_clients,
+            check_one_slow_client,
+            hanging.check_turns,
+        ):
+            check(checks)
+    checks.done()
+
+
+if __name__ == "__main__":
+    main()

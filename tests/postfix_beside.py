@@ -1,6 +1,7 @@
-"""Sends the same messages, of over 80 kinds, to two Postfixes of this script's own on loopback, one with its own
-bounce(8), the other with `noticed postfix` in front: each recipient is told once on both sides, and the notices differ
-only in what is named here. Needs root and Debian's package postfix, and is skipped without them.
+"""Sends the same messages, of over 200 kinds, to two private Postfixes on loopback. One has its own bounce(8), the
+other `noticed postfix` in front. Some runs only relay mail; the sandbox also delivers it, by local(8), pipe(8),
+virtual(8) and lmtp(8). The notices and the mail of both sides are compared field by field: they may differ only in what
+is named here. Needs root and Debian's package postfix, and is skipped without them.
 
     python3 -m tests.postfix_beside [--itself] [NAME]...
 
@@ -15,9 +16,11 @@ from dataclasses import dataclass
 from tests.postfix.capture import cases
 from tests.postfix.capture.cases import Case
 from tests.postfix.capture.submit import by_sendmail, by_smtp
-from tests.support.private_postfix import Mailbox, Postfix, comes_true, lacks, mail_filter
-from tests.support.running import Checks, program, run
-from tests.support.told import Told, differences, retry_seconds, taken_apart
+from tests.support import sandbox_cases
+from tests.support.private_postfix import Delivery, Mailbox, Postfix, comes_true, lacks, mail_filter
+from tests.support.running import HOST, Checks, program, run
+from tests.support.sandbox import HOME, Sandbox
+from tests.support.told import Told, differences, name_in, retry_seconds, taken_apart
 
 # What error(8) says of these has a byte past the end of a text, which may be any.
 UNEVEN = {"without-words", "words-of-none"}
@@ -78,10 +81,11 @@ class Run:
     settings: dict
     messages: list
     expires: bool = False
+    sandbox: bool = False  # whether Postfix also delivers mail
 
 
-# Tried again after two seconds: where it is one, the queue manager may come back while the last delivery still has the
-# file locked, and then leaves the message alone for a minute.
+# Two seconds lie between two attempts. After one second the last delivery may still have the file locked: then the queue
+# manager leaves the message alone for a minute.
 HURRIED = {
     "queue_run_delay": "1s",
     "minimal_backoff_time": "2s",
@@ -89,16 +93,33 @@ HURRIED = {
     "delay_warning_time": "2s",
 }
 HURRIED |= {"maximal_queue_lifetime": f"{LIFETIME}s", "bounce_queue_lifetime": f"{LIFETIME}s"}
+# The third delivery attempt succeeds after a warning, so the message lives longer.
+CONFIRMED = {"confirm_delay_cleared": "yes"} | dict.fromkeys(("maximal_queue_lifetime", "bounce_queue_lifetime"), "14s")
 LONG_IDS = {
     "enable_long_queue_ids": "yes",
     "hash_queue_names": "deferred, defer, bounce, trace",
     "hash_queue_depth": "2",
 }
+SMALL = [
+    Case("under-the-size-limit", "bounce", ["no.bob@example.org"]),
+    Case("over-the-size-limit", "bounce", ["no.bob@example.org"], body=b"A line of a short message.\n" * 100),
+    Case("header-over-it", "bounce", ["no.bob@example.org"], options="RET=FULL", header=b"X-Field: value\n" * 200),
+]
 RUNS = [
     Run("at once", {}, cases.BOUNCED + AT_ONCE + cases.TRACED),
+    Run("size limit", {"bounce_size_limit": "2000"}, SMALL),
     Run("put off", HURRIED, cases.DEFERRED + EXPIRING, expires=True),
     Run("long ids", LONG_IDS | HURRIED, cases.RUNS[1][1] + cases.RUNS[2][1], expires=True),
+    Run("sandbox", {}, sandbox_cases.AT_ONCE, sandbox=True),
+    Run("sandbox, put off", HURRIED | CONFIRMED, sandbox_cases.DELAYED, expires=True, sandbox=True),
 ]
+# Messages whose notices bounce(8) makes on both sides: addresses that need quotes or have other types, long addresses
+# and envelope ids, SMTPUTF8, and `sendmail -bv`. All other notices are made by noticed.
+PASSED_ON = set(
+    "quoted quoted-sender quoted-original verp-quoted newer-form-quoted local-quoted alias-later-and-odd utf8 "
+    "utf8-sender later-utf8 text-utf8 long-address orcpt-utf8 original-unknown long-envelope-id asked-before".split()
+)
+ORIGINAL, ARRIVAL = b"Original-Recipient", "from whom, and where it arrives"
 
 
 @dataclass
@@ -121,6 +142,17 @@ def of_field(name: bytes, change):
     return lambda groups, *_: sorted(
         [(found, change(value) if found == name else value) for found, value in group] for group in groups
     )
+
+
+def repeats(group: list) -> bool:
+    """Whether the original recipient is the final one."""
+    said = dict(group)
+    return said.get(ORIGINAL) == said[b"Final-Recipient"]
+
+
+def without_repeated_originals(groups: list, met: list, _) -> list:
+    shorter = [[it for it in group if it[0] != ORIGINAL] if repeats(group) else group for group in groups]
+    return sorted(short if short in met else group for short, group in zip(shorter, groups))
 
 
 def cut_remarks(groups: list, met: list, _) -> list:
@@ -168,14 +200,26 @@ def header_in_place(change):
     )
 
 
-DESCRIPTION, TYPE = "description of what is given back", "type of what is given back"
 STATUS, DIAGNOSTIC = b"Status", b"Diagnostic-Code"
+DESCRIPTION, TYPE = "description of what is given back", "type of what is given back"
 ALLOWED = [
     Difference(
         "angle brackets",
         "To",
         "an address may stand in angle brackets",
         lambda there, *_: [b"<" + it.strip(b"<>") + b">" for it in there],
+    ),
+    Difference(
+        "sender that an owner is told of",
+        "message: X-Postfix-Sender",
+        "of a request about one recipient noticed names the sender that it says, bounce(8) that of the queue file",
+        lambda there, met, _: met if met.startswith(b"rfc822; owner-") else there,
+    ),
+    Difference(
+        "domain of From",
+        "From",
+        "noticed writes HOST, bounce(8) leaves it to cleanup(8), which writes myorigin",
+        lambda there, *_: [it.replace(f"@{HOME}>".encode(), f"@{HOST}>".encode()) for it in there],
     ),
     Difference("words for people", "words", "noticed has its own, and no templates", lambda _, met, __: met),
     Difference(
@@ -198,6 +242,12 @@ ALLOWED = [
         "recipients",
         "RFC 3463 has no zeros in front",
         of_field(STATUS, lambda it: re.sub(rb"\b0+(?=\d)", b"", it)),
+    ),
+    Difference(
+        "repeated Original-Recipient",
+        "recipients",
+        "noticed names the original recipient if it isn't the final one, bounce(8) always",
+        without_repeated_originals,
     ),
     Difference(
         "no Return-Path",
@@ -231,32 +281,47 @@ ALLOWED = [
 class Side:
     """One of the two Postfixes, with the messages that it has taken, by their ids."""
 
-    def __init__(self, stack: contextlib.ExitStack, serves, settings: dict):
+    def __init__(self, stack: contextlib.ExitStack, serves, run: Run):
         self.mailbox = stack.enter_context(Mailbox())
         self.milter = mail_filter_of(stack)
-        self.postfix = stack.enter_context(Postfix(self.mailbox, serves, self.milter.server_address[1], **settings))
+        kind = Sandbox if run.sandbox else Postfix
+        self.postfix = stack.enter_context(kind(self.mailbox, serves, self.milter.server_address[1], **run.settings))
         self.known, self.wrong = {}, []
 
     def send(self, case: Case):
-        postfix = self.postfix
+        ports = self.postfix.ports
         taken = (
-            by_sendmail(postfix, case)
+            by_sendmail(self.postfix, case)
             if case.command
-            else by_smtp(postfix.filtered if case.filtered else postfix.smtp, case)
+            else by_smtp(ports[case.port or ("filtered" if case.filtered else "smtp")], case)
         )
         self.known[taken.encode()] = case.name
 
     def told(self) -> dict:
         """The notices that came of each message, by its name."""
         found = {}
-        for to, text in list(self.mailbox.notices):
+        for delivery in filter(is_notice, self.postfix.deliveries()):
             try:
-                it = taken_apart(to, text, self.postfix.ports)
+                it = taken_apart(delivery.recipients, delivery.text, self.postfix.varying())
             except (ValueError, TypeError) as fault:
-                self.wrong.append((repr(fault), text[:2000]))
+                self.wrong.append((repr(fault), delivery.text[:2000]))
                 continue
-            found.setdefault(self.known.get(it.queue_id, f"unknown {it.queue_id.decode()}"), []).append(it)
-        return {name: sorted(notices, key=lambda it: it.key) for name, notices in found.items()}
+            it.parts[ARRIVAL] = (delivery.sender, delivery.place)
+            name = self.known.get(it.queue_id) or name_in(delivery.text)
+            found.setdefault(name or f"unknown {it.queue_id.decode()}", []).append(it)
+        return {
+            name: sorted(notices, key=lambda it: (it.key, it.parts["recipients"])) for name, notices in found.items()
+        }
+
+    def delivered(self) -> Counter:
+        """How often each message but notices was delivered, by its name, the place, and the recipient."""
+        mail = [it for it in self.postfix.deliveries() if not is_notice(it)]
+        return Counter((name_in(it.text), it.place, to) for it in mail for to in it.recipients)
+
+
+def is_notice(it: Delivery) -> bool:
+    """Whether a message is a report of deliveries."""
+    return b"report-type=delivery-status" in it.text.partition(b"\n\n")[0]
 
 
 def mail_filter_of(stack: contextlib.ExitStack):
@@ -285,33 +350,74 @@ def twice(notices: list) -> list:
     return [it for it, times in Counter(name for notice in notices for name in notice.names()).items() if times > 1]
 
 
+def summary(notices: list) -> str:
+    """The notices of a message in words. Each has its address, unless that is ann@example.com, and how many recipients
+    have an action and status."""
+    words = []
+    for it in notices:
+        found = Counter(f"{group[b'Action'].decode()} {group[b'Status'].decode()}" for group in it.recipients)
+        of_one = ", ".join(f"{times} {what}" if times > 1 else what for what, times in sorted(found.items()))
+        to = ", ".join(address.decode() for address in it.to)
+        words.append(of_one if to == "ann@example.com" else f"{to}: {of_one}")
+    return "; ".join(sorted(words))
+
+
+def compare_case(checks: Checks, name: str, case: Case, notices: list, others: list, used: Counter | None):
+    """Compares the notices of one message on both sides."""
+    if case.told is not None:
+        checks.equal(f"{name}: what bounce(8) tells", summary(notices), case.told)
+    checks.equal(f"{name}: who is told", [it.key for it in others], [it.key for it in notices])
+    checks.equal(f"{name}: who is told twice", twice(others), twice(notices))
+    for other in others:
+        like = next((it for it in notices if it.key == other.key), None)
+        if like:
+            notices.remove(like)
+            compare(checks, name, like, other, used)
+
+
+def compare_own(checks: Checks, run: Run, notices: dict):
+    """Checks which notices the program made itself: all, except those that it has to pass on to bounce(8)."""
+    own = [(name, it) for name, of_one in notices.items() for it in of_one if it.is_own]
+    repeated = [(name, group) for name, it in own for group in it.parts["recipients"] if repeats(group)]
+    checks.equal(f"{run.name}: original recipients that repeat the final ones", repeated, [])
+    passed_on = {name for name, of_one in notices.items() for it in of_one if not it.is_own}
+    checks.equal(
+        f"{run.name}: which messages are passed on to bounce(8)",
+        passed_on,
+        PASSED_ON & {it.name for it in run.messages},
+    )
+
+
 def compare_sides(checks: Checks, run: Run, sides: list, used: Counter | None):
     """Compares what came of each message on both sides."""
     there, here = (it.told() for it in sides)
+    counts = sum(map(len, there.values())), sum(len(it.recipients) for of_one in there.values() for it in of_one)
     for case in run.messages:
-        name = f"{run.name}, {case.name}"
-        notices, others = there.get(case.name, []), here.get(case.name, [])
-        checks.equal(f"{name}: who is told", [it.key for it in others], [it.key for it in notices])
-        checks.equal(f"{name}: who is told twice", twice(others), twice(notices))
-        for notice, other in zip(notices, others):
-            compare(checks, name, notice, other, used)
+        of_one = [list(it.get(case.name, [])) for it in (there, here)]
+        compare_case(checks, f"{run.name}, {case.name}", case, *of_one, used)
+    if used is not None:
+        compare_own(checks, run, here)
     known = {case.name for case in run.messages}
     for side, found in zip(sides, (there, here)):
         checks.equal(f"{run.name}: notices of no message", [it for it in found if it not in known], [])
         checks.equal(f"{run.name}: notices that can't be read", side.wrong, [])
-        checks.equal(
-            f"{run.name}: reports that have a sender",
-            [it for it in side.mailbox.others if b"report-type=delivery-status" in it[2]],
-            [],
-        )
-    return sum(map(len, there.values())), sum(len(it.recipients) for all_of_one in there.values() for it in all_of_one)
+        senders = {it.parts[ARRIVAL][0] for of_one in found.values() for it in of_one}
+        checks.equal(f"{run.name}: senders of notices", senders - {b""}, set())
+    mail = [it.delivered() for it in sides]
+    checks.equal(
+        f"{run.name}: mail that one side alone delivered",
+        (mail[0] - mail[1], mail[1] - mail[0]),
+        (Counter(), Counter()),
+    )
+    checks.equal(f"{run.name}: copies of mail", [it for it, times in mail[1].items() if times > 1], [])
+    return counts
 
 
 def one_run(checks: Checks, run: Run, serves, used: Counter | None):
     """Both sides with the messages of a run."""
     began = time.monotonic()
     with contextlib.ExitStack() as stack:
-        sides = [Side(stack, it, run.settings) for it in (None, serves)]
+        sides = [Side(stack, it, run) for it in (None, serves)]
         for it in sides:
             it.postfix.start()
         for case in run.messages:
@@ -332,7 +438,7 @@ def late_flush(checks: Checks, serves, used: Counter | None):
     """A message expires after the notice of an earlier failure could not be handed in: both recipients are told."""
     case = Case("expired-with-failure", "defer", ["no.bob@example.org", "later.eve@example.org"])
     with contextlib.ExitStack() as stack:
-        sides = [Side(stack, it, {"maximal_queue_lifetime": "432000s"}) for it in (None, serves)]
+        sides = [Side(stack, it, Run("", {"maximal_queue_lifetime": "432000s"}, [])) for it in (None, serves)]
         for it in sides:
             it.postfix.mute = True
             it.postfix.start()
@@ -360,7 +466,7 @@ def very_many(checks: Checks, serves):
     """A message of more failures than one notice of noticed has: each recipient is told once, on both sides."""
     names = [f"no.number{it}@example.org" for it in range(1100)]
     with contextlib.ExitStack() as stack:
-        sides = [Side(stack, it, {}) for it in (None, serves)]
+        sides = [Side(stack, it, Run("", {}, [])) for it in (None, serves)]
         for it in sides:
             it.postfix.start()
             it.send(Case("very-many", "bounce", names))

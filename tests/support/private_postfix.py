@@ -14,6 +14,7 @@ import subprocess
 import sys
 import tempfile
 import time
+from dataclasses import dataclass
 from pathlib import Path
 
 from tests.postfix.capture import milter, upstream
@@ -74,8 +75,8 @@ HEADER_CHECKS = """
 /^X-Check: prepend/ PREPEND X-Prepended: by a rule
 /^X-Check: bcc/ BCC later.copy@example.org
 """
-# To this server a program in front hands its notices in: nothing there refuses or changes them. Its cleanup(8) is that
-# of docs/DEPLOY.md.
+# A program in front submits its notices to this server, which refuses and changes none. Its cleanup(8) is that of
+# docs/DEPLOY.md.
 HAND_IN = """
 127.0.0.1:{hand_in} inet n - n - - smtpd
     -o syslog_name=postfix/hand-in
@@ -91,8 +92,8 @@ noticed-cleanup unix n - n - 0 cleanup
     -o message_size_limit=0
     -o in_flow_delay=0
 """
-# The queue manager is woken often: it puts a message of which the file is locked back to those that came in, for a
-# minute, and looks at these only when it is woken or mail comes.
+# The queue manager is woken often. It puts a message whose file is locked back to those that came in, for a minute. It
+# looks at these only if it is woken or mail comes.
 MUTE = "    -o cleanup_service_name=nowhere"  # of bounce(8), so that it can't hand a notice in
 MASTER = """
 127.0.0.1:{smtp} inet n - n - - smtpd
@@ -117,6 +118,7 @@ error unix - - n - - error
 retry unix - - n - - error
 postlog unix-dgram n - n - 1 postlogd
 """
+HELD = []  # sockets that are bound to the ports of this script's instances, and don't listen
 FRONT = {f"{it}_service_name": f"noticed-{it}" for it in LOGS}
 
 
@@ -136,13 +138,18 @@ def lacks() -> str:
 
 
 def free_ports(count: int) -> list[int]:
-    """Ports of loopback that nobody has, below those that the system gives to others meanwhile."""
+    """Ports of loopback that nobody has, below those that the system gives to others meanwhile. They stay bound until
+    the script ends: Postfix sets SO_REUSEPORT, so two instances with one port would share its mail unnoticed."""
     found, dice = [], random.Random()
     while len(found) < count:
         port = dice.randrange(20_000, 32_000)
-        with contextlib.suppress(OSError), socket.create_server(("127.0.0.1", port)):
-            if port not in found:
-                found.append(port)
+        with contextlib.suppress(OSError):
+            socket.create_server(("127.0.0.1", port)).close()
+            held = socket.socket()
+            HELD.append(held)
+            held.setsockopt(socket.SOL_SOCKET, socket.SO_REUSEPORT, 1)
+            held.bind(("127.0.0.1", port))
+            found.append(port)
     return found
 
 
@@ -180,6 +187,23 @@ def comes_true(holds, seconds=PATIENCE, every=0.05) -> bool:
 def is_open(port: int) -> bool:
     with socket.socket() as probe:
         return probe.connect_ex(("127.0.0.1", port)) == 0
+
+
+@dataclass
+class Delivery:
+    """A message as it was delivered: the place, its envelope, and its text."""
+
+    place: str
+    sender: bytes
+    recipients: list
+    text: bytes
+
+
+def taken_by(place: str, server) -> list[Delivery]:
+    """The messages that a mail server of the script accepted."""
+    return [Delivery(place, b"", *it) for it in list(server.notices)] + [
+        Delivery(place, *it) for it in list(server.others)
+    ]
 
 
 class Mailbox(upstream.Server):
@@ -227,7 +251,7 @@ class Front:
         """Starts it, and waits until it listens."""
         before = self.times_listening()
         held, inherited = [], []
-        if self.inherits():
+        if self.has("--inherited"):
             self.sockets = self.sockets or [self.listens(f"noticed-{name}") for name in LOGS]
             descriptors = [it.fileno() for it in self.sockets]
             held, inherited = [sys.executable, "-c", HANDS_ON, ",".join(map(str, descriptors))], ["--inherited"]
@@ -254,10 +278,10 @@ class Front:
         ):
             raise RuntimeError(f"{self.program} doesn't listen: {self.said.read_text()[-2000:]}")
 
-    def inherits(self) -> bool:
-        """Whether the program takes sockets that were made for it."""
+    def has(self, option: str) -> bool:
+        """Whether the program has an option, as its usage says."""
         said = subprocess.run([str(self.program), "postfix"], capture_output=True, check=False, timeout=PATIENCE)
-        return b"--inherited" in said.stderr
+        return f"[{option}".encode() in said.stderr
 
     def listens(self, name: str) -> socket.socket:
         """A socket in the folder of Postfix's own ones, as a unit of systemd makes it."""
@@ -320,6 +344,7 @@ class Postfix:
         """The options of a program in front, which are what main.cf says."""
         named = {
             "maximal_queue_lifetime": "--lifetime",
+            "bounce_size_limit": "--bounce-size-limit",
             "hash_queue_names": "--hash-queue-names",
             "hash_queue_depth": "--hash-queue-depth",
         }
@@ -337,13 +362,24 @@ class Postfix:
         """Writes the configuration."""
         etc = self.room / "etc"
         (etc / "main.cf").write_text("".join(f"{name} = {value}\n" for name, value in self.settings.items()))
-        services = MASTER.format(override=MUTE if self.mute else "", **self.ports)
-        (etc / "master.cf").write_text(services + ("" if self.mute else HAND_IN.format(**self.ports)))
+        (etc / "master.cf").write_text(self.services() + ("" if self.mute else HAND_IN.format(**self.ports)))
         (etc / "header_checks").write_text(HEADER_CHECKS.format(**self.ports))
         # postfix(1) looks for these beside main.cf
         for name in ("postfix-files", "postfix-files.d", "dynamicmaps.cf", "dynamicmaps.cf.d"):
             if not (etc / name).is_symlink():
                 (etc / name).symlink_to(f"/etc/postfix/{name}")
+
+    def services(self) -> str:
+        """The entries of master.cf, without those for a program in front."""
+        return MASTER.format(override=MUTE if self.mute else "", **self.ports)
+
+    def deliveries(self) -> list[Delivery]:
+        """The messages that were delivered so far."""
+        return taken_by("relay", self.mailbox)
+
+    def varying(self) -> dict:
+        """The texts that differ between two instances, each with its replacement."""
+        return {str(port): name for name, port in self.ports.items()} | {str(self.room): "/room"}
 
     def command(self, *words: str, **how) -> subprocess.CompletedProcess:
         """Runs one of Postfix's commands on this instance."""

@@ -5,7 +5,6 @@ import os
 import tempfile
 from pathlib import Path
 
-from tests.support.daemon_and_clients import until
 from tests.support.postfix_folder import HOST, Postfix, append, asked_in
 from tests.support.preloading import built
 from tests.support.running import Checks
@@ -61,13 +60,7 @@ def check_refused(checks: Checks, library: Path, number: int) -> bool:
         finally:
             for name in ("LD_PRELOAD", "REFUSE", "REFUSE_AFTER"):
                 del os.environ[name]
-        try:
-            logged = check_append(checks, it, number)
-        except ConnectionError:
-            # no thread of a service could be started
-            last = until(lambda: it.lines()[-1:] == ["fault 42"])
-            checks.equal(f"growth {number}: how it ended", (last, it.running.wait(10)), (True, 1))
-            return False
+        logged = check_append(checks, it, number)
         whole, found = asked_twice(it)
         checks.true(f"growth {number}: answers", all(status in ANSWERS for status, _ in found))
         checks.true(

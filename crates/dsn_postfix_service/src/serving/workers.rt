@@ -78,7 +78,6 @@ fn serve_all<'a, R: Threads + Wait + Clock + Sync>(
     listeners: &Listeners,
     share: &PostfixShare<'a>,
 ) {
-    say_start(waiting, share);
     thread::scope(thread::scope_env(), waiting, |scope| {
         start_rounds(scope, rt, waiting, listeners, share);
         // without this thread the mail server ends them, by its own time limit
@@ -86,7 +85,8 @@ fn serve_all<'a, R: Threads + Wait + Clock + Sync>(
     });
 }
 
-/// Starts the threads of each service, up to the first round in which one is refused.
+/// Starts the threads of each service, up to the first round in which one is refused. What says that
+/// it listens is told once each service has a thread.
 fn start_rounds<'s, 'a: 's, E: 's, R: Threads + Wait + Clock + Sync>(
     scope: &Scope<'s, E>,
     rt: &'a HostRuntime,
@@ -98,6 +98,9 @@ fn start_rounds<'s, 'a: 's, E: 's, R: Threads + Wait + Clock + Sync>(
         if !start_round(scope, rt, waiting, listeners, share, round) {
             end_without(rt, waiting, share, round);
             return;
+        }
+        if round == 0 {
+            say_start(waiting, share);
         }
     }
 }

@@ -13,7 +13,7 @@ use Rattle.std.proofs.lemmas.Cmp.{nat_eq_equiv, nat_list_eq_equiv}
 use Rattle.std.proofs.lemmas.Map.Text.{is_eq-slice_cmp}
 use Rattle.dsn_postfix.specs.files.LogRecord.{LoggedFields, logged_fields_in}
 use Rattle.dsn_postfix.specs.NoticePlan.{is_same_outcome}
-use Rattle.dsn_postfix.specs.RecipientSet.{HasOutcomes, Outcome, is_of_outcome, outcome_cmp}
+use Rattle.dsn_postfix.specs.RecipientSet.{HasOutcomes, OutcomeKey, is_of_outcome, outcome_cmp}
 use Rattle.dsn_postfix.specs.declared.files.log_record.LogRecord.{LogRecord}
 
 -- without a place no other record is of the outcome
@@ -59,7 +59,7 @@ tied-five a b c d e =
 tied-texts : (one other : List ℕ) → is_eq (slice_cmp nat_cmp one other) ≡ bytes_eq other one
 tied-texts one other = is_eq-slice_cmp one other ∙ nat_list_eq_equiv.symm one other
 
-tied-outcomes : (one other : Outcome) → is_eq (outcome_cmp one other) ≡ (other.0 == one.0 && (bytes_eq other.1.now one.1.now && (bytes_eq other.2.now one.2.now && (bytes_eq other.3.now one.3.now && bytes_eq other.4.now one.4.now))))
+tied-outcomes : (one other : OutcomeKey) → is_eq (outcome_cmp one other) ≡ (other.0 == one.0 && (bytes_eq other.1.now one.1.now && (bytes_eq other.2.now one.2.now && (bytes_eq other.3.now one.3.now && bytes_eq other.4.now one.4.now))))
 tied-outcomes one other =
     tied-five (nat_cmp one.0 other.0) (slice_cmp nat_cmp one.1.now other.1.now) (slice_cmp nat_cmp one.2.now other.2.now) (slice_cmp nat_cmp one.3.now other.3.now) (slice_cmp nat_cmp one.4.now other.4.now)
     ∙ (λ i. (tied-numbers one.0 other.0 ∙ nat_eq_equiv.symm one.0 other.0) i && (tied-texts one.1.now other.1.now i && (tied-texts one.2.now other.2.now i && (tied-texts one.3.now other.3.now i && tied-texts one.4.now other.4.now i))))
@@ -76,16 +76,16 @@ or-by : (test other : Bool) → cond test true other ≡ (test || other)
 or-by true other = refl
 or-by false other = refl
 
-abbrev outcome_in : LogRecord → Outcome
+abbrev outcome_in : LogRecord → OutcomeKey
 outcome_in found = (found.offset, found.recipient, found.status, found.action, found.reason)
 
-is-its-outcome : (found : LogRecord) (outcome : Outcome) → nat_lt 0 found.offset ≡ true → is_eq (outcome_cmp (outcome_in found) outcome) ≡ is_of_outcome outcome (logged_fields_in found)
+is-its-outcome : (found : LogRecord) (outcome : OutcomeKey) → nat_lt 0 found.offset ≡ true → is_eq (outcome_cmp (outcome_in found) outcome) ≡ is_of_outcome outcome (logged_fields_in found)
 is-its-outcome found outcome some =
     tied-outcomes (outcome_in found) outcome
     ∙ and-some (outcome.0 == found.offset) (nat_lt 0 outcome.0) _ (λ same. grind (arith, some, same))
 
-pub one_outcome_more : (found : LogRecord) (later : List LoggedFields) (before after : BTreeSet Outcome) → nat_lt 0 found.offset ≡ true → HasOutcomes before later
-    → ((outcome : Outcome) → sorted.contains outcome_cmp after outcome ≡ cond (is_eq (outcome_cmp (outcome_in found) outcome)) true (sorted.contains outcome_cmp before outcome))
+pub one_outcome_more : (found : LogRecord) (later : List LoggedFields) (before after : BTreeSet OutcomeKey) → nat_lt 0 found.offset ≡ true → HasOutcomes before later
+    → ((outcome : OutcomeKey) → sorted.contains outcome_cmp after outcome ≡ cond (is_eq (outcome_cmp (outcome_in found) outcome)) true (sorted.contains outcome_cmp before outcome))
     → HasOutcomes after (logged_fields_in found ∷ later)
 one_outcome_more found later before after some has added outcome =
     added outcome

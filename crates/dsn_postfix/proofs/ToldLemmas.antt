@@ -8,7 +8,7 @@ use Rattle.dsn_text.specs.declared.service.Service.{Service}
 use Rattle.dsn_postfix.specs.files.LogRecord.{LoggedFields, logged_fields_in}
 use Rattle.dsn_postfix.specs.NoticePlan.{is_same_outcome, is_wanted, last_of_each, told_as, wanted_of}
 use Rattle.dsn_postfix.specs.files.QueueRecipients.{RecipientFacts}
-use Rattle.dsn_postfix.specs.RecipientSet.{HasOutcomes, Outcome}
+use Rattle.dsn_postfix.specs.RecipientSet.{HasOutcomes, OutcomeKey}
 use Rattle.dsn_postfix.specs.declared.files.log_record.LogRecord.{LogRecord}
 use Rattle.dsn_postfix.specs.declared.postfix_request.PostfixRequest.{PostfixRequest}
 
@@ -32,7 +32,7 @@ from-last d service request queued records left found some within is =
     ∙ sym (ap (wanted_in service request queued) (drop_more records (left - 1) d (omega (arith, some, within)))
     ∙ ap (λ (n : ℕ). wanted_in service request queued (get_or records (left - 1) d ∷ drop n records)) next)
 
-pub seen_step : (d : LogRecord) (service : Service) (request : PostfixRequest) (queued : List RecipientFacts) (records : Records) (left : ℕ) (found : LogRecord) (seen : BTreeSet Outcome) → 0 < left → left ≤ length records
+pub seen_step : (d : LogRecord) (service : Service) (request : PostfixRequest) (queued : List RecipientFacts) (records : Records) (left : ℕ) (found : LogRecord) (seen : BTreeSet OutcomeKey) → 0 < left → left ≤ length records
     → logged_fields_in found ≡ told_as request (logged_fields_in (get_or records (left - 1) d))
     → HasOutcomes seen (with_wanted (is_wanted service request queued (logged_fields_in found)) (logged_fields_in found) (wanted_in service request queued (drop left records)))
     → HasOutcomes seen (wanted_in service request queued (drop (left - 1) records))

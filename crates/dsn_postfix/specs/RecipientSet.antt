@@ -15,11 +15,11 @@ use Rattle.dsn_postfix.specs.files.QueueRecipients.{RecipientFacts}
 
 -- by what an outcome is known again: a recipient's place in the queue file and its address, the status, the action and
 -- the reason
-abbrev pub Outcome : Type 0
-Outcome = ℕ × Bor (List ℕ) × Bor (List ℕ) × Bor (List ℕ) × Bor (List ℕ)
+abbrev pub OutcomeKey : Type 0
+OutcomeKey = ℕ × Bor (List ℕ) × Bor (List ℕ) × Bor (List ℕ) × Bor (List ℕ)
 
 -- the order in which a set keeps them
-abbrev pub outcome_cmp : Outcome → Outcome → Ordering
+abbrev pub outcome_cmp : OutcomeKey → OutcomeKey → Ordering
 outcome_cmp one other =
     ordering_then (
     ordering_then (
@@ -28,7 +28,7 @@ outcome_cmp one other =
     (slice_cmp nat_cmp one.4.now other.4.now)
 
 -- a record is of the outcome
-abbrev pub is_of_outcome : Outcome → LoggedFields → Bool
+abbrev pub is_of_outcome : OutcomeKey → LoggedFields → Bool
 is_of_outcome outcome fields =
     nat_lt 0 outcome.0
     && (outcome.0 == fields.offset
@@ -37,8 +37,8 @@ is_of_outcome outcome fields =
     && (bytes_eq outcome.3.now fields.action && bytes_eq outcome.4.now fields.reason))))
 
 -- a set has the outcomes of some records, those whose recipient has a place
-abbrev pub HasOutcomes : BTreeSet Outcome → List LoggedFields → Type 0
-HasOutcomes seen records = (outcome : Outcome) → sorted.contains outcome_cmp seen outcome ≡ list_any (is_of_outcome outcome) records
+abbrev pub HasOutcomes : BTreeSet OutcomeKey → List LoggedFields → Type 0
+HasOutcomes seen records = (outcome : OutcomeKey) → sorted.contains outcome_cmp seen outcome ≡ list_any (is_of_outcome outcome) records
 
 -- a set has the places of recipients of whom a log says nothing any more
 abbrev pub HasPast : BTreeSet ℕ → Service → List RecipientFacts → Type 0

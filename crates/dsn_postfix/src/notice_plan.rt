@@ -23,7 +23,7 @@ use std::alloc::{AllocError, Global};
 /// The least of the send options that no notice keeps, besides SMTPUTF8: `TLS-Required: no`.
 const TLS_REQUIRED: u32 = 16;
 
-/// The send options of which no notice keeps all, if these are such.
+/// Why no notice can keep these send options, if none can.
 fn option_lost(options: u32) -> Option<CantSay>
     ensures { result ≡ option_lost options }
 {

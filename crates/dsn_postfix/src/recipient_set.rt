@@ -15,11 +15,11 @@ use std::collections::BTreeSet;
 
 /// By what an outcome is known again: the recipient's place in the queue file and its address, the status, the action and
 /// the reason.
-pub(crate) type Outcome<'a> = (u64, &'a [u8], &'a [u8], &'a [u8], &'a [u8]);
+pub(crate) type OutcomeKey<'a> = (u64, &'a [u8], &'a [u8], &'a [u8], &'a [u8]);
 
 /// Adds the outcome of a record to those of the records after it. Returns whether one of these has it too.
 pub(crate) fn is_outcome_again<'a>(
-    seen: &mut BTreeSet<Outcome<'a>>,
+    seen: &mut BTreeSet<OutcomeKey<'a>>,
     found: &LogRecord<'a>,
 ) -> Result<bool, AllocError>
     ensures again { (later : List LoggedFields) → HasOutcomes seen.old later

@@ -8,7 +8,7 @@ ghost use Rattle.dsn_postfix.specs.RecipientSet.{HasOutcomes, HasPast};
 
 use crate::files::{LogRecord, QueuedRecipient};
 use crate::postfix_request::PostfixRequest;
-use crate::recipient_set::{Outcome, is_outcome_again, past_places};
+use crate::recipient_set::{OutcomeKey, is_outcome_again, past_places};
 use dsn_text::Service;
 use std::alloc::{AllocError, Global};
 use std::collections::BTreeSet;
@@ -41,7 +41,7 @@ fn is_wanted(request: &PostfixRequest<'_>, past: &BTreeSet<u64>, found: &LogReco
 fn is_told<'a>(
     request: &PostfixRequest<'_>,
     past: &BTreeSet<u64>,
-    seen: &mut BTreeSet<Outcome<'a>>,
+    seen: &mut BTreeSet<OutcomeKey<'a>>,
     found: &LogRecord<'a>,
 ) -> Result<bool, AllocError>
     ensures told { (service : Service) (queued : List RecipientFacts) (later : List LoggedFields)

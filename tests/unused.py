@@ -14,8 +14,6 @@ COMMENT = re.compile(r"^\s*(?:--|//).*$|\s-- (?=[^\"]*$).*$", re.M)
 PATH = re.compile(r"\b(\w+)::(specs|proofs)::([\w:]+)::([^\s:,()]+)")
 HEAD = re.compile(r"^(?:(?:abbrev|unfoldable|opaque|pub|record|data|mutual|ruleset) )*([^\s(){}\[\];:,]+)")
 WORD = re.compile(r"[^\s(){}\[\],;.λ\"]+")
-# Two names that still stand twice: an outcome that is told of, and that a log has; a reply, and a record, that is wanted.
-TWICE = {"Outcome", "is_wanted"}
 NOT_CITED = {"Lib", "Answers", "Invariants", "Dates"}
 NO_NAME = {"use", "unfolding", "infixl", "infixr", "infix", "mutual", "where", "mod", "module", "pub"}
 
@@ -73,7 +71,7 @@ def check_names(checks: Checks, texts: dict):
             for name in definitions(text):
                 homes.setdefault(name, []).append(str(file.relative_to(ROOT)))
     for name, files in homes.items():
-        checks.equal(f"modules that define {name}", files, files[: 2 if name in TWICE else 1])
+        checks.equal(f"modules that define {name}", files, files[:1])
 
 
 def main():

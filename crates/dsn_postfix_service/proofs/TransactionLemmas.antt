@@ -7,7 +7,7 @@ use Rattle.dsn_device.specs.declared.source.Source
 use Rattle.dsn_postfix_service.specs.hand_in.Command.{Command}
 use Rattle.dsn_postfix_service.specs.hand_in.CommandLine.{quit_line}
 use Rattle.dsn_postfix_service.specs.hand_in.Dialogue.{TakesTurn, TakesTurns, Turn, Heard, HeardNone, Said, SaidPart}
-use Rattle.dsn_postfix_service.specs.hand_in.HandIn.{AsksCommand, AsksAll, GreetsWith, Listens, SaysGoodbye, TurnsOver, is_wanted, last_heard_after}
+use Rattle.dsn_postfix_service.specs.hand_in.HandIn.{AsksCommand, AsksAll, GreetsWith, Listens, SaysGoodbye, TurnsOver, is_wanted_reply, last_heard_after}
 use Rattle.dsn_postfix_service.specs.hand_in.ReplyCode.{class_of}
 use Rattle.dsn_postfix_service.specs.declared.hand_in.hand_in_fault.HandInFault.{HandInFault}
 use Rattle.dsn_postfix_service.specs.declared.hand_in.hand_in_fault.HandInFault.TheVariants.{Refused, Unheard, Unsaid}
@@ -45,7 +45,7 @@ last-append before (SaidPart text ∷ turns) more = last-append before turns mor
 -- ---- a reply at a step
 
 pub listened : {S : Type 0} → (source : Source.Ghosts S) (drain : Drain.Ghosts S) (old new : S) (step : HandInStep) (code before bytes : List ℕ)
-    → is_wanted step (class_of code) ≡ true → TakesTurn source drain old new (Heard code bytes) → TurnsOver source drain old new (Listens step (AsksAll [])) before bytes None
+    → is_wanted_reply step (class_of code) ≡ true → TakesTurn source drain old new (Heard code bytes) → TurnsOver source drain old new (Listens step (AsksAll [])) before bytes None
 listened source drain old new step code before bytes wanted takes = record {
   turns = Heard code bytes ∷ [];
   taken = takes_one source drain old new (Heard code bytes) takes;
@@ -54,7 +54,7 @@ listened source drain old new step code before bytes wanted takes = record {
 }
 
 pub refused : {S : Type 0} → (source : Source.Ghosts S) (drain : Drain.Ghosts S) (old new : S) (step : HandInStep) (code before bytes : List ℕ)
-    → is_wanted step (class_of code) ≡ false → TakesTurn source drain old new (Heard code bytes) → TurnsOver source drain old new (Listens step (AsksAll [])) before bytes (Some (Refused step code))
+    → is_wanted_reply step (class_of code) ≡ false → TakesTurn source drain old new (Heard code bytes) → TurnsOver source drain old new (Listens step (AsksAll [])) before bytes (Some (Refused step code))
 refused source drain old new step code before bytes unwanted takes = record {
   turns = Heard code bytes ∷ [];
   taken = takes_one source drain old new (Heard code bytes) takes;
@@ -106,7 +106,7 @@ listens_on : (step : HandInStep) (First Next : Goes) (turns after : List Turn) (
     → ((rest : List Turn) → First rest None → Next (rest ++ after) outcome) → Listens step First turns None → Listens step Next (turns ++ after) outcome
 listens_on step First Next [] after outcome follow h = absurd h
 listens_on step First Next (Heard code bytes ∷ rest) after outcome follow h =
-    then_bool (is_wanted step (class_of code)) (First rest None) (Next (rest ++ after) outcome) rest (Refused step code) ((rest ++ after ≡ []) × (outcome ≡ Some (Refused step code))) (follow rest) h
+    then_bool (is_wanted_reply step (class_of code)) (First rest None) (Next (rest ++ after) outcome) rest (Refused step code) ((rest ++ after ≡ []) × (outcome ≡ Some (Refused step code))) (follow rest) h
 listens_on step First Next (HeardNone why ∷ rest) after outcome follow h = absurd (never_some (Unheard step why) h.1)
 listens_on step First Next (Said text ∷ rest) after outcome follow h = absurd h
 listens_on step First Next (SaidPart text ∷ rest) after outcome follow h = absurd h
@@ -140,7 +140,7 @@ listens_to_fault : (step : HandInStep) (First Next : Goes) (turns : List Turn) (
     → ((rest : List Turn) → First rest (Some why) → Next rest (Some why)) → Listens step First turns (Some why) → Listens step Next turns (Some why)
 listens_to_fault step First Next [] why follow h = absurd h
 listens_to_fault step First Next (Heard code bytes ∷ rest) why follow h =
-    fault_bool (is_wanted step (class_of code)) (First rest (Some why)) (Next rest (Some why)) ((rest ≡ []) × (Some why ≡ Some (Refused step code))) (follow rest) h
+    fault_bool (is_wanted_reply step (class_of code)) (First rest (Some why)) (Next rest (Some why)) ((rest ≡ []) × (Some why ≡ Some (Refused step code))) (follow rest) h
 listens_to_fault step First Next (HeardNone other ∷ rest) why follow h = h
 listens_to_fault step First Next (Said text ∷ rest) why follow h = absurd h
 listens_to_fault step First Next (SaidPart text ∷ rest) why follow h = absurd h

@@ -28,22 +28,22 @@ abbrev pub commands_of : List ℕ → List ℕ → List Command
 commands_of path message = commands_with (recipient_line path) message
 
 -- whether a reply of this class lets a step be followed by the next: DATA wants 3yz, all others 2yz (RFC 5321 section 4.3.2)
-abbrev pub is_wanted : HandInStep → ReplyClass → Bool
-is_wanted Data Positive = false
-is_wanted Data Intermediate = true
-is_wanted Data RefusedForNow = false
-is_wanted Data RefusedForGood = false
-is_wanted step Positive = true
-is_wanted step Intermediate = false
-is_wanted step RefusedForNow = false
-is_wanted step RefusedForGood = false
+abbrev pub is_wanted_reply : HandInStep → ReplyClass → Bool
+is_wanted_reply Data Positive = false
+is_wanted_reply Data Intermediate = true
+is_wanted_reply Data RefusedForNow = false
+is_wanted_reply Data RefusedForGood = false
+is_wanted_reply step Positive = true
+is_wanted_reply step Intermediate = false
+is_wanted_reply step RefusedForNow = false
+is_wanted_reply step RefusedForGood = false
 
 -- A reply is heard at a step, and then turns follow that are said to follow: where it was of the class that is wanted. Else
 -- it is the last turn, and the fault says why.
 abbrev pub Listens : HandInStep → (List Turn → Option HandInFault → Type 0) → List Turn → Option HandInFault → Type 0
 Listens step Follow [] outcome = ⊥
 Listens step Follow (Heard code bytes ∷ turns) outcome =
-    MatchBool (is_wanted step (class_of code)) (Follow turns outcome)
+    MatchBool (is_wanted_reply step (class_of code)) (Follow turns outcome)
     ((turns ≡ []) × (outcome ≡ Some (Refused step code)))
 Listens step Follow (HeardNone why ∷ turns) outcome = (turns ≡ []) × (outcome ≡ Some (Unheard step why))
 Listens step Follow (Said text ∷ turns) outcome = ⊥

@@ -1,6 +1,6 @@
 //! The steps of a mail transaction.
 ghost use Rattle.std.specs.Prelude.{◌≡◌};
-ghost use Rattle.dsn_postfix_service.specs.hand_in.HandIn.{is_wanted};
+ghost use Rattle.dsn_postfix_service.specs.hand_in.HandIn.{is_wanted_reply};
 
 use crate::hand_in::reply_class::ReplyClass;
 
@@ -25,7 +25,7 @@ impl HandInStep {
     /// Whether a reply of this class lets the step be followed by the next: DATA wants 3yz, all others 2yz (RFC 5321
     /// section 4.3.2).
     pub(crate) fn wants(self, class: ReplyClass) -> bool
-        ensures { result ≡ is_wanted self class }
+        ensures { result ≡ is_wanted_reply self class }
     {
         match self {
             HandInStep::Data => matches!(class, ReplyClass::Intermediate),

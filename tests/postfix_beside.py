@@ -210,10 +210,10 @@ ALLOWED = [
         lambda there, *_: [b"<" + it.strip(b"<>") + b">" for it in there],
     ),
     Difference(
-        "sender that an owner is told of",
+        "no sender",
         "message: X-Postfix-Sender",
-        "of a request about one recipient noticed names the sender that it says, bounce(8) that of the queue file",
-        lambda there, met, _: met if met.startswith(b"rfc822; owner-") else there,
+        "of a message from nobody bounce(8) names MAILER-DAEMON as the sender, noticed names none",
+        lambda there, met, _: met if there.startswith(b"rfc822; MAILER-DAEMON@") else there,
     ),
     Difference(
         "domain of From",

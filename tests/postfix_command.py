@@ -31,6 +31,7 @@ from tests.support.postfix_folder import (
     listed,
     mode_of,
     notice,
+    reported,
 )
 from tests.support.running import HOST, Checks, Ran, run
 
@@ -272,6 +273,22 @@ def check_size_limit(checks: Checks):
             kind, wanted = (b"message/rfc822", lines) if size <= limit else (b"text/rfc822-headers", header)
             returned = b"Content-Type: %s\r\n\r\n" % kind + b"".join(line + b"\r\n" for line in wanted)
             checks.true(f"limit {limit} of {size} bytes: {kind}", part.endswith(returned))
+
+
+def check_sender(checks: Checks):
+    """A notice for the owner of a list, which local(8) requests in the owner's name, says the sender of the queue file;
+    only if the file says none, the one of the request."""
+    request = notice(4, ONE, sender="owner-list@example.com", **reported())
+    with Postfix() as it:
+        it.put("one")
+        file = it.at(f"deferred/0/{ONE}")
+        without = file.read_bytes().replace(b"S\x0fann@example.com", b"X\x0fann@example.com")
+        for what, sender in (("a sender", b"ann@example.com"), ("no sender", b"owner-list@example.com")):
+            checks.equal(f"{what}: asked", it.ask("bounce", request), 0)
+            _, path, text = it.server.taken[-1]
+            found = (path.strip(), re.findall(rb"\r\nX-Postfix-Sender: (.*?)\r\n", text))
+            checks.equal(f"{what}: told", found, (b"RCPT TO:<owner-list@example.com>", [b"rfc822; " + sender]))
+            file.write_bytes(without)
 
 
 def check_original_recipient(checks: Checks):
@@ -1073,6 +1090,7 @@ def main():
         check_hashing_at_run,
         check_kinds,
         check_size_limit,
+        check_sender,
         check_original_recipient,
         check_expired_with_bounces,
         check_flags_of_both_logs,

@@ -52,15 +52,10 @@ def notice(
     return listed(nrequest=kind, **words, **more)
 
 
-def append(
-    message: str,
-    recipient: str = "no.bob@example.org",
-    offset: int = 0,
-    flags: int = 0,
-    text: str = "550 5.1.1 no such user",
-    **more,
-) -> bytes:
-    """A request to log that a recipient was refused, or what else the report says."""
+def reported(
+    recipient: str = "no.bob@example.org", offset: int = 0, text: str = "550 5.1.1 no such user", **more
+) -> dict:
+    """What a request says of a recipient that was refused, or what else the report says."""
     who = {
         "original_recipient": recipient,
         "recipient": recipient,
@@ -77,7 +72,12 @@ def append(
         "action": "failed",
         "reason": f"it said: {text}",
     }
-    return listed(nrequest=0, flags=flags, queue_id=message, **(who | what | more))
+    return who | what | more
+
+
+def append(message: str, recipient: str = "no.bob@example.org", flags: int = 0, **more) -> bytes:
+    """A request to log that a recipient was refused, or what else the report says."""
+    return listed(nrequest=0, flags=flags, queue_id=message, **reported(recipient, **more))
 
 
 # ---- the mail server

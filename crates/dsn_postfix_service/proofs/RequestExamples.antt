@@ -14,6 +14,7 @@ use Rattle.dsn_postfix.specs.declared.postfix_request.NoticeRequest.{NoticeReque
 use Rattle.dsn_postfix.specs.declared.postfix_request.PostfixRequest.TheVariants.{Append, Flush, One, Trace, Verp, Warn}
 use Rattle.dsn_postfix.specs.declared.postfix_request.ReportedRecipient.{ReportedRecipient}
 use Rattle.dsn_postfix.specs.files.LogRecord.{unsayable_field}
+use Rattle.dsn_postfix.specs.files.QueueRecord.{PlacedBytes}
 use Rattle.dsn_postfix_service.specs.declared.requests.deed_fault.DeedFault.TheVariants as fault
 use Rattle.dsn_postfix_service.specs.declared.hand_in.hand_in_fault.HandInFault.TheVariants.{Refused}
 use Rattle.dsn_postfix_service.specs.declared.hand_in.hand_in_step.HandInStep.TheVariants.{Recipient}
@@ -30,7 +31,7 @@ use Rattle.dsn_postfix_service.specs.requests.HandingIn.{refusal_of}
 use Rattle.dsn_postfix_service.specs.requests.MailFound.{log_unread, readings}
 use Rattle.dsn_postfix_service.specs.requests.NoticeDeeds.{EndsTelling, unread}
 use Rattle.dsn_postfix_service.specs.requests.RequestLaws.{hand_ins}
-use Rattle.dsn_postfix_service.specs.requests.RequestLetters.{next_serial, places_done}
+use Rattle.dsn_postfix_service.specs.requests.RequestLetters.{message_said, next_serial, places_done}
 use Rattle.dsn_postfix_service.specs.requests.RequestStatus.{RequestAnswer, not_carried_out}
 use Rattle.dsn_postfix_service.specs.requests.ServiceSettings.{SettingsSaid}
 
@@ -242,6 +243,29 @@ warning_keeps = refl
 
 no_log_to_remove : is_removal_due (Trace (asked 0)) None ≡ false
 no_log_to_remove = refl
+
+-- a sender is the queue file's: of a list whose owner a request names, it is who wrote to the list
+abbrev from_ann : List PlacedBytes
+from_ann = record { place = 0; kind = 83; bytes = codes "ann@example.com" } ∷ []
+
+abbrev for_owner : NoticeRequest
+for_owner = record {
+  flags = 0;
+  queue_name = codes "active";
+  queue_id = id;
+  encoding = [];
+  names_sendopts = false;
+  send_options = 0;
+  sender = codes "owner-list@example.com";
+  envelope_id = [];
+  returns = 0;
+}
+
+sender_of_file : (message_said settings for_owner from_ann).sender ≡ codes "ann@example.com"
+sender_of_file = refl
+
+sender_of_request : (message_said settings for_owner []).sender ≡ codes "owner-list@example.com"
+sender_of_request = refl
 
 -- DELRCPT, of a request about one recipient
 one_marked : places_done Bounce (One (asked 2) bob refused) (asked 2) None ≡ 727 ∷ []

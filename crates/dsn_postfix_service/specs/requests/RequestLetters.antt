@@ -1,6 +1,6 @@
 -- The letters of a request for notices, made of what was read for it, and which recipients are marked as done after them.
 use Rattle.std.specs.List.{flat_map, list_any}
-use Rattle.std.specs.Option.{is_some}
+use Rattle.std.specs.Option.{is_some, unwrap_or}
 use Rattle.std.specs.Prelude.{◌≡◌, ℕ, ◌+◌, ◌%◌, ◌^◌, nat_lt, Bool, true, false, ◌&&◌, not, List, [], ◌∷◌, ◌++◌, Option, Some, None, Result, Ok, Err, if◌then◌else◌}
 use Rattle.dsn_outcome.specs.Letter.{Letter}
 use Rattle.dsn_text.specs.declared.service.Service.{Service}
@@ -31,12 +31,13 @@ use Rattle.dsn_postfix_service.specs.declared.requests.pass_reason.PassReason.Th
 
 -- ---- what notices say of the message
 
--- when it came and its text are the file's to say; its sender and its envelope id are the request's
+-- When it came, its sender and its text are the file's to say. Its envelope id is the request's, as is a sender that the
+-- file doesn't say.
 abbrev pub message_said : SettingsSaid → NoticeRequest → List PlacedBytes → MessageSaid
 message_said settings notice records = record {
   queue_id = notice.queue_id;
   arrival = (said_of_message records).arrival;
-  sender = notice.sender;
+  sender = unwrap_or (said_of_message records).sender notice.sender;
   envelope_id = notice.envelope_id;
   text = message_text records;
   lifetime = settings.lifetime;

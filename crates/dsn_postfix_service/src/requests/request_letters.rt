@@ -1,8 +1,9 @@
 //! The letters of a request for notices, made of what was read for it.
 ghost use Rattle.std.specs.Prelude.{◌≡◌, ◌<◌, [], List, length, map, true, IfOk, IfErr, IfSome, MatchOption, OnOk};
 ghost use Rattle.std.specs.List.{list_any};
+ghost use Rattle.std.specs.Option.{unwrap_or};
 ghost use Rattle.dsn_postfix.specs.PlannedNotice.{notice_facts_in};
-ghost use Rattle.dsn_postfix.specs.files.MessageFacts.{said_of_message};
+ghost use Rattle.dsn_postfix.specs.files.MessageFacts.{message_facts_in, said_of_message};
 ghost use Rattle.dsn_postfix.specs.files.QueueListing.{QueueEnding, RecordsFrom};
 ghost use Rattle.dsn_postfix.specs.files.QueueRecipients.{BeginsRecipients, RecipientFacts, RecipientsLeft, nothing_before, recipient_facts_in, recipients_of};
 ghost use Rattle.dsn_postfix.specs.files.QueueRecord.{PlacedBytes};
@@ -57,15 +58,26 @@ fn queued_recipients(alloc: Global, file: &[u8]) -> Result<Vec<QueuedRecipient<'
     Ok(queued)
 }
 
-/// When a file says that its message came, also where it can't be read to its end.
-fn arrival_said(file: &[u8]) -> Option<u64>
+/// What a file says of its message, also where it can't be read to its end.
+fn facts_said(file: &[u8]) -> MessageFacts<'_>
     ensures { (records : List PlacedBytes) (ending : QueueEnding)
         → RecordsFrom file.now (first_place file.now) records ending
-        → result ≡ (said_of_message records).arrival }
+        → message_facts_in result ≡ said_of_message records }
 {
     match MessageFacts::read(file) {
-        Ok(facts) => facts.arrival,
-        Err(broken) => broken.before.arrival,
+        Ok(facts) => facts,
+        Err(broken) => broken.before,
+    }
+}
+
+/// The sender that a file says, or where it says none, that of a request. They differ where local(8)
+/// requests a notice for the owner of a list.
+fn sender_said<'a>(facts: &MessageFacts<'a>, asked: &'a [u8]) -> &'a [u8]
+    ensures { result.now ≡ unwrap_or (message_facts_in facts.now).sender asked.now }
+{
+    match facts.sender {
+        Some(sender) => sender,
+        None => asked,
     }
 }
 
@@ -159,10 +171,11 @@ pub(super) fn letters_asked(
     let Ok(text) = text_of_message(alloc, &found.file) else {
         return Err(NoLetters::NoMemory);
     };
+    let facts = facts_said(&found.file);
     let message = ReportedMessage {
         queue_id: notice.queue_id,
-        arrival: arrival_said(&found.file),
-        sender: notice.sender.bytes(),
+        arrival: facts.arrival,
+        sender: sender_said(&facts, notice.sender.bytes()),
         envelope_id: notice.envelope_id.bytes(),
         text: &text,
         lifetime: settings.lifetime,

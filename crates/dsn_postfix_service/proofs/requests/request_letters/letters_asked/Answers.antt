@@ -1,12 +1,12 @@
 use Rattle.std.proofs.Common.{◌≡◌, ◌∙◌, List, ℕ, Result, Ok, Err, true, ap, map, subst, sym}
 use Rattle.std.specs.List.{list_any}
-use Rattle.std.specs.Option.{option_map}
+use Rattle.std.specs.Option.{option_map, unwrap_or}
 use Rattle.dsn_postfix.specs.NoticePlan.{IsPlanFault, notices_of}
 use Rattle.dsn_postfix.specs.PlannedNotice.{NoticeFacts, notice_facts_in}
 use Rattle.dsn_postfix.specs.declared.cant_say.CantSay.{CantSay}
 use Rattle.dsn_postfix.specs.declared.plan_fault.PlanFault.{PlanFault}
 use Rattle.dsn_postfix.specs.declared.planned_notice.PlannedNotice.{PlannedNotice}
-use Rattle.dsn_postfix.specs.files.MessageFacts.{said_of_message}
+use Rattle.dsn_postfix.specs.files.MessageFacts.{message_facts_in, said_of_message}
 use Rattle.dsn_postfix.specs.files.MessageText.{message_text}
 use Rattle.dsn_postfix.specs.files.QueueListing.{RecordsFrom}
 use Rattle.dsn_postfix.specs.files.QueueRecipients.{recipient_facts_in, recipients_of}
@@ -30,8 +30,10 @@ returns-in-Ok-plan_notices-clause-letters c =
     ap (map recipient_facts_in) c.deref-5.ensures.value ∙ c.in-Ok.ensures records ending (come_from _ c.deref.ensures.value) in
     let text : c.deref-4.result.now ≡ message_text records =
     c.deref-4.ensures.value ∙ c.in-Ok-text_of_message.ensures records ending (come_from _ c.deref-2.ensures.value) in
-    let arrival : c.arrival_said.result ≡ (said_of_message records).arrival = c.arrival_said.ensures records ending (come_from _ c.deref-3.ensures.value) in
+    let facts : message_facts_in c.facts_said-facts.result ≡ said_of_message records = c.facts_said-facts.ensures records ending (come_from _ c.deref-3.ensures.value) in
     let notice = c.args.task.now.notice.now in
+    let sender : c.sender_said.result.now ≡ unwrap_or (said_of_message records).sender notice.sender =
+    c.sender_said.ensures ∙ (λ i. unwrap_or (facts i).sender (c.bytes.ensures.same i)) in
     let notices : List PlannedNotice = c.in-Ok-plan_notices.notices.items in
     let planned : notices_of c.args.task.now.terms.now.settings.now.double_bounce.now c.args.task.now.terms.now.service c.args.task.now.request.now (recipients_of records) (mail_read_in c.args.found.now).log ≡ Ok (map notice_facts_in notices) =
     (λ i. notices_of c.args.task.now.terms.now.settings.now.double_bounce.now c.args.task.now.terms.now.service c.args.task.now.request.now (sym queued i) (sym c.log.ensures i)) ∙ c.in-Ok-plan_notices.ensures in
@@ -45,8 +47,8 @@ returns-in-Ok-plan_notices-clause-letters c =
           (subst (λ (message : MessageSaid). AreLettersOf message c.args.task.now.terms.now.moment c.args.task.now.terms.now.first_serial (map notice_facts_in c.deref-in-Ok-plan_notices.result.now) letters.items)
           (λ i. record {
             queue_id = notice.queue_id;
-            arrival = arrival i;
-            sender = c.bytes.ensures.same i;
+            arrival = (facts i).arrival;
+            sender = sender i;
             envelope_id = c.bytes-2.ensures.same i;
             text = text i;
             lifetime = c.args.task.now.terms.now.settings.now.lifetime;
@@ -66,8 +68,10 @@ returns-in-Ok-plan_notices-clause-none c =
     ap (map recipient_facts_in) c.deref-5.ensures.value ∙ c.in-Ok.ensures records ending (come_from _ c.deref.ensures.value) in
     let text : c.deref-4.result.now ≡ message_text records =
     c.deref-4.ensures.value ∙ c.in-Ok-text_of_message.ensures records ending (come_from _ c.deref-2.ensures.value) in
-    let arrival : c.arrival_said.result ≡ (said_of_message records).arrival = c.arrival_said.ensures records ending (come_from _ c.deref-3.ensures.value) in
+    let facts : message_facts_in c.facts_said-facts.result ≡ said_of_message records = c.facts_said-facts.ensures records ending (come_from _ c.deref-3.ensures.value) in
     let notice = c.args.task.now.notice.now in
+    let sender : c.sender_said.result.now ≡ unwrap_or (said_of_message records).sender notice.sender =
+    c.sender_said.ensures ∙ (λ i. unwrap_or (facts i).sender (c.bytes.ensures.same i)) in
     let notices : List PlannedNotice = c.in-Ok-plan_notices.notices.items in
     let said : MessageSaid = message_said (settings_said_in c.args.task.now.terms.now.settings.now) notice records in
     let planned : notices_of c.args.task.now.terms.now.settings.now.double_bounce.now c.args.task.now.terms.now.service c.args.task.now.request.now (recipients_of records) (mail_read_in c.args.found.now).log ≡ Ok (map notice_facts_in notices) =
@@ -82,8 +86,8 @@ returns-in-Ok-plan_notices-clause-none c =
           (subst (λ (message : MessageSaid). list_any (has_fault message) (map notice_facts_in c.deref-in-Ok-plan_notices.result.now) ≡ true)
           (λ i. record {
             queue_id = notice.queue_id;
-            arrival = arrival i;
-            sender = c.bytes.ensures.same i;
+            arrival = (facts i).arrival;
+            sender = sender i;
             envelope_id = c.bytes-2.ensures.same i;
             text = text i;
             lifetime = c.args.task.now.terms.now.settings.now.lifetime;

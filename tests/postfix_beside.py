@@ -176,7 +176,7 @@ def header(text: bytes) -> bytes:
     """A message's header as noticed gives it back."""
     lines = []
     for line in text.split(b"\n"):
-        if not (re.match(rb"[!-9;-~]+[ \t]*:", line) or (lines and line[:1] in (b" ", b"\t"))):
+        if not (re.match(rb"[!-9;-~]+[ \t]*:", line[:2048]) or (lines and line[:1] in (b" ", b"\t"))):
             break
         lines.append(printable(line, b"\t")[:998] + b"\n")
     return b"".join(lines)

@@ -90,17 +90,25 @@ fn a_queue_file_says_what_its_message_is(rt: HostRuntime) {
     expect_facts(&rt, &QUEUED[..QUEUED.len() - 2], false);
 }
 
-/// A message has this text.
-fn expect_text(rt: &(impl AllocGlobal + Abort), message: &[u8], want: &[u8]) -> Result<(), Fail> {
-    let text = text_of_message(rt.alloc(), message)?;
+/// A message has this text at its front, up to a limit.
+fn expect_text(
+    rt: &(impl AllocGlobal + Abort),
+    message: &[u8],
+    limit: usize,
+    want: &[u8],
+) -> Result<(), Fail> {
+    let text = text_of_message(rt.alloc(), message, limit)?;
     same(rt, text.as_slice(), want);
     Ok(())
 }
 
 #[test]
 fn the_text_of_a_message_is_its_lines(rt: HostRuntime) -> Result<(), Fail> {
-    expect_text(&rt, MESSAGE, TEXT)?;
-    expect_text(&rt, &MESSAGE[2..], b"")
+    expect_text(&rt, MESSAGE, usize::MAX, TEXT)?;
+    expect_text(&rt, MESSAGE, TEXT.len(), TEXT)?;
+    expect_text(&rt, MESSAGE, 10, &TEXT[..10])?;
+    expect_text(&rt, MESSAGE, 0, b"")?;
+    expect_text(&rt, &MESSAGE[2..], usize::MAX, b"")
 }
 
 /// Texts, and their headers.

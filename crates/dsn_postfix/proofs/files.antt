@@ -12,6 +12,7 @@ mod LogSpaces
 mod LogWritten
 mod MessageExamples
 mod MessageHeaderExamples
+mod MessageHeaderLemmas
 mod MessageTextExamples
 mod MessageFactsLemmas
 pub mod MessageTextLemmas

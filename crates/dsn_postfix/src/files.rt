@@ -23,7 +23,10 @@ mod said_before;
 mod zero_free;
 
 pub use broken_message::BrokenMessage;
-pub use laws::{log_files_are_read_whole, queue_files_have_one_list, written_logs_are_read_back};
+pub use laws::{
+    fronts_show_headers, log_files_are_read_whole, queue_files_have_one_list,
+    written_logs_are_read_back,
+};
 pub use log_entry::{DamagedEntry, LogEntry};
 pub use log_field::LogField;
 pub use log_line::without_outer_spaces;
@@ -32,7 +35,7 @@ pub use log_record::{LogRecord, full_text_or, usual_action, usual_status};
 pub use log_write_error::LogWriteError;
 pub use log_writer::is_full_loggable;
 pub use message_facts::MessageFacts;
-pub use message_header::header_of_message;
+pub use message_header::{LONGEST_FIELD_NAME, header_of_message};
 pub use message_text::text_of_message;
 pub use placed_record::PlacedRecord;
 pub use queue_broken::QueueBroken;

@@ -39,11 +39,11 @@ pub use cant_say::CantSay;
 pub use decode::decode_postfix_request;
 pub use encode::encode_postfix_request;
 pub use files::{
-    BrokenMessage, DamagedEntry, LogEntry, LogField, LogReader, LogRecord, LogWriteError,
-    MessageFacts, PlacedRecord, QueueBroken, QueueReader, QueueRecord, QueuedRecipient,
-    RecipientState, full_text_or, header_of_message, is_full_loggable, is_zero_free,
-    log_files_are_read_whole, queue_files_have_one_list, text_of_message, usual_action,
-    usual_status, without_outer_spaces, written_logs_are_read_back,
+    BrokenMessage, DamagedEntry, LONGEST_FIELD_NAME, LogEntry, LogField, LogReader, LogRecord,
+    LogWriteError, MessageFacts, PlacedRecord, QueueBroken, QueueReader, QueueRecord,
+    QueuedRecipient, RecipientState, fronts_show_headers, full_text_or, header_of_message,
+    is_full_loggable, is_zero_free, log_files_are_read_whole, queue_files_have_one_list,
+    text_of_message, usual_action, usual_status, without_outer_spaces, written_logs_are_read_back,
 };
 pub use laws::{lists_are_read_as_written, notices_tell_each_once};
 pub use list_buffer::{LONGEST_LIST, ListBuffer};

@@ -7,6 +7,7 @@ pub mod AnsweredLaws
 pub mod CarriedOutLaws
 pub mod CommandLineLemmas
 pub mod DeedLemmas
+pub mod FrontLemmas
 pub mod LetterLemmas
 pub mod OwnServiceLemmas
 pub mod PathLemmas

@@ -1,5 +1,5 @@
 -- Worked examples of the text of a queue file's message, each computed.
-use Rattle.std.proofs.Common.{◌≡◌, ℕ, List, [], ◌∷◌, codes, refl}
+use Rattle.std.proofs.Common.{◌≡◌, ℕ, List, [], ◌∷◌, codes, refl, take}
 use Rattle.dsn_postfix.specs.files.MessageText.{message_text}
 use Rattle.dsn_postfix.specs.files.QueueRecord.{PlacedBytes}
 
@@ -28,3 +28,7 @@ without_an_end = refl
 
 no_message : message_text (at 0 78 (codes "line") ∷ []) ≡ []
 no_message = refl
+
+-- its front, cut in a line
+front_of_lines : take 7 (message_text (at 0 77 [] ∷ at 2 78 (codes "one") ∷ at 7 78 (codes "two three") ∷ [])) ≡ codes "one\ntwo"
+front_of_lines = refl

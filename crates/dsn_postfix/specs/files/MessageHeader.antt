@@ -1,5 +1,5 @@
 -- The header of a message: the lines of its text that stand before its body.
-use Rattle.std.specs.Prelude.{ℕ, Bool, false, not, ◌&&◌, ◌||◌, ◌+◌, ◌==◌, List, [], ◌∷◌, take, drop, nat_lt, if◌then◌else◌}
+use Rattle.std.specs.Prelude.{◌≡◌, ◌<◌, ℕ, Bool, false, not, ◌&&◌, ◌||◌, ◌+◌, ◌==◌, List, [], ◌∷◌, length, take, drop, nat_lt, if◌then◌else◌}
 use Rattle.std.specs.List.{prefix_len}
 use Rattle.dsn_postfix.specs.files.LogLine.{all_lines}
 use Rattle.dsn_postfix.specs.files.LogParts.{with_its_feed}
@@ -28,9 +28,14 @@ abbrev pub names_field : List ℕ → Bool
 names_field line =
     begins_with is_name_byte line && begins_with is_colon (after_all is_blank_byte (after_all is_name_byte line))
 
+-- a name and its colon are in this many bytes at the front of a line: Postfix cuts longer lines into records of at most
+-- these (`line_length_limit` of postconf(5)), and bounce(8) judges a line by its first record
+abbrev pub longest_field_name : ℕ
+longest_field_name = 2048
+
 -- a line of a header begins a field, or goes on with one (RFC 5322 section 2.2.3)
 abbrev pub is_header_line : List ℕ → Bool
-is_header_line line = begins_with is_blank_byte line || names_field line
+is_header_line line = begins_with is_blank_byte line || names_field (take longest_field_name line)
 
 -- how many bytes the lines before the first other one have, with their line feeds: so a header ends before
 -- an empty line, and where none comes before the first line that is none of a header
@@ -40,3 +45,14 @@ header_size (line ∷ lines) = if is_header_line line then with_its_feed line li
 
 abbrev pub message_header : List ℕ → List ℕ
 message_header text = take (header_size (all_lines text)) text
+
+-- ---- the header of a text of which only the front is known
+
+-- how many bytes at the front of a text show its header, if that has at most this many
+abbrev pub front_size : ℕ → ℕ
+front_size limit = limit + longest_field_name + 1
+
+-- two headers are the same one, or both have more bytes than that
+pub data AreSameUpTo (limit : ℕ) (header other : List ℕ) : Type 0 where
+  same : header ≡ other → AreSameUpTo limit header other
+  longer : limit < length header → limit < length other → AreSameUpTo limit header other

@@ -1,11 +1,12 @@
 //! What is true of log files and of queue files, whatever the code does: each law is the contract of a
 //! function that changes nothing.
-ghost use Rattle.std.specs.Prelude.{◌≡◌, ℕ, List, IsTrue, map};
+ghost use Rattle.std.specs.Prelude.{◌≡◌, ℕ, List, IsTrue, map, take};
 ghost use Rattle.dsn_text.specs.declared.service.Service.{Service};
 ghost use Rattle.dsn_postfix.specs.files.LogFile.{SaidLog, log_entries, log_parts};
 ghost use Rattle.dsn_postfix.specs.files.LogLine.{all_lines};
 ghost use Rattle.dsn_postfix.specs.files.LogParts.{ArePartsOf};
 ghost use Rattle.dsn_postfix.specs.files.LogRecord.{LoggedFields, are_sayable, log_bytes};
+ghost use Rattle.dsn_postfix.specs.files.MessageHeader.{AreSameUpTo, front_size, message_header};
 ghost use Rattle.dsn_postfix.specs.files.QueueListing.{HasOneListing};
 
 /// A log whose records can be said is read back as it was written: no record is lost, none is
@@ -27,4 +28,12 @@ pub fn log_files_are_read_whole()
 /// more records than the file has bytes, once, and once more for each jump back that it may have.
 pub fn queue_files_have_one_list()
     ensures { (file : List ℕ) → HasOneListing file }
+{}
+
+/// The header of a text is that of its front, or both headers have more bytes than a limit. So whoever
+/// takes no longer header needs that front alone.
+#[tactic(auto, using(crate::proofs::files::MessageHeaderLemmas::header_of_front))]
+pub fn fronts_show_headers()
+    ensures { (limit : ℕ) (text : List ℕ)
+        → AreSameUpTo limit (message_header (take (front_size limit) text)) (message_header text) }
 {}

@@ -1,8 +1,11 @@
 //! The header of a message.
-ghost use Rattle.std.specs.Prelude.{◌≡◌};
-ghost use Rattle.dsn_postfix.specs.files.MessageHeader.{after_all, begins_with, is_blank_byte, is_colon, is_header_line, is_name_byte, message_header, names_field};
+ghost use Rattle.std.specs.Prelude.{◌≡◌, take};
+ghost use Rattle.dsn_postfix.specs.files.MessageHeader.{after_all, begins_with, is_blank_byte, is_colon, is_header_line, is_name_byte, longest_field_name, message_header, names_field};
 
 use crate::files::log_line::whole_line;
+
+/// How many bytes at the front of a line the name of a field has at most, with its colon.
+pub const LONGEST_FIELD_NAME: usize = 2_048;
 
 /// Whether a byte is a space or a tab.
 fn is_blank_byte(byte: u8) -> bool
@@ -11,7 +14,7 @@ fn is_blank_byte(byte: u8) -> bool
     byte == b' ' || byte == b'\t'
 }
 
-/// Whether a byte stands in the name of a field (RFC 5322 section 2.2).
+/// Whether a byte may be in the name of a field (RFC 5322 section 2.2).
 fn is_name_byte(byte: u8) -> bool
     ensures { result ≡ is_name_byte byte }
 {
@@ -66,18 +69,29 @@ fn begins_with_colon(text: &[u8]) -> bool
     }
 }
 
+/// The front of a line that has the name of a field, if the line begins one.
+fn front_of_line(line: &[u8]) -> &[u8]
+    ensures { result.now ≡ take longest_field_name line.now }
+{
+    if line.len() <= LONGEST_FIELD_NAME {
+        line
+    } else {
+        &line[..LONGEST_FIELD_NAME]
+    }
+}
+
 /// Whether a line is one of a header: it begins a field, or goes on with one.
 fn is_header_line(line: &[u8]) -> bool
     ensures { result ≡ is_header_line line.now }
 {
     match line {
-        [byte, ..] => is_blank_byte(*byte) || names_field(line),
+        [byte, ..] => is_blank_byte(*byte) || names_field(front_of_line(line)),
         [] => false,
     }
 }
 
 /// The header of a message's text: its lines before the first one that neither begins a field nor goes on
-/// with one, as the empty line is that stands before a body.
+/// with one, as the empty line before a body.
 pub fn header_of_message(text: &[u8]) -> &[u8]
     ensures { result.now ≡ message_header text.now }
 {

@@ -20,13 +20,17 @@ use crate::requests::notice_task::NoticeTask;
 use crate::requests::pass_reason::PassReason;
 use crate::requests::request_terms::RequestTerms;
 use crate::requests::service_settings::ServiceSettings;
-use dsn_outcome::Letter;
+use dsn_outcome::{LONGEST_HEADER, Letter};
 use dsn_postfix::{
-    MessageFacts, NoticeRequest, PlanFault, PlannedNotice, QueueReader, QueuedRecipient,
-    plan_notices, queue_files_have_one_list, text_of_message,
+    LONGEST_FIELD_NAME, MessageFacts, NoticeRequest, PlanFault, PlannedNotice, QueueReader,
+    QueuedRecipient, fronts_show_headers, plan_notices, queue_files_have_one_list, text_of_message,
 };
 use dsn_text::Stamp;
 use std::alloc::{AllocError, Global};
+
+/// As much of a message's text as letters need: a longer text isn't returned whole, and a header that
+/// doesn't end in there isn't returned.
+const FRONT_OF_TEXT: usize = LONGEST_HEADER + LONGEST_FIELD_NAME + 1;
 
 /// The next recipient of a queue file, if there is one before its end or the place where it can't
 /// be read on.
@@ -165,10 +169,11 @@ pub(super) fn letters_asked(
     let settings: &ServiceSettings<'_> = terms.settings;
     let notice: &NoticeRequest<'_> = task.notice;
     queue_files_have_one_list();
+    fronts_show_headers();
     let Ok(queued) = queued_recipients(alloc, &found.file) else {
         return Err(NoLetters::NoMemory);
     };
-    let Ok(text) = text_of_message(alloc, &found.file) else {
+    let Ok(text) = text_of_message(alloc, &found.file, FRONT_OF_TEXT) else {
         return Err(NoLetters::NoMemory);
     };
     let facts = facts_said(&found.file);

@@ -54,7 +54,7 @@ fn queue_line(rt: &HostRuntime, file: &[u8]) -> Option<String> {
     let (found, ends) = records(file);
     let (named, named_ends) = recipients(file);
     let facts = MessageFacts::read(file).is_ok();
-    let text = text_of_message(rt.alloc(), file).ok()?;
+    let text = text_of_message(rt.alloc(), file, usize::MAX).ok()?;
     let size = text.len();
     let header = header_of_message(&text).len();
     format!(in rt.alloc(); "{found} {ends} {named} {named_ends} {facts} {size} {header}").ok()

@@ -135,7 +135,7 @@ pub(crate) fn planned(rt: &HostRuntime, service: Service, given: &[u8]) -> Optio
     let asked = notice_asked(&request)?;
     let facts = MessageFacts::read(file).ok()?;
     let queued = recipients(rt, file)?;
-    let message = text_of_message(rt.alloc(), file).ok()?;
+    let message = text_of_message(rt.alloc(), file, usize::MAX).ok()?;
     let mut text = Vec::new(rt.alloc());
     let arrival = format!(in rt.alloc(); "{}", facts.arrival.unwrap_or(0)).ok()?;
     push_part(&mut text, rt, "arrival", arrival.as_bytes())?;

@@ -1,4 +1,4 @@
--- Whatever the text is, it is what was read so far with what later records have.
+-- Whatever the text is, it is what was read so far with what later records have; and that is no more than the limit.
 use Rattle.std.proofs.Common.{◌≤◌, length, List, ℕ, [], false}
 use Rattle.dsn_postfix.specs.files.MessageText.{TextLeft}
 use Rattle.dsn_postfix.specs.files.QueueListing.{QueueEnding}
@@ -8,6 +8,7 @@ use Rattle.dsn_postfix.proofs.files.message_text.text_of_message.Given as goal
 abbrev pub invariant-loop-found : goal.invariant-loop-found
 invariant-loop-found l = record {
   within : length l.here ≤ length l.file;
+  fits : length l.text.items ≤ l.limit;
   left : (text : List ℕ) (ending : QueueEnding) → TextLeft (record { file = l.file; place = first_place l.file }) [] false text ending → TextLeft (record { file = l.file; place = record { rest = l.here; jumps = l.left } }) l.text.items l.within text ending;
 }
 

@@ -1,4 +1,4 @@
-use Rattle.std.proofs.Common.{◌≡◌, ◌∙◌, List, ℕ, Result, Ok, Err, true, ap, map, subst, sym}
+use Rattle.std.proofs.Common.{◌≡◌, ◌∙◌, List, ℕ, Result, Ok, Err, true, ap, map, subst, sym, take}
 use Rattle.std.specs.List.{list_any}
 use Rattle.std.specs.Option.{option_map, unwrap_or}
 use Rattle.dsn_postfix.specs.NoticePlan.{IsPlanFault, notices_of}
@@ -7,6 +7,7 @@ use Rattle.dsn_postfix.specs.declared.cant_say.CantSay.{CantSay}
 use Rattle.dsn_postfix.specs.declared.plan_fault.PlanFault.{PlanFault}
 use Rattle.dsn_postfix.specs.declared.planned_notice.PlannedNotice.{PlannedNotice}
 use Rattle.dsn_postfix.specs.files.MessageFacts.{message_facts_in, said_of_message}
+use Rattle.dsn_postfix.specs.files.MessageHeader.{front_size}
 use Rattle.dsn_postfix.specs.files.MessageText.{message_text}
 use Rattle.dsn_postfix.specs.files.QueueListing.{RecordsFrom}
 use Rattle.dsn_postfix.specs.files.QueueRecipients.{recipient_facts_in, recipients_of}
@@ -15,6 +16,8 @@ use Rattle.dsn_postfix_service.specs.letters.ReportedMessage.{MessageSaid}
 use Rattle.dsn_postfix_service.specs.requests.MailFound.{mail_read_in}
 use Rattle.dsn_postfix_service.specs.requests.RequestLetters.{AreLettersOf, IsUnsaid, has_fault, message_said}
 use Rattle.dsn_postfix_service.specs.requests.ServiceSettings.{settings_said_in}
+use Rattle.dsn_text.specs.Text.{longest_header}
+use Rattle.dsn_postfix_service.proofs.FrontLemmas.{any_fault_of_front, letters_of_front, with_front}
 use Rattle.dsn_postfix_service.proofs.RequestLetterLemmas.{err_as, ok_as, reason_as}
 use Rattle.dsn_postfix_service.proofs.requests.request_letters.letters_asked.Goals as goal
 
@@ -28,7 +31,7 @@ returns-in-Ok-plan_notices-clause-letters c =
     λ other is. subst (λ (f : List ℕ). RecordsFrom f (first_place f) records ending) (sym is) listing.lists in
     let queued : map recipient_facts_in c.deref-5.result.now ≡ recipients_of records =
     ap (map recipient_facts_in) c.deref-5.ensures.value ∙ c.in-Ok.ensures records ending (come_from _ c.deref.ensures.value) in
-    let text : c.deref-4.result.now ≡ message_text records =
+    let text : c.deref-4.result.now ≡ take (front_size longest_header) (message_text records) =
     c.deref-4.ensures.value ∙ c.in-Ok-text_of_message.ensures records ending (come_from _ c.deref-2.ensures.value) in
     let facts : message_facts_in c.facts_said-facts.result ≡ said_of_message records = c.facts_said-facts.ensures records ending (come_from _ c.deref-3.ensures.value) in
     let notice = c.args.task.now.notice.now in
@@ -43,7 +46,8 @@ returns-in-Ok-plan_notices-clause-letters c =
       listed = listing.lists;
       notices = map notice_facts_in notices;
       planned = planned;
-      each = subst (λ (ns : List PlannedNotice). AreLettersOf (message_said (settings_said_in c.args.task.now.terms.now.settings.now) notice records) c.args.task.now.terms.now.moment c.args.task.now.terms.now.first_serial (map notice_facts_in ns) letters.items) c.deref-in-Ok-plan_notices.ensures.value
+      each = letters_of_front c.fronts_show_headers.ensures (message_said (settings_said_in c.args.task.now.terms.now.settings.now) notice records) c.args.task.now.terms.now.moment c.args.task.now.terms.now.first_serial (map notice_facts_in notices) letters.items
+          (subst (λ (ns : List PlannedNotice). AreLettersOf (with_front (message_said (settings_said_in c.args.task.now.terms.now.settings.now) notice records)) c.args.task.now.terms.now.moment c.args.task.now.terms.now.first_serial (map notice_facts_in ns) letters.items) c.deref-in-Ok-plan_notices.ensures.value
           (subst (λ (message : MessageSaid). AreLettersOf message c.args.task.now.terms.now.moment c.args.task.now.terms.now.first_serial (map notice_facts_in c.deref-in-Ok-plan_notices.result.now) letters.items)
           (λ i. record {
             queue_id = notice.queue_id;
@@ -53,7 +57,7 @@ returns-in-Ok-plan_notices-clause-letters c =
             text = text i;
             lifetime = c.args.task.now.terms.now.settings.now.lifetime;
             size_limit = c.args.task.now.terms.now.settings.now.size_limit;
-          }) are);
+          }) are));
     })
 
 pub returns-in-Ok-plan_notices-clause-none : goal.returns-in-Ok-plan_notices-clause-none
@@ -66,7 +70,7 @@ returns-in-Ok-plan_notices-clause-none c =
     λ other is. subst (λ (f : List ℕ). RecordsFrom f (first_place f) records ending) (sym is) listing.lists in
     let queued : map recipient_facts_in c.deref-5.result.now ≡ recipients_of records =
     ap (map recipient_facts_in) c.deref-5.ensures.value ∙ c.in-Ok.ensures records ending (come_from _ c.deref.ensures.value) in
-    let text : c.deref-4.result.now ≡ message_text records =
+    let text : c.deref-4.result.now ≡ take (front_size longest_header) (message_text records) =
     c.deref-4.ensures.value ∙ c.in-Ok-text_of_message.ensures records ending (come_from _ c.deref-2.ensures.value) in
     let facts : message_facts_in c.facts_said-facts.result ≡ said_of_message records = c.facts_said-facts.ensures records ending (come_from _ c.deref-3.ensures.value) in
     let notice = c.args.task.now.notice.now in
@@ -82,7 +86,8 @@ returns-in-Ok-plan_notices-clause-none c =
       ending = ending;
       listed = listing.lists;
       unsaid = subst (λ (plan : Result (List NoticeFacts) CantSay). IsUnsaid said plan) (sym planned)
-          (subst (λ (ns : List PlannedNotice). list_any (has_fault said) (map notice_facts_in ns) ≡ true) c.deref-in-Ok-plan_notices.ensures.value
+          (any_fault_of_front c.fronts_show_headers.ensures said (map notice_facts_in notices)
+          (subst (λ (ns : List PlannedNotice). list_any (has_fault (with_front said)) (map notice_facts_in ns) ≡ true) c.deref-in-Ok-plan_notices.ensures.value
           (subst (λ (message : MessageSaid). list_any (has_fault message) (map notice_facts_in c.deref-in-Ok-plan_notices.result.now) ≡ true)
           (λ i. record {
             queue_id = notice.queue_id;
@@ -92,7 +97,7 @@ returns-in-Ok-plan_notices-clause-none c =
             text = text i;
             lifetime = c.args.task.now.terms.now.settings.now.lifetime;
             size_limit = c.args.task.now.terms.now.settings.now.size_limit;
-          }) fault));
+          }) fault)));
     }))
 
 pub returns-clause-none : goal.returns-clause-none

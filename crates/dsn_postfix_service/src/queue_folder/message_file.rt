@@ -4,6 +4,14 @@ use std::io;
 use std::io::{Error, ErrorKind};
 use std::os::unix::fs::FileExt;
 
+/// From how many bytes on a message's file is large: only one thread at a time has such a file in
+/// memory.
+pub(super) const LARGE: u64 = 1_048_576;
+
+/// More bytes than the C library keeps of a piece of memory that is no longer used, in place of giving
+/// it back to the system (`M_MMAP_THRESHOLD` of mallopt(3)).
+const NEVER_KEPT: u64 = 33_554_432 + 1;
+
 /// What a record of a recipient begins with, and what it begins with once the recipient is done.
 const RECIPIENT: u8 = b'R';
 
@@ -19,6 +27,15 @@ pub(super) fn open_shared(rt: &HostRuntime, path: &str) -> io::Result<Option<Fil
     };
     file.try_lock_shared()?;
     Ok(Some(file))
+}
+
+/// All bytes of a large file, in memory that goes back to the system as soon as it isn't used any more.
+/// Else each thread would keep what its last file took. What lies beyond the file takes up nothing.
+pub(super) fn read_large(rt: &HostRuntime, file: &File, size: u64) -> io::Result<Vec<u8>> {
+    let mut bytes = Vec::with_capacity(rt.alloc(), size.max(NEVER_KEPT) as usize)?;
+    bytes.resize(size as usize, 0)?;
+    file.read_exact_at(&mut bytes, 0)?;
+    Ok(bytes)
 }
 
 /// Marks the recipient whose record stands at a place of a file as done. The file may have another

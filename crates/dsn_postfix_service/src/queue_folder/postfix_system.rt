@@ -6,10 +6,12 @@ use crate::hand_in::{HandInFault, Notice, ReplyBuffer, queue_id_in};
 use crate::mail_server::{KeptSessions, MailServer};
 use crate::queue_folder::ascii_text::{ascii_text, asked_text};
 use crate::queue_folder::connection::Connection;
+use crate::queue_folder::large_files::LargeFiles;
 use crate::queue_folder::log_file::{
     append_synced, has_bytes, is_there, open_locked, open_or_make, read_whole, remove_if_there,
+    size_of,
 };
-use crate::queue_folder::message_file::{mark_done, open_shared};
+use crate::queue_folder::message_file::{LARGE, mark_done, open_shared, read_large};
 use crate::queue_folder::notice_words::{FAILURE_NOTICE, is_discarded, notice_kind};
 use crate::queue_folder::own_service::ask_own_service;
 use crate::queue_folder::postfix_place::PostfixPlace;
@@ -22,7 +24,7 @@ use dsn_text::{Address, QueueId, Service};
 use std::alloc::Global;
 use std::fmt::Display;
 use std::fs::File;
-use std::io::ErrorKind;
+use std::io::{Error, ErrorKind};
 use std::os::unix::net::UnixStream;
 use std::sync::Wait;
 use std::time::{Clock, Duration};
@@ -45,10 +47,14 @@ pub(crate) struct PostfixSystem<'a, W> {
     place: &'a PostfixPlace<'a>,
     /// The sessions with the mail server that all threads share.
     sessions: &'a KeptSessions,
+    /// The turn to hold a large queue file that all threads share.
+    large_files: &'a LargeFiles,
     /// Where its lines go.
     events: &'a EventLog,
     /// The sender of notices about notices.
     double_bounce: &'a [u8],
+    /// Whether this thread has the turn to hold a large queue file.
+    has_turn: bool,
     /// The log that was read and is locked.
     log: Option<File>,
     /// The message's file that was read and is locked.
@@ -68,6 +74,7 @@ impl<'a, W> PostfixSystem<'a, W> {
         waiting: &'a W,
         place: &'a PostfixPlace<'a>,
         sessions: &'a KeptSessions,
+        large_files: &'a LargeFiles,
         events: &'a EventLog,
         double_bounce: &'a [u8],
     ) -> PostfixSystem<'a, W> {
@@ -76,8 +83,10 @@ impl<'a, W> PostfixSystem<'a, W> {
             waiting,
             place,
             sessions,
+            large_files,
             events,
             double_bounce,
+            has_turn: false,
             log: None,
             message: None,
             asked: None,
@@ -140,6 +149,28 @@ impl<W: Wait + Clock> PostfixSystem<'_, W> {
                 self.waiting,
                 format_args!("warning: {asked}: undeliverable postmaster notification discarded"),
             );
+        }
+    }
+
+    /// All bytes of a queue file. A large one waits for its turn, and fails if that doesn't come.
+    fn read_in_turn(&mut self, path: &str, file: &File) -> Result<Vec<u8>, DeedFault> {
+        let rt: &HostRuntime = self.rt;
+        let size = self.deed(path, size_of(file))?;
+        if size <= LARGE {
+            return self.deed(path, read_whole(rt, file));
+        }
+        self.has_turn = self.large_files.take(self.waiting);
+        if !self.has_turn {
+            return self.deed(path, Err(Error::from(ErrorKind::TimedOut)));
+        }
+        self.deed(path, read_large(rt, file, size))
+    }
+
+    /// Gives the turn to hold a large queue file back, if this thread has it.
+    pub(crate) fn end_turn(&mut self) {
+        if self.has_turn {
+            self.has_turn = false;
+            self.large_files.give_back(self.waiting);
         }
     }
 
@@ -255,11 +286,12 @@ impl<W: Wait + Clock> MailSystem for PostfixSystem<'_, W> {
     ) -> Result<Vec<u8>, DeedFault> {
         let (rt, place): (&HostRuntime, &PostfixPlace<'_>) = (self.rt, self.place);
         self.message = None;
+        self.end_turn();
         let path = self.deed(PATH, path_of(rt, place, queue.bytes(), id))?;
         let Some(file) = self.deed(path.as_str(), open_shared(rt, path.as_str()))? else {
             return Ok(Vec::new(rt.alloc()));
         };
-        let bytes = self.deed(path.as_str(), read_whole(rt, &file))?;
+        let bytes = self.read_in_turn(path.as_str(), &file)?;
         self.message = Some(file);
         Ok(bytes)
     }
@@ -315,5 +347,6 @@ impl<W: Wait + Clock> MailSystem for PostfixSystem<'_, W> {
     fn release_log(&mut self) {
         self.log = None;
         self.message = None;
+        self.end_turn();
     }
 }

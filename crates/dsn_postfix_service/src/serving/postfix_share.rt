@@ -1,7 +1,7 @@
 //! What the threads that serve a Postfix share.
 use crate::event_log::EventLog;
 use crate::mail_server::KeptSessions;
-use crate::queue_folder::PostfixPlace;
+use crate::queue_folder::{LargeFiles, PostfixPlace};
 use crate::requests::ServiceSettings;
 use crate::serving::service_queue::ServiceQueue;
 use dsn_text::Service;
@@ -23,6 +23,8 @@ pub(super) struct PostfixShare<'a> {
     pub(super) settings: ServiceSettings<'a>,
     /// The sessions with its mail server.
     pub(super) sessions: KeptSessions,
+    /// The turn to hold a large queue file.
+    pub(super) large_files: LargeFiles,
     /// Where lines go.
     pub(super) events: Arc<EventLog, Global>,
     /// The clients of each service that wait for a thread that makes notices.
@@ -50,6 +52,7 @@ impl<'a> PostfixShare<'a> {
             place,
             settings,
             sessions: KeptSessions::new(alloc, waiting)?,
+            large_files: LargeFiles::new(alloc, waiting)?,
             events,
             bounce: ServiceQueue::new(alloc)?,
             defer: ServiceQueue::new(alloc)?,

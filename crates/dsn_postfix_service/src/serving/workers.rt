@@ -327,6 +327,7 @@ fn answer_one<R: Wait + Clock>(
         waiting,
         &share.place,
         &share.sessions,
+        &share.large_files,
         &share.events,
         share.settings.double_bounce,
     );
@@ -339,6 +340,7 @@ fn answer_one<R: Wait + Clock>(
         share.next_serial(),
         &mut system,
     );
+    system.end_turn();
     match answered {
         Ok(0) => system.say_discarded(),
         Ok(status) => say_unserved(waiting, service, share, system.asked(), status),

@@ -7,6 +7,7 @@ kill doesn't; that a machine which stops while the files are made leaves ones th
 a run which is asked nothing needs no room in its journal."""
 import contextlib
 import os
+import random
 import re
 import shutil
 import subprocess
@@ -276,6 +277,74 @@ def nothing_asked(checks: Checks, room: Path):
         checks.equal("a full journal, asked something: the end", it.end(), Ran(b"", b"fault 45\n", 1))
 
 
+def begun(room: Path, name: str) -> Place:
+    """A place whose journal has 40 appends, a flush of each key and 20 more appends, as a kill leaves it."""
+    place = Place(room, name)
+    with place.daemon(uses=2) as it:
+        keys = [b"K%d" % number for number in range(40)]
+        asks = [(append, key) for key in keys] + [(flush, key) for key in keys] + [(append, b"L%d" % n) for n in range(20)]
+        exchange(it, b"".join(ask(number, key) for number, (ask, key) in enumerate(asks)), len(asks))
+        it.running.kill()
+        it.end()
+    return place
+
+
+def lost_bytes(checks: Checks, room: Path):
+    """A byte of a journal, or of marks, made 0: if more records are behind it than one write has, the file isn't opened
+    (75), and stays as it is. What a write may have left is cleared, and the records before it are there."""
+    place = begun(room, "lost")
+    whole = place.file("journal")
+    used = sum(map(len, map(journal.spelled, journal.records(whole))))
+    reported = 0
+    for at in random.Random(7).sample(range(used), 400):
+        file = whole[:at] + b"\0" + whole[at + 1 :]
+        (place.folder / "journal").write_bytes(file)
+        found = listed(place)
+        if not journal.records(file):
+            wanted = not_opened(place.folder, "the file isn't a journal's", 73)
+        elif journal.counted_behind(file) >= 16:
+            wanted = not_opened(place.folder, "a byte among the journal's records was lost", 75)
+            reported += 1
+        else:
+            wanted = Ran(found.outbox, b"", 0)
+        checks.equal(f"byte {at} made 0", found, wanted)
+    checks.true(f"most lost bytes are reported: {reported} of 400", reported > 250)
+    (place.folder / "journal").write_bytes(whole[:100] + b"\0" + whole[101:])
+    before = place.file("journal")
+    checks.equal("a start over a lost byte", place.run(), Ran(b"", b"fault 75\n", 1))
+    checks.equal("a start over a lost byte: the file stays", place.file("journal"), before)
+    (place.folder / "journal").write_bytes(whole)
+    marks = [number.to_bytes(8, "big") for number in (255, 256, 257)]
+    for kept, words, code in (
+        (0, "the file isn't one of marks", 73),
+        (1, "a byte among the marks was lost", 75),
+    ):
+        at = sum(map(len, map(journal.spelled, marks[:kept]))) + 3
+        file = journal.at_rest(marks, MARKS)
+        (place.folder / "marks").write_bytes(file[:at] + b"\0" + file[at + 1 :])
+        checks.equal(f"a byte of mark {kept} made 0", listed(place), not_opened(place.folder, words, code))
+
+
+def torn_forgets(checks: Checks, room: Path):
+    """The machine stops within the one write by which a run that ends in order forgets 40 closed keys: whichever bytes
+    of it are left, the next daemon begins."""
+    place = begun(room, "torn")
+    with place.daemon() as it:
+        exchange(it, b"", 0)
+        it.end()
+    whole, marks = place.file("journal"), place.file("marks")
+    kept = journal.records(whole)
+    start = sum(map(len, map(journal.spelled, kept[:-40])))
+    checks.equal("the last 40 records are forgets", {it[:2] for it in kept[-40:]}, {b"\2\4"})
+    for at in (0, 1, 5, 40, 100):
+        (place.folder / "journal").write_bytes(whole[: start + at] + b"\0" + whole[start + at + 1 :])
+        (place.folder / "marks").write_bytes(marks)
+        checks.equal(f"without byte {at} of the forgets, listed", listed(place).status, 0)
+        with place.daemon() as it:
+            exchange(it, b"", 0)
+            checks.equal(f"without byte {at} of the forgets", it.end().status, 0)
+
+
 def outboxes(checks: Checks, room: Path):
     """An outbox that can't be opened or written (31): the next daemon posts the letters that it didn't take."""
     place = Place(room, "outboxes")
@@ -386,7 +455,7 @@ def main():
     checks = Checks("journal_faults: folders, files and outboxes that fail a daemon with a journal")
     with tempfile.TemporaryDirectory(prefix="noticed-faults-") as name:
         room = Path(name)
-        for check in (folders, not_allowed, files, short_marks, missing, nothing_asked, outboxes, ends):
+        for check in (folders, not_allowed, files, short_marks, missing, nothing_asked, lost_bytes, torn_forgets, outboxes, ends):
             check(checks, room)
         library = built(room, "power")
         stops_of_a_first_start(checks, room, library)

@@ -12,6 +12,7 @@ use Rattle.dsn_book.specs.Book.{Book}
 use Rattle.dsn_book.specs.Keeper.{MayCrash}
 use Rattle.dsn_crew.specs.desk.Desk.{BeginsWith}
 use Rattle.dsn_journal.specs.EarlierRuns.{HaveHistoryOfLedger, of_earlier_run}
+use Rattle.dsn_journal.specs.Behind.{HasMoreBehind}
 use Rattle.dsn_journal.specs.Compacted.{compacted}
 use Rattle.dsn_journal.specs.Header.{SayHistory, StandsForFile, base_limit, with_header}
 use Rattle.dsn_journal.specs.InPlace.{AreRecordsInPlaceOf, IsLedgerInPlaceOf, ReopensTo}
@@ -171,25 +172,27 @@ many_sealed sealed all is none =
     omega (arith, more)
 
 -- marks that were not opened
-pub marks_refused : (file : List ℕ) (cause : MarksError) → (cause ≡ no_marks_for.Foreign → IsForeignToMarks file) → (cause ≡ no_marks_for.Damaged → SayNoMark (recovered file)) → (cause ≡ no_marks_for.TooShort → IsTooShortForMarks file) → (cause ≡ no_marks_for.Journal Full → ⊥)
+pub marks_refused : (file : List ℕ) (cause : MarksError) → (cause ≡ no_marks_for.Foreign → IsForeignToMarks file) → (cause ≡ no_marks_for.Damaged → SayNoMark (recovered file)) → (cause ≡ no_marks_for.ByteLost → HasMoreBehind 1 file) → (cause ≡ no_marks_for.TooShort → IsTooShortForMarks file) → (cause ≡ no_marks_for.Journal Full → ⊥)
     → AreMarksRefusedFor file cause
-marks_refused file (no_marks_for.Journal Memory) foreign damaged short full = tt
-marks_refused file (no_marks_for.Journal Failed) foreign damaged short full = tt
-marks_refused file (no_marks_for.Journal Full) foreign damaged short full = absurd (full refl)
-marks_refused file no_marks_for.Foreign foreign damaged short full = foreign refl
-marks_refused file no_marks_for.Damaged foreign damaged short full = damaged refl
-marks_refused file no_marks_for.TooShort foreign damaged short full = short refl
+marks_refused file (no_marks_for.Journal Memory) foreign damaged lost short full = tt
+marks_refused file (no_marks_for.Journal Failed) foreign damaged lost short full = tt
+marks_refused file (no_marks_for.Journal Full) foreign damaged lost short full = absurd (full refl)
+marks_refused file no_marks_for.Foreign foreign damaged lost short full = foreign refl
+marks_refused file no_marks_for.Damaged foreign damaged lost short full = damaged refl
+marks_refused file no_marks_for.ByteLost foreign damaged lost short full = lost refl
+marks_refused file no_marks_for.TooShort foreign damaged lost short full = short refl
 
 -- the mark under which a journal was opened is one of it
-pub mark_of_opened : (limits : Limits) (mark : ℕ) (journal : List ℕ) (book : Book) (base : ℕ) (records : List (List ℕ)) → (IsForeign limits journal → ⊥) → book.limits ≡ limits
+pub mark_of_opened : (limits : Limits) (mark : ℕ) (journal : List ℕ) (book : Book) (base : ℕ) (records : List (List ℕ)) → (IsForeign limits journal → ⊥) → (HasMoreBehind 16 journal → ⊥) → book.limits ≡ limits
     → records ≡ with_header limits (recovered journal) → StandsForFile book base records → base ≤ mark → mark ≤ base + book.sealed → IsMarkOfJournal limits journal mark
-mark_of_opened limits mark journal book base records own limits_are same file reached counted =
+mark_of_opened limits mark journal book base records own whole limits_are same file reached counted =
     let sealed : book.sealed ≡ length (sealed_letters file.history) = file.stands.sealed in
     record {
       base = base;
       history = file.history;
       has = record {
         own = own;
+        whole = whole;
         said = subst (λ (rs : List (List ℕ)). SayHistory limits base rs file.history) same (subst (λ (l : Limits). SayHistory l base records file.history) limits_are file.said);
         reached = reached;
         sealed = omega (arith, counted, sealed);

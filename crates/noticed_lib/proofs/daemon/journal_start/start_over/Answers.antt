@@ -18,7 +18,7 @@ returns-in-Ok-open-clause-start g c =
     let leaves = subst (λ (it : Marks _). LeavesTheMark g.M.Disk it) (sym marks_are) c.in-Ok.ensures.leaves in
     let ledger = c.in-Ok-open.opened.ledger in
     let of_journal_is = subst (IsMarkOfJournal c.args.limits (g.D.Disk.seen c.args.folder.journal)) (c.mark-mark.ensures.mark ∙ sym mark_is)
-    (mark_of_opened c.args.limits c.mark-mark.result (g.D.Disk.seen c.args.folder.journal) ledger.book ledger.base (recovered (g.D.Disk.seen ledger.journal.disk)) opened.new opened.limits opened.same
+    (mark_of_opened c.args.limits c.mark-mark.result (g.D.Disk.seen c.args.folder.journal) ledger.book ledger.base (recovered (g.D.Disk.seen ledger.journal.disk)) opened.new opened.whole opened.limits opened.same
     (stands_for_all g.D.Disk ledger opened.settled opened.stands) opened.posted opened.mark) in
     IfOk-weaker c.start_over_ledger.result _ _
     (λ start is.
@@ -41,7 +41,7 @@ returns-in-Ok-open-clause-fault g c =
     let leaves = subst (λ (it : Marks _). LeavesTheMark g.M.Disk it) (sym marks_are) c.in-Ok.ensures.leaves in
     let ledger = c.in-Ok-open.opened.ledger in
     let of_journal_is = subst (IsMarkOfJournal c.args.limits (g.D.Disk.seen c.args.folder.journal)) (c.mark-mark.ensures.mark ∙ sym mark_is)
-    (mark_of_opened c.args.limits c.mark-mark.result (g.D.Disk.seen c.args.folder.journal) ledger.book ledger.base (recovered (g.D.Disk.seen ledger.journal.disk)) opened.new opened.limits opened.same
+    (mark_of_opened c.args.limits c.mark-mark.result (g.D.Disk.seen c.args.folder.journal) ledger.book ledger.base (recovered (g.D.Disk.seen ledger.journal.disk)) opened.new opened.whole opened.limits opened.same
     (stands_for_all g.D.Disk ledger opened.settled opened.stands) opened.posted opened.mark) in
     IfErr-weaker c.start_over_ledger.result _ _
     (λ left why.
@@ -54,7 +54,7 @@ returns-in-Ok-open-clause-fault g c =
 pub returns-in-Err-clause-fault : goal.returns-in-Err-clause-fault
 returns-in-Err-clause-fault g c =
     let left = c.in-Err.ensures in
-    no_marks c.in-Err.left.cause c.code-code.ensures refl (marks_refused (g.M.Disk.seen c.args.folder.marks) c.in-Err.left.cause left.foreign left.damaged left.short left.not_full) refl
+    no_marks c.in-Err.left.cause c.code-code.ensures refl (marks_refused (g.M.Disk.seen c.args.folder.marks) c.in-Err.left.cause left.foreign left.damaged left.lost left.short left.not_full) refl
     (only_read g.M.Disk c.args.folder.marks c.in-Err.left.disk _ left.untouched left.unwritten) left.any_moment left.count
 
 pub returns-in-Err-open-clause-fault : goal.returns-in-Err-open-clause-fault
@@ -62,8 +62,8 @@ returns-in-Err-open-clause-fault g c =
     let mark = subst (SayMark (recovered (g.M.Disk.seen c.args.folder.marks))) (sym c.mark-mark.ensures.mark) c.in-Ok.ensures.mark in
     let left = c.in-Err-open.ensures in
     let marks_opened = subst (LeavesMarksOpened g.M.Disk c.args.folder.marks) (sym c.into_disk.ensures.disk) c.in-Ok.ensures.any_moment in
-    no_ledger c.in-Err-open.left.cause c.mark-mark.result c.code-code-in-Err-open.ensures refl (record { own = c.in-Ok.ensures.new; room = c.in-Ok.ensures.room; says = mark })
-    (journal_refused c.args.limits c.mark-mark.result (g.D.Disk.seen c.args.folder.journal) c.in-Err-open.left.cause left.foreign left.other left.damaged left.headed left.ahead left.begun left.behind left.full)
+    no_ledger c.in-Err-open.left.cause c.mark-mark.result c.code-code-in-Err-open.ensures refl (record { own = c.in-Ok.ensures.new; room = c.in-Ok.ensures.room; whole = c.in-Ok.ensures.whole; says = mark })
+    (journal_refused c.args.limits c.mark-mark.result (g.D.Disk.seen c.args.folder.journal) c.in-Err-open.left.cause left.foreign left.lost left.other left.damaged left.headed left.ahead left.begun left.behind left.full)
     (only_read g.D.Disk c.args.folder.journal c.in-Err-open.left.disk _ left.untouched left.unwritten) left.any_moment left.count marks_opened
 
 pub returns-in-Err-clause-crash : goal.returns-in-Err-clause-crash

@@ -1,7 +1,7 @@
 """Refuses the first, the second, .. start of a thread, and the first, the second, .. growth of memory, of a crew over
 connections in memory (the program probe), by small libraries that are preloaded (tests/support/refuse_thread.c and
 refuse.c, compiled here with gcc). Each run ends, and as it should: without its poster nothing is begun, without an
-agent the others are served to their ends."""
+agent the others are served to their ends. `noticed serve --log` has a line for each agent without a thread."""
 import os
 import subprocess
 import sys
@@ -9,8 +9,9 @@ import tempfile
 from pathlib import Path
 from typing import Optional
 
+from tests.support.daemon_and_clients import Daemon, answer, append, asked
 from tests.support.preloading import built, compare_ends, each_refused, preloading
-from tests.support.running import EXAMPLES, ROOT, Checks, Ran, empty_outbox
+from tests.support.running import EXAMPLES, HOST, ROOT, Checks, Ran, empty_outbox
 
 PROBE = os.environ.get("PROBE") or str(ROOT / "crates/probe/out/probe")
 PATIENCE = 20  # seconds that a run may take
@@ -81,6 +82,24 @@ def growths_of_many(checks: Checks, agents: int, ends: list):
         )
 
 
+def logged(checks: Checks, library: Path):
+    """A daemon of three agents, of which one has no thread: a line at once, if lines are wanted. The others serve, and
+    the run ends with 42."""
+    for number in (2, 3, 4):
+        for options in ((), ("--log",)):
+            about = f"{' '.join(options)} thread {number} of a daemon refused"
+            with Daemon(3, 1, options=options, env=preloading(library, REFUSE_THREAD=number)) as daemon:
+                said = f"listening on {daemon.path} for {HOST}: 3 agents, 1 connections each\n"
+                said += f"the host's name {HOST} is one for examples\n"
+                said = f"{said}a thread was refused: an agent does not serve\n".encode() if options else b""
+                daemon.listens()
+                checks.equal(f"{about}: the line", daemon.said(len(said)), said)
+                for _ in range(2):
+                    with daemon.connect() as client:
+                        checks.equal(f"{about}: an answer", len(asked(client, append(0))), len(answer(0)))
+                checks.equal(f"{about}: the end", daemon.end(), Ran(empty_outbox(), said + b"fault 42\n", 1))
+
+
 def main():
     checks = Checks("threads: each start of a thread of a crew refused in turn, and each growth of its memory")
     if not os.access(PROBE, os.X_OK):
@@ -97,6 +116,7 @@ def main():
             checks.equal(f"{agents} agents: the last growth is passed", ends[-1], whole(agents))
             growths_of_one(checks, ends) if agents == 1 else growths_of_many(checks, agents, ends)
             print(f"  {agents} agents: {agents + 1} threads and {len(ends) - 1} growths, each refused once")
+        logged(checks, start)
     checks.equal("no agent", crew(0), Ran(b"fault 43\nanswered 0\nunsent 0\n", b"", 0))
     checks.equal("17 agents", crew(17), Ran(b"fault 43\nanswered 0\nunsent 0\n", b"", 0))
     checks.done()

@@ -22,9 +22,28 @@ impl<P: Port> Promise<PortEnd> for Serves<P> {
     ghost kept_by = { λ p r. IsPortServed (P.conns p.port.value) (P.may_give p.port.value) p.agent.value r };
 }
 
+/// Starts the thread of one agent, as [`start_thread`] does. If none can be made the gate hears so.
+pub(crate) fn start_one<'s, E: 's, R: Wait + Sync, P: Port + Drop + Send + 's, G: Gate + Sync>(
+    scope: &Scope<'s, E>,
+    rt: &'s R,
+    alloc: Global,
+    agent: Agent,
+    port: P,
+    gate: &'s G,
+) -> Option<PromisedHandle<PortEnd, Serves<P>>>
+    requires asked { P.may_be_asked port }
+    ensures { IfSome result (λ handle. IsStarted agent port handle.promise) }
+{
+    let handle = start_thread(scope, rt, alloc, agent, port, gate);
+    if handle.is_none() {
+        gate.start_refused();
+    }
+    handle
+}
+
 /// Starts the thread of one agent, which serves this port to its end. Where no thread can be made
 /// the agent and its port are dropped, and there is none.
-pub(crate) fn start_one<'s, E: 's, R: Wait + Sync, P: Port + Drop + Send + 's, G: Gate + Sync>(
+fn start_thread<'s, E: 's, R: Wait + Sync, P: Port + Drop + Send + 's, G: Gate + Sync>(
     scope: &Scope<'s, E>,
     rt: &'s R,
     alloc: Global,

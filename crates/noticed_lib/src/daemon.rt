@@ -14,6 +14,7 @@ mod serve_over_sockets;
 mod socket_port;
 mod socket_watch;
 mod watch;
+mod watch_gate;
 mod watched_connection;
 mod watched_outbox;
 

@@ -1,8 +1,11 @@
-//! What a session calls round each of its requests.
+//! What a crew calls where an agent has no thread, and a session round each of its requests.
 
 /// What a session calls before it asks each request, and after the answer has come: a place where
 /// the order of several agents' requests can be seen or held. Nothing is proved of it.
 pub trait Gate {
+    /// Called at once if the thread of an agent can't be started: the others serve without it.
+    fn start_refused(&self) {}
+
     /// Called before a request is asked, with its agent, and with the number that it has if it is
     /// sent; also where the agent's requests are used up.
     fn before_ask(&self, agent: u32, number: u32);

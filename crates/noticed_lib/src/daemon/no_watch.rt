@@ -29,6 +29,8 @@ impl Watch for NoWatch {
 
     fn log(&self, _line: &str) {}
 
+    fn start_refused(&self) {}
+
     fn accept_failed(&self, _error: &io::Error) {}
 
     fn connection_refused(&self) {}

@@ -14,8 +14,9 @@ use crate::daemon::serve_over_journal::serve_ports_over;
 use crate::daemon::serve_over_ports::serve_ports;
 use crate::daemon::socket_port::SocketPort;
 use crate::daemon::watch::Watch;
+use crate::daemon::watch_gate::WatchGate;
 use dsn_book::Limits;
-use dsn_crew::{CrewCause, NoGate};
+use dsn_crew::CrewCause;
 use dsn_device::Drain;
 use dsn_journal::Replaceable;
 use dsn_outcome::{Letters, NoMemory};
@@ -112,8 +113,9 @@ pub fn serve_journaled<
     match socket_ports(alloc, listener, watch, agents, max_use) {
         Ok(ports) => {
             let program = Limits::of_program();
+            let gate = WatchGate { watch };
             serve_ports_over(
-                rt, alloc, site, program, ports, outbox, folder, &NoGate, notes,
+                rt, alloc, site, program, ports, outbox, folder, &gate, notes,
             )
         }
         Err(NoMemory) => {
@@ -149,7 +151,10 @@ fn serve_socket<R: Threads + Wait + Sync, H: Watch + Sync, W: Drain + Drop + Sen
         return write_fault(alloc, code, outbox, Letters::new(), notes);
     }
     match socket_ports(alloc, listener, watch, agents, max_use) {
-        Ok(ports) => serve_ports(rt, alloc, site, limits, ports, outbox, &NoGate, notes),
+        Ok(ports) => {
+            let gate = WatchGate { watch };
+            serve_ports(rt, alloc, site, limits, ports, outbox, &gate, notes)
+        }
         Err(NoMemory) => {
             let code = CrewCause::Refused.code();
             write_fault(alloc, code, outbox, Letters::new(), notes)

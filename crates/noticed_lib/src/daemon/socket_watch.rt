@@ -131,6 +131,10 @@ impl<R: Files + Eprint> Watch for SocketWatch<'_, R> {
         }
     }
 
+    fn start_refused(&self) {
+        self.log("a thread was refused: an agent does not serve");
+    }
+
     fn accept_failed(&self, error: &io::Error) {
         let number = error.raw_os_error().unwrap_or(0);
         let _ = self

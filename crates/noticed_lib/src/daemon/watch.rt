@@ -34,6 +34,9 @@ pub trait Watch {
     /// Writes a line, if lines are wanted.
     fn log(&self, line: &str);
 
+    /// Hears that the thread of an agent could not be started.
+    fn start_refused(&self);
+
     /// Hears that a connection could not be accepted.
     fn accept_failed(&self, error: &io::Error);
 

@@ -4,7 +4,7 @@ use denote.Param.Send.{param_send, arg_send}
 use mir.Syntax.{named}
 use Rattle.dsn_crew.proofs.SendLemmas.{port_end_send}
 use Rattle.dsn_crew.proofs.ServingSendLemmas.{serving_send}
-use Rattle.dsn_crew.proofs.start_serving.start_one.Goals as goal
+use Rattle.dsn_crew.proofs.start_serving.start_thread.Goals as goal
 
 pub spawn_with-requires-send-F : goal.spawn_with-requires-send-F
 spawn_with-requires-send-F g c κs within =

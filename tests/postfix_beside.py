@@ -84,8 +84,8 @@ class Run:
     sandbox: bool = False  # whether Postfix also delivers mail
 
 
-# Two seconds lie between two attempts. After one second the last delivery may still have the file locked: then the queue
-# manager leaves the message alone for a minute.
+# Two seconds lie between two attempts. After one second the last delivery may still have the file locked: then the
+# queue manager leaves the message alone for a minute.
 HURRIED = {
     "queue_run_delay": "1s",
     "minimal_backoff_time": "2s",

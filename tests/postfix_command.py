@@ -210,7 +210,6 @@ def check_hashing_at_run(checks: Checks):
         checks.equal("its lines", it.last_lines(*wanted), wanted)
 
 
-
 def check_kinds(checks: Checks):
     """A warning keeps the log; an expired message's is removed; what else is answered 0 without a notice."""
     with Postfix("--lifetime", "3600") as it:

@@ -1,5 +1,5 @@
-"""`noticed postfix` holds one large message at a time: of 32 messages of 50 MB, for which its three services are asked at
-once, each has its notice, and the program takes up at most 64 MB of memory."""
+"""`noticed postfix` holds one large message at a time: of 32 messages of 50 MB, for which its three services are asked
+at once, each has its notice, and the program takes up at most 64 MB of memory."""
 import os
 import re
 

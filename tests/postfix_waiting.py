@@ -1,6 +1,6 @@
-"""What `noticed postfix` does where a mail server, or other clients, are slow. An append is answered within a second all
-the same; a request for notices waits for its turn, for a limited time, or is told at once that it can't be done now;
-and a client that doesn't say its list at once is cut off."""
+"""What `noticed postfix` does where a mail server, or other clients, are slow. An append is answered within a second
+all the same; a request for notices waits for its turn, for a limited time, or is told at once that it can't be done
+now; and a client that doesn't say its list at once is cut off."""
 import os
 import re
 import threading

@@ -173,7 +173,9 @@ def files(checks: Checks, room: Path):
         ("a journal without room", "journal", bytes(20), 71),
         ("marks of text", "marks", text[:MARKS], 73),
         ("marks with a record that is none", "marks", journal.at_rest([b"no mark"], MARKS), 75),
-        ("marks of another journal", "marks", journal.at_rest([(9).to_bytes(8, "big")], MARKS), 76),
+        ("a mark without a check sum", "marks", journal.at_rest([journal.mark(1)[:-4]], MARKS), 75),
+        ("a mark with another byte", "marks", journal.at_rest([b"\3" + journal.mark(1)[1:]], MARKS), 75),
+        ("marks of another journal", "marks", journal.at_rest([journal.mark(9)], MARKS), 76),
         ("marks that are older", "marks", bytes(MARKS), 77),
     ):
         (place.folder / "journal").write_bytes(later)
@@ -195,14 +197,14 @@ def listed(place: Place) -> Ran:
 
 
 def short_marks(checks: Checks, room: Path):
-    """Marks that are too short for a mark, which takes 17 bytes at most, beside a notice that none counts: 71 at each
+    """Marks that are too short for a mark, which takes 25 bytes at most, beside a notice that none counts: 71 at each
     start, and the notice isn't written."""
     place = Place(room, "short")
     with place.daemon(outbox="/dev/full") as it:
         exchange(it, append(0, b"K1") + flush(1, b"K1"), 2)
         it.end()
     begun = place.file("journal")
-    for has in (b"", b"\0", bytes(8), bytes(16), b"\1" * 15, journal.spelled((3).to_bytes(8, "big"))):
+    for has in (b"", b"\0", bytes(8), bytes(24), b"\1" * 15, journal.spelled(journal.mark(3))):
         (place.folder / "marks").write_bytes(has)
         for start in (1, 2):
             about = f"marks of {len(has)} bytes, start {start}"
@@ -212,11 +214,11 @@ def short_marks(checks: Checks, room: Path):
             checks.equal(f"{about}: the files stay", files, (begun, has))
         wanted = not_opened(place.folder, "the file of marks is too short for a mark", 71)
         checks.equal(f"marks of {len(has)} bytes, listed", listed(place), wanted)
-    (place.folder / "marks").write_bytes(bytes(17))
+    (place.folder / "marks").write_bytes(bytes(25))
     with place.daemon() as it:
         exchange(it, b"", 0)
-        checks.equal("marks of 17 bytes", it.end().status, 0)
-    checks.equal("marks of 17 bytes: the notice is written", place.letters(), [(b"K1", b"0")])
+        checks.equal("marks of 25 bytes", it.end().status, 0)
+    checks.equal("marks of 25 bytes: the notice is written", place.letters(), [(b"K1", b"0")])
 
 
 def missing(checks: Checks, room: Path):
@@ -282,7 +284,9 @@ def begun(room: Path, name: str) -> Place:
     place = Place(room, name)
     with place.daemon(uses=2) as it:
         keys = [b"K%d" % number for number in range(40)]
-        asks = [(append, key) for key in keys] + [(flush, key) for key in keys] + [(append, b"L%d" % n) for n in range(20)]
+        asks = (
+            [(append, key) for key in keys] + [(flush, key) for key in keys] + [(append, b"L%d" % n) for n in range(20)]
+        )
         exchange(it, b"".join(ask(number, key) for number, (ask, key) in enumerate(asks)), len(asks))
         it.running.kill()
         it.end()
@@ -314,7 +318,7 @@ def lost_bytes(checks: Checks, room: Path):
     checks.equal("a start over a lost byte", place.run(), Ran(b"", b"fault 75\n", 1))
     checks.equal("a start over a lost byte: the file stays", place.file("journal"), before)
     (place.folder / "journal").write_bytes(whole)
-    marks = [number.to_bytes(8, "big") for number in (255, 256, 257)]
+    marks = [journal.mark(number) for number in (255, 256, 257)]
     for kept, words, code in (
         (0, "the file isn't one of marks", 73),
         (1, "a byte among the marks was lost", 75),
@@ -455,7 +459,18 @@ def main():
     checks = Checks("journal_faults: folders, files and outboxes that fail a daemon with a journal")
     with tempfile.TemporaryDirectory(prefix="noticed-faults-") as name:
         room = Path(name)
-        for check in (folders, not_allowed, files, short_marks, missing, nothing_asked, lost_bytes, torn_forgets, outboxes, ends):
+        for check in (
+            folders,
+            not_allowed,
+            files,
+            short_marks,
+            missing,
+            nothing_asked,
+            lost_bytes,
+            torn_forgets,
+            outboxes,
+            ends,
+        ):
             check(checks, room)
         library = built(room, "power")
         stops_of_a_first_start(checks, room, library)

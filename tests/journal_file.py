@@ -40,6 +40,11 @@ def frame(number: int, asked: tuple) -> bytes:
     return {"discard": FRAMES.discard, "forget": FRAMES.forget}[kind](number, service, queue_id)
 
 
+def record(asked: tuple) -> bytes:
+    """The record of what is asked."""
+    return journal.summed(frame(0, asked)[4:])
+
+
 def request(asked: tuple) -> bodies.Request:
     """The request, as a record keeps it."""
     return bodies.decoded(frame(0, asked)[4:])
@@ -144,7 +149,7 @@ def check_full(checks: Checks, room: Path):
     checks.equal("full: nothing else is there", path.read_bytes(), before)
     ran = keep(path, [second], size=size, group=1)
     checks.equal("full: one has room", (ran.answers, ran.lines[1:]), (wanted(asked[:4], [second]), []))
-    checks.equal("full: to the last byte", path.read_bytes(), header + each * 3 + each.replace(b"K1", b"K2") * 2)
+    checks.equal("full: to the last byte", path.read_bytes(), header + each * 3 + journal.spelled(record(second)) * 2)
     for size, line in (
         (len(header) - 1, b"not opened: the journal is full"),
         (len(header), b"opened %d" % len(header)),
@@ -162,14 +167,19 @@ def check_opening(checks: Checks, room: Path):
     )
     foreign, header = b"the file isn't a journal's", journal.header(LIMITS)
     for about, kept, why in (
-        ("a record that keeps no body", [header, b"A"], damaged),
+        ("a record that keeps no body", [header, journal.summed(b"A")], damaged),
+        ("a record without a check sum", [header, record(("discard", KEYS[0]))[:-4]], damaged),
+        ("a record with another byte", [header, b"\3" + record(("discard", KEYS[0]))[1:]], damaged),
+        ("a record that is empty", [header, b""], damaged),
         ("a header among the records", [header, header], damaged),
         ("no header", [b"A"], other),
-        ("no header before a request", [frame(0, ("discard", KEYS[0]))[4:]], other),
+        ("no header before a request", [record(("discard", KEYS[0]))], other),
         ("an empty record as a header", [b""], other),
-        ("a header with a byte more", [header + b"\0"], other),
-        ("a header with a byte less", [header[:-1]], other),
-        ("a header of another version", [b"J\2" + header[2:]], other),
+        ("a header with a byte more", [journal.summed(header[:-4] + b"\0")], other),
+        ("a header with a byte less", [journal.summed(header[:-5])], other),
+        ("a header of version 1", [b"J\1" + header[2:-4]], other),
+        ("a header with another byte", [header[:2] + b"\1" + header[3:]], other),
+        ("a header of another version", [journal.summed(b"J\3" + header[2:-4])], other),
         ("a base of 2^63", [journal.header(LIMITS, 1 << 63)], other),
         ("other limits of logs", [journal.header(Limits(4, 3, 100))], other),
         ("other limits of entries", [journal.header(Limits(3, 4, 100))], other),
@@ -188,7 +198,7 @@ def check_opening(checks: Checks, room: Path):
         ("one byte among zeros", bytes(SIZE - 1) + b"A"),
         (
             "a journal whose first byte was lost",
-            b"\0" + journal.at_rest([header, frame(0, ("discard", KEYS[0]))[4:]], SIZE)[1:],
+            b"\0" + journal.at_rest([header, record(("discard", KEYS[0]))], SIZE)[1:],
         ),
         ("a header of other limits in part", of_others[: end - 1].ljust(SIZE, b"\0")),
         ("a header and a byte after its part", begun[: end - 1] + bytes(9) + b"\2" + bytes(SIZE - end - 9)),

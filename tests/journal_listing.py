@@ -84,7 +84,7 @@ def daemon(folder: Path, outbox: Path, uses: int = 1) -> Daemon:
 
 def has_mark(folder: Path, mark: int) -> bool:
     """Whether the marks say this mark."""
-    return b"".join(journal.records((folder / "marks").read_bytes())[-1:]) == mark.to_bytes(8, "big")
+    return b"".join(journal.records((folder / "marks").read_bytes())[-1:]) == journal.mark(mark)
 
 
 def killed(checks: Checks, room: Path):
@@ -186,11 +186,11 @@ def random_folder(dice: random.Random, folder: Path):
             decoded(body)
         except Refused:
             body = b""
-        records.append(body)
+        records.append(journal.summed(body))
     file = b"".join(map(journal.spelled, [journal.header(Limits(), base), *records]))
     count = int(listing.listed(file, b"").split(b"sealed ")[1].split()[0]) - base
     tail = dice.choice([b"", b"", b"\1\2\3", b"\1\0\3", b"\1\4\2", b"K1"])
-    marks = journal.at_rest([it.to_bytes(8, "big") for it in (3, base + dice.randint(0, count))], MARKS)
+    marks = journal.at_rest([journal.mark(it) for it in (3, base + dice.randint(0, count))], MARKS)
     (folder / "journal").write_bytes(file + tail + bytes(dice.choice([0, 1, 500])))
     (folder / "marks").write_bytes(marks)
 
@@ -226,7 +226,7 @@ def files(checks: Checks, room: Path):
     folder = made(room, "files")
     limits, text = Limits(), b"a file of text\n" * 30
     right = journal.at_rest([journal.header(limits, 1)], SIZE)
-    marks = journal.at_rest([(1).to_bytes(8, "big")], MARKS)
+    marks = journal.at_rest([journal.mark(1)], MARKS)
     for about, journal_file, marks_file, number, words in (
         ("a journal of text", text, marks, 73, "the file isn't a journal's"),
         ("marks of text", right, text, 73, "the file isn't one of marks"),
@@ -255,7 +255,7 @@ def files(checks: Checks, room: Path):
         (
             "a mark ahead of its journal",
             right,
-            journal.at_rest([(2).to_bytes(8, "big")], MARKS),
+            journal.at_rest([journal.mark(2)], MARKS),
             76,
             "the mark counts more letters than the journal sealed",
         ),
@@ -282,7 +282,9 @@ def files(checks: Checks, room: Path):
     )
     (folder / "marks").write_bytes(bytes(MARKS))
     (folder / "journal").write_bytes(right)
-    check_fault(checks, "marks without a mark, and a base", folder, 77, "the mark counts fewer letters than the journal's base")
+    check_fault(
+        checks, "marks without a mark, and a base", folder, 77, "the mark counts fewer letters than the journal's base"
+    )
 
 
 def lost_lines(checks: Checks, room: Path):

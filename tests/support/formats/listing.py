@@ -13,11 +13,12 @@ def named(key: tuple) -> bytes:
 def listed(file: bytes, marks: bytes, limits: Limits = Limits()) -> bytes:
     """The lines of a journal that can be opened under its marks."""
     kept = journal.records(file) or [journal.header(limits)]
-    base = int.from_bytes(kept[0][-8:], "big")
-    mark = int.from_bytes(b"".join(journal.records(marks)[-1:]), "big")
+    header, *texts = map(journal.text_of, kept)
+    base = int.from_bytes(header[-8:], "big")
+    mark = int.from_bytes(b"".join(map(journal.text_of, journal.records(marks)[-1:])), "big")
     logs, letters = Logs(limits), []
-    for record in filter(None, kept[1:]):
-        letters += filter(None, logs.apply(decoded(record))[2:])
+    for text in filter(None, texts):
+        letters += filter(None, logs.apply(decoded(text))[2:])
     lines = [b"open %s %d" % (named(key), count) for key, count in logs.open_logs()]
     lines += [b"closed " + named(key) for key in sorted(key for key, log in logs.held.items() if log is None)]
     for it in letters:

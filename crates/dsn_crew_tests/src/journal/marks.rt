@@ -50,44 +50,53 @@ fn mark_in(alloc: Global, bytes: &[u8]) -> Result<u64, MarksError> {
 
 /// Files, and the marks that they have.
 const FILES: &[(&[u8], Result<u64, MarksError>)] = &[
-    (b"\0\0\0\0\0\0\0\0\0\0\0\0\0\0\0\0\0", Ok(0)),
-    // Some mark has no room in 16 bytes.
+    (b"\0\0\0\0\0\0\0\0\0\0\0\0\0\0\0\0\0\0\0\0\0\0\0\0\0", Ok(0)),
+    // Some mark may have no room in 24 bytes.
     (
-        b"\0\0\0\0\0\0\0\0\0\0\0\0\0\0\0\0",
+        b"\0\0\0\0\0\0\0\0\0\0\0\0\0\0\0\0\0\0\0\0\0\0\0\0",
         Err(MarksError::TooShort),
     ),
     (b"", Err(MarksError::TooShort)),
-    // The mark 1, whose record is seven zeros and a 1, and what a crash leaves of it.
+    // The mark 1, and what a crash leaves of it.
     (
-        b"\x01\x01\x01\x01\x01\x01\x01\x01\x01\x01\x01\x01\x01\x01\x01\x02\0\0",
+        b"\x01\x01\x01\x01\x01\x01\x01\x01\x01\x01\x01\x01\x01\x01\x01\x02~C1\x89\0\0\0\0\0\0",
         Ok(0),
     ),
     (
-        b"\0\x01\x01\x01\x01\x01\x01\x01\x01\x01\x01\x01\x01\x01\x01\x02\x02\0",
+        b"\0\x01\x01\x01\x01\x01\x01\x01\x01\x01\x01\x01\x01\x01\x01\x02~C1\x89\x02\0\0\0\0\0",
         Ok(0),
     ),
     (
-        b"\x01\x01\x01\x01\x01\x01\x01\x01\x01\x01\x01\x01\x01\x01\x01\x02\x02\0",
+        b"\x01\x01\x01\x01\x01\x01\x01\x01\x01\x01\x01\x01\x01\x01\x01\x02~C1\x89\x02\0\0\0\0\0",
         Ok(1),
     ),
     // The mark 513 behind another record.
     (
-        b"12345678\x02\x01\x01\x01\x01\x01\x01\x01\x01\x01\x01\x01\x01\x01\x03\x01\x02\x02\0",
+        b"12345678\x02\x01\x01\x01\x01\x01\x01\x01\x01\x01\x01\x01\x01\x01\x03\x01\x02Y\x06\x01\x02g\x02\0",
         Ok(513),
     ),
     // Files without a record that are foreign.
     (
-        b"\x01\x01\x01\x01\x01\x01\x01\x01\x01\x01\x01\x01\x01\x01\x01\x03\0\0",
+        b"\x01\x01\x01\x01\x01\x01\x01\x01\x01\x01\x01\x01\x01\x01\x01\x03m\0\0\0\0\0\0\0\0\0",
         Err(MarksError::Foreign),
     ),
     (
-        b"\0\0\0\0\0\0\0\0\0\0\0\0\0\0\0\0\0\x02",
+        b"\0\0\0\0\0\0\0\0\0\0\0\0\0\0\0\0\0\0\0\0\0\0\0\0\x02",
         Err(MarksError::Foreign),
     ),
     (b"J", Err(MarksError::Foreign)),
-    // Last records of other lengths, the first with what a crash left of another one.
+    // Last records that are no mark's: of other lengths, the first with what a crash left of another
+    // one; without a check sum; with another byte.
     (b"1234567\x02rest\0\0\0\0", Err(MarksError::Damaged)),
-    (b"123456789\x02\0", Err(MarksError::Damaged)),
+    (b"123456789\xe3\x06\x92\x83\x02\0", Err(MarksError::Damaged)),
+    (
+        b"\x01\x01\x01\x01\x01\x01\x01\x01\x01\x01\x01\x01\x01\x01\x01\x02\x02\0",
+        Err(MarksError::Damaged),
+    ),
+    (
+        b"\x03\x01\x01\x01\x01\x01\x01\x01\x01\x01\x01\x01\x01\x01\x02~C1\x89\x02\0",
+        Err(MarksError::Damaged),
+    ),
 ];
 
 #[test]

@@ -1,4 +1,10 @@
 //! What carries out the requests of a crew.
+//! A crew carries its requests out over this trait, so that the same collector serves a book alone
+//! and a book beside a journal. `keep` is apart from `apply`: requests that wait are kept by one
+//! write and one sync, and each is answered once it was carried out. Clauses speak of each history
+//! that a keeper may have: its caller knows which one a journal's book goes on with, and the
+//! collector doesn't. There is no disk in it, so what a crash leaves is proved of a crew without a
+//! word on files.
 ghost use Rattle.std.specs.Prelude.{◌≡◌, ◌+◌, ◌-◌, ◌^◌, ◌<◌, ◌≤◌, List, [], ◌∷◌, ◌++◌, OnOk, IfErr};
 ghost use Rattle.dsn_device.specs.Throughout.{LeavesThroughout};
 ghost use Rattle.dsn_book.specs.Crash.{ReopensAfterSome};
@@ -35,6 +41,8 @@ pub trait Keeper {
     ghost sealed: { Self → ℕ };
 
     // That it may refuse to keep these requests, for this reason, and what it is after that.
+    // Not only whether it may refuse: else one that always does, or that keeps and refuses, would
+    // meet the same clauses.
     ghost refuses: { Self → List Request → NotKept → Self → Type 0 };
 
     // The moment, as a number that doesn't fall.
@@ -88,6 +96,8 @@ pub trait Keeper {
         ensures sealed { sealed self.new ≤ sealed self.old + 1 };
 
     // A crash now leaves what it stands for, with the requests that are kept.
+    // A law and no clause of a call, so that it also holds between two calls: an answer is sent
+    // there.
     ghost leaves_kept: { (keeper : Self) (t : List Exchange) (requests : List Request)
         (left : List ℕ) → has keeper t requests → left_since keeper (moment keeper) left
         → reopens (limits keeper) left (history_after (limits keeper) t requests) };

@@ -25,6 +25,9 @@ pub trait Drain {
     ghost flushes: { Self → ℕ };
 
     // Whether it has taken bytes since the last flush that went well.
+    // The count alone would allow a flush before a letter's last line. Both together say that a
+    // letter is flushed once, after its whole text; nothing else shows it, since a flush changes no
+    // bytes.
     ghost unflushed: { Self → Bool };
 
     // How many letters are marked, where it marks them: those whose text was flushed, so that no
@@ -45,6 +48,9 @@ pub trait Drain {
     ghost steady: { Self → Type 0 };
 
     // While this holds no flush fails, and writes and flushes keep it.
+    // Memory can be refused to a write, and never to a flush. `Plain` can't promise it of the
+    // writer inside, since std's writers have no word for it: so memory is a device of its own,
+    // `MemoryDrain`.
     ghost flushes_surely: { Self → Type 0 } = { λ _. ⊥ };
 
     /// Writes a front of the text and says how many bytes it took.

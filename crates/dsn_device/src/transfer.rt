@@ -31,6 +31,8 @@ pub fn send<D: Drain>(drain: &mut D, text: &[u8]) -> Result<(), Broken>
     let mut unsent = text;
     while !unsent.is_empty() {
         let taken = drain.write(unsent)?;
+        // Else a drain that takes nothing would be asked for ever. std's `write_all` isn't used,
+        // since it tries again after an interrupted call.
         if taken == 0 {
             return Err(Broken);
         }
@@ -59,6 +61,7 @@ pub fn fill<S: Source>(source: &mut S, buffer: &mut [u8]) -> Result<usize, Broke
 {
     let mut filled = 0;
     while filled < buffer.len() {
+        // std's `read_exact` isn't used, since it tries again after an interrupted call.
         let count = source.read(&mut buffer[filled..])?;
         if count == 0 {
             return Ok(filled);

@@ -8,6 +8,9 @@ use crate::transfer::send;
 /// Whether a drain has failed so far. Texts that are written through it reach the drain up to the
 /// first failure, and nothing reaches it after that, so that a caller need not look at each text:
 /// `failed` says it to the last of them.
+///
+/// It doesn't hold the drain. A writer that is generic in what it holds can't know that a drain it
+/// was lent is still the same one. So its caller would know nothing of the drain afterwards.
 #[derive(Clone, Copy, Debug, PartialEq, Eq)]
 pub struct UntilFailure {
     /// Whether the drain has failed.

@@ -18,6 +18,9 @@ use Rattle.dsn_frame.specs.declared.frame_fault.FrameFault.{FrameFault}
 
 -- where a session takes place: in an input that is read alone, or on a connection to a daemon,
 -- which may give up
+-- One definition of a session for an input and a connection. They differ in the number of an answer that can't be
+-- written (33 and 35), and only a connection has the faults 41 and 44. The replies are free in it: the history decides
+-- them.
 pub data Medium : Type 0 where
   Input : Medium
   Connection : Medium

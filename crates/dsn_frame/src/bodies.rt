@@ -1,5 +1,6 @@
 //! Requests and answers in bytes: the bodies of frames to requests and back, answers to frames and
-//! back, and why bytes are neither (docs/FORMATS.md, sections 2 to 6).
+//! back, and why bytes are neither.
+//! Implements docs/FORMATS.md, "Requests", "Which refusal a body gets" and "Answers".
 mod answer;
 mod answer_fault;
 mod body_fault;

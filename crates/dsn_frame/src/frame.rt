@@ -1,4 +1,5 @@
 //! Frames: a length in four bytes, and a body of that length.
+//! Implements docs/FORMATS.md, "Frames".
 ghost use Rattle.std.specs.Prelude.{◌≡◌, ◌≢◌, ℕ, ◌+◌, length, drop, IfOk, IfErr, OnOk, MatchOption};
 ghost use Rattle.std.specs.Int.{w32, from_be_bytes, to_be_bytes};
 ghost use Rattle.std.specs.Io.KnownBytes.{Consumes, IsAtEnd, Keeps};
@@ -57,6 +58,9 @@ impl Frame {
 /// out of bounds is refused before memory is taken for the body, and want of memory comes before
 /// anything of the body is read. After a fault the source is to be used no further. It makes at
 /// most 65,540 reads.
+///
+/// It takes memory for each frame, and is for those who keep frames; a
+/// [`FrameBuffer`](crate::FrameBuffer) is reused.
 #[tactic(auto, using(crate::proofs::FrameLaws::frame_read, crate::proofs::FrameLaws::length_missed, crate::proofs::FrameLaws::frame_missed))]
 pub fn read_frame<S: Source>(alloc: Global, source: &mut S) -> Result<Option<Frame>, FrameFault>
     ensures next { IfOk result
@@ -100,6 +104,7 @@ pub(crate) fn read_length<S: Source>(source: &mut S) -> Result<Option<usize>, Fr
         return Err(FrameFault::CutShort);
     }
     let size = number_in(&bytes) as usize;
+    // After a bad length nothing says where the next frame begins: so it ends the session.
     if size > LONGEST_BODY {
         return Err(FrameFault::TooLong);
     }

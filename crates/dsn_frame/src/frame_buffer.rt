@@ -1,4 +1,5 @@
 //! A buffer for frames, which is kept from one frame to the next.
+//! Implements docs/FORMATS.md, "Frames".
 ghost use Rattle.std.specs.Prelude.{◌≡◌, ◌≢◌, ◌+◌, ◌<◌, ◌≤◌, length, take, drop, IfOk, IfErr, OnOk, OnErr};
 ghost use Rattle.std.specs.Io.KnownBytes.{Consumes, Keeps};
 ghost use Rattle.dsn_device.specs.Failures.{counted};
@@ -84,6 +85,9 @@ impl FrameBuffer {
     }
 
     /// The frame that was read last, if the last call of [`read_next`](Self::read_next) read one.
+    ///
+    /// It isn't what `read_next` returns: a call that lends a part of the buffer can't say what the
+    /// buffer is afterwards, and so nothing of its room.
     pub fn frame(&self) -> Option<FrameRef<'_>>
         ensures { result ≡ self.now.held }
     {
@@ -146,6 +150,7 @@ fn make_room(bytes: &mut Vec<u8>, whole: usize) -> Result<(), AllocError>
     if whole <= bytes.len() {
         return Ok(());
     }
+    // At least twice as much each time, so that a session grows the buffer at most seventeen times.
     let room = whole.max(2 * bytes.len()).min(LONGEST_FRAME);
     bytes.try_reserve_exact(room - bytes.len())?;
     bytes.resize(room, 0)

@@ -1,4 +1,5 @@
 //! Why no frame could be read.
+//! Implements docs/FORMATS.md, "Frames".
 ghost use Rattle.std.specs.Prelude.{◌≡◌};
 ghost use Rattle.dsn_frame.specs.FrameFault.{frame_fault_code};
 

@@ -1,4 +1,5 @@
 //! What one frame comes to: a body to be asked, or a refusal.
+//! Implements docs/FORMATS.md, "A session".
 ghost use Rattle.std.specs.Prelude.{◌≢◌, ℕ, [], ◌∷◌, IfOk, IfErr};
 ghost use Rattle.dsn_outcome.specs.Body.{body_of};
 ghost use Rattle.dsn_outcome.specs.Request.{Bye};
@@ -25,6 +26,8 @@ pub fn next_request(alloc: Global, place: u32, bytes: &[u8]) -> Result<Body, Ref
         (Refused (refusal_code refusal) ∷ []) (refusal_end refusal)) }
 {
     let (number, body) = decode_request(alloc, bytes).map_err(Refusal::Body)?;
+    // Client and daemon no longer agree on where they are, so this ends the session. A refused body
+    // doesn't.
     if number != place {
         return Err(Refusal::OutOfTurn);
     }

@@ -1,4 +1,5 @@
 //! Laws of frames and of sessions, each of them the contract of a function that does nothing.
+//! Implements docs/FORMATS.md, "A session".
 ghost use Rattle.std.specs.Prelude.{ℕ, List};
 ghost use Rattle.dsn_frame.specs.bodies.Laws.{IsBytes};
 ghost use Rattle.dsn_frame.specs.Laws.{HasFrames, HasOneReading};

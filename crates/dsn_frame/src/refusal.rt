@@ -1,4 +1,5 @@
 //! Why a frame asks nothing.
+//! Implements docs/FORMATS.md, "A session".
 ghost use Rattle.std.specs.Prelude.{◌≡◌, is_some};
 ghost use Rattle.dsn_frame.specs.Refusal.{refusal_code, refusal_end};
 

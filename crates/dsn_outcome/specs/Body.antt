@@ -5,6 +5,8 @@ use Rattle.dsn_outcome.specs.declared.body.Body.TheVariants.{Append, Flush, Disc
 use Rattle.dsn_outcome.specs.declared.body.BodyRef.{BodyRef}
 use Rattle.dsn_outcome.specs.declared.body.BodyRef.TheVariants as lent
 
+-- the kit has models for structs alone, and `Body` is an enum: so a clause on a `Body` says `body_of`, and one on a
+-- `Request` doesn't need it
 abbrev pub body_of : Body → Request.Body
 body_of (Append id node) = Request.Append id node.value.outcome
 body_of (Flush key draft) = Request.Flush key draft

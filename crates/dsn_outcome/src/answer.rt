@@ -1,4 +1,5 @@
 //! What the daemon answers a delivery agent.
+//! Implements docs/FORMATS.md, "What a request does" and "Answers".
 ghost use Rattle.std.specs.Prelude.{◌≡◌};
 ghost use Rattle.dsn_outcome.specs.History.{replied_in};
 

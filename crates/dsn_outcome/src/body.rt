@@ -1,4 +1,5 @@
 //! What a delivery agent asks.
+//! Implements docs/FORMATS.md, "Requests".
 use crate::draft::Draft;
 use crate::letter_cell::Terms;
 use crate::outcome::Outcome;

@@ -1,4 +1,5 @@
 //! What a flush says of the notice that it asks for.
+//! Implements docs/FORMATS.md, "Flush: close the log and make its notice".
 ghost use Rattle.std.specs.Prelude.{◌≡◌, ◌≤◌, ◌↔◌, [], length, IsTrue, IsSome, IfOk, IfErr, OnOk, Some, None, unwrap_or, if◌then◌else◌};
 ghost use Rattle.dsn_outcome.specs.Draft.{first_draft_fault, is_count};
 ghost use Rattle.dsn_outcome.specs.DraftParts.{draft_fields_of};
@@ -186,6 +187,7 @@ fn check(parts: DraftParts<'_>) -> Result<(Returned, Wording), DraftFault>
     ensures refused { IfErr result
         (λ fault. first_draft_fault (draft_fields_of parts.entry) ≡ Some fault) }
 {
+    // Neither moment has to be the earlier one, since clocks differ: they are not compared.
     if !RawHeader::is_valid(parts.header) {
         return Err(DraftFault::Header);
     }

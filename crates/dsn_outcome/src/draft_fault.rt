@@ -1,4 +1,5 @@
 //! Why the texts of a draft are refused.
+//! Implements docs/FORMATS.md, "Which refusal a body gets".
 ghost use Rattle.std.specs.Prelude.{◌≡◌};
 
 use dsn_text::NoMemory;

@@ -1,4 +1,5 @@
 //! The fields of a draft as they are handed in.
+//! Implements docs/FORMATS.md, "Flush: close the log and make its notice".
 ghost use Rattle.std.specs.Prelude.{◌≡◌, [], None};
 ghost use Rattle.dsn_outcome.specs.declared.returned.Returned.TheVariants.{Header};
 ghost use Rattle.dsn_outcome.specs.declared.wording.Wording.TheVariants.{ByService};

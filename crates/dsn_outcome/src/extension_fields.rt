@@ -1,4 +1,5 @@
 //! The extension fields of a message, as a draft keeps them.
+//! Implements RFC 3464 section 2.4.
 ghost use Rattle.std.specs.Prelude.{◌≡◌, [], IsTrue, IfOk};
 ghost use Rattle.dsn_text.specs.Extension.{is_extension_text};
 
@@ -8,6 +9,9 @@ use std::marker::Model;
 
 /// Extension fields (RFC 3464 section 2.4): at most 8 lines, each ended by LF alone, of a name that
 /// begins with `X-`, a colon, a space and a value. An empty text is none.
+///
+/// They are a group of their own, as Postfix writes `X-Postfix-Queue-ID` and `X-Postfix-Sender`: a
+/// name may mean another thing in a recipient's group.
 #[derive(Drop)]
 pub(crate) struct ExtensionFields {
     bytes: Vec<u8>,

@@ -2,6 +2,7 @@
 ghost use Rattle.std.specs.Prelude.{◌≡◌, ℕ};
 
 /// An item that says which agent sends it, and how many items of that agent were sent before it.
+// It can be dropped, since the close of a lane drops what waits.
 pub trait Carried: Drop {
     // The agent.
     ghost agent: { Self → ℕ };

@@ -84,6 +84,9 @@ impl LetterCells {
 impl Drop for LetterCells {
     /// Frees the letters one after another, not by recursion.
     fn drop(self) {
+        // A derived drop avoids recursion only because the link is the cell's last field. A drop
+        // that freed the rest before the cell's other fields used up the stack on a million
+        // letters.
         let LetterCells { first: mut link } = self;
         while let Some(cell) = link {
             let LetterCell {

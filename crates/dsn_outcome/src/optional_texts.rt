@@ -31,6 +31,8 @@ pub(crate) fn is_optional_type_name(text: &[u8]) -> bool
 
 /// Whether a type can be that of a text: none is said, or it is the name of a type and there is a
 /// text.
+///
+/// A type without its text is refused and not left out, since whoever names it has lost a text.
 pub(crate) fn is_type_of(text: &[u8], name: &[u8]) -> bool
     ensures { IsTrue result ↔ IsTrue (is_type_of text.now name.now) }
 {
@@ -70,6 +72,8 @@ pub(crate) fn optional_envelope_id(
 }
 
 /// A text, or `None` for an empty one.
+///
+/// A text of spaces alone isn't empty.
 pub(crate) fn unless_empty(text: &[u8]) -> Option<&[u8]>
     ensures { option_copied result ≡ unless_empty text.now }
 {

@@ -1,4 +1,5 @@
 //! What became of one recipient (RFC 3464 section 2.3).
+//! Implements docs/FORMATS.md, "Append: log one recipient's outcome".
 ghost use Rattle.std.specs.Prelude.{◌≡◌, [], IsTrue, IfOk, IfErr, OnOk, unwrap_or};
 ghost use Rattle.dsn_text.specs.Action.{action_of_byte};
 
@@ -249,6 +250,7 @@ fn check(service: Service, parts: Parts<'_>) -> Result<(Action, Status), Outcome
     ensures first { IfErr result
         (λ fault. first_outcome_fault service (fields_of parts.entry) ≡ Some fault) }
 {
+    // The final recipient is tested before the original one, though it is the later one in a frame.
     if !Address::is_valid(parts.recipient) {
         return Err(OutcomeFault::BadRecipient);
     }

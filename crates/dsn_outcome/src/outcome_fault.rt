@@ -1,4 +1,5 @@
 //! Why an outcome is refused.
+//! Implements docs/FORMATS.md, "Which refusal a body gets".
 ghost use Rattle.std.specs.Prelude.{◌≡◌};
 ghost use Rattle.dsn_outcome.specs.OutcomeFault.{outcome_fault_code};
 

@@ -1,4 +1,5 @@
 //! The fields of an outcome as a delivery agent hands them in.
+//! Implements docs/FORMATS.md, "Append: log one recipient's outcome".
 ghost use Rattle.std.specs.Prelude.{◌≡◌, []};
 
 use dsn_text::Stamp;

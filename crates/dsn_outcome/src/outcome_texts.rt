@@ -24,6 +24,8 @@ struct Offsets {
 }
 
 /// The texts of an outcome one after another; an empty one means that there is none.
+///
+/// One piece for all texts: an outcome takes two pieces of memory in place of up to six.
 #[derive(Drop)]
 pub(crate) struct OutcomeTexts {
     bytes: Vec<u8>,

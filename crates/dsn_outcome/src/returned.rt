@@ -1,4 +1,5 @@
 //! What a notice returns of the message.
+//! Implements RFC 3461 section 4.3 and docs/FORMATS.md, "Flush: close the log and make its notice".
 ghost use Rattle.std.specs.Prelude.{◌≡◌};
 ghost use Rattle.dsn_outcome.specs.Returned.{returned_byte, returned_of_byte};
 

@@ -1,4 +1,5 @@
 //! How a notice's words are chosen.
+//! Implements docs/FORMATS.md, "The notice".
 ghost use Rattle.std.specs.Prelude.{◌≡◌};
 ghost use Rattle.dsn_outcome.specs.Wording.{wording_byte, wording_of_byte};
 

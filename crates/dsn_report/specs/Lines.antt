@@ -28,6 +28,8 @@ pieces_more byte rest pieces =
 -- what a reader of a message makes of its bytes: the pieces between its CRLFs. What follows the
 -- last CRLF is the last piece, and an empty one where the text ends there. A CR or an LF alone is a
 -- byte of a piece
+-- The reader's side is defined from the bytes up and knows nothing of the writer: here a line ends at CR LF and nowhere
+-- else. proofs/ReaderExamples.antt computes it on small examples.
 unfoldable pub pieces_of_text : List ℕ → List (List ℕ)
 pieces_of_text [] = [] ∷ []
 pieces_of_text (byte ∷ rest) = pieces_more byte rest (pieces_of_text rest)

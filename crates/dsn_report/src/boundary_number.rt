@@ -1,4 +1,5 @@
 //! The number of a notice's boundary.
+//! Implements RFC 2046 section 5.1.1 and docs/FORMATS.md, "The boundary".
 ghost use Rattle.std.specs.Prelude.{◌≡◌, ◌<◌};
 ghost use Rattle.std.specs.List.{list_any};
 ghost use Rattle.dsn_report.specs.Boundary.{IsBoundaryNumber, boundary_number, boundary_numbers, is_dashed, returned_lines};

@@ -1,4 +1,5 @@
 //! The name and the serial of a letter, and the boundaries made of its name.
+//! Implements docs/FORMATS.md, "The boundary".
 ghost use Rattle.std.specs.Prelude.{◌≡◌, ◌+◌, ◌<◌, ◌≤◌, decimal, length};
 ghost use Rattle.dsn_report.specs.Boundary.{letter_name, boundary_front, boundary_numbers, boundary_text, longest_letter_name};
 

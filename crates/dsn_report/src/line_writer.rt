@@ -1,4 +1,5 @@
 //! Lines on their way to a drain, one piece after another.
+//! Implements RFC 5321 section 4.5.2.
 ghost use Rattle.std.specs.Prelude.{◌≡◌, ◌<◌, false, ℕ, List, [], ◌∷◌, ◌++◌, codes, length};
 ghost use Rattle.std.specs.List.{flat_map};
 ghost use Rattle.dsn_device.specs.QuietWriter.{Flushes, MarksLetter};
@@ -69,6 +70,9 @@ impl<W: Drain> LineWriter<W> {
 
     /// Writes lines with their CRLFs, from pieces of their text, of which each may reach over
     /// several lines. It adds no dots: none of the lines may begin with one.
+    ///
+    /// What is constant between two values of a notice is one piece, across its lines, and costs
+    /// one copy.
     pub(crate) fn block(&mut self, pieces: &[&[u8]])
         ensures { (lines : List (List ℕ))
             → IsBlock lines (flat_map (λ piece. piece.now) pieces.now)

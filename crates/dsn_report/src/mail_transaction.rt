@@ -1,4 +1,5 @@
 //! The client's side of the mail protocol.
+//! Implements RFC 5321 section 3.3 and docs/FORMATS.md, "The outbox".
 ghost use Rattle.std.specs.Prelude.{◌≡◌, true, [], ◌++◌, if◌then◌else◌};
 ghost use Rattle.dsn_device.specs.QuietWriter.{Writes};
 ghost use Rattle.dsn_report.specs.LineWriter.{Took};

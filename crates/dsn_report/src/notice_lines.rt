@@ -1,4 +1,7 @@
 //! The text of a notice, line by line.
+//! Implements RFC 6522 sections 3 and 4, RFC 3464 section 2, and docs/FORMATS.md, "The notice".
+//! The order of header fields, the subjects and the words for people are this project's own; what
+//! RFC 6522, RFC 3464 and RFC 3834 ask for is there.
 ghost use Rattle.std.specs.Prelude.{◌≡◌, ℕ, List, [], ◌∷◌, ◌++◌, None, codes, IsTrue};
 ghost use Rattle.std.specs.List.{flat_map};
 ghost use Rattle.std.specs.Option.{option_copied, option_map};

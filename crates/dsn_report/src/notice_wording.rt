@@ -1,4 +1,5 @@
 //! The words that a notice chooses.
+//! Implements docs/FORMATS.md, "The notice".
 ghost use Rattle.std.specs.Prelude.{◌≡◌};
 ghost use Rattle.std.specs.List.{list_all};
 ghost use Rattle.std.specs.Option.{option_copied};

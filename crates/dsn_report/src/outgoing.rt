@@ -1,4 +1,5 @@
 //! Letters on their way to the outbox.
+//! Implements docs/FORMATS.md, "The outbox".
 ghost use Rattle.std.specs.Prelude.{◌≡◌, ◌+◌, ◌≤◌, ℕ, List, [], ◌∷◌, ◌++◌, length};
 ghost use Rattle.std.specs.Option.{option_to_list};
 ghost use Rattle.dsn_report.specs.Outgoing.{Delivered, IsOutbox, begun};
@@ -52,6 +53,7 @@ impl<W: Drain> Outgoing<W> {
         ensures few { length self.new.unsent ≤ length self.old.unsent + 1 }
     {
         if let Err(fault) = self.poster.post(letter) {
+            // Its log stays closed and its answer stays Sealed: the notes name it as unsent.
             self.unsent.push(fault.into_letter());
         }
     }

@@ -4,6 +4,8 @@ ghost use Rattle.std.specs.Prelude.{◌≡◌, [], ◌++◌, if◌then◌else◌
 use std::marker::Model;
 
 /// How many bytes can wait.
+// Each write through a device costs far more than a copy. Nothing waits between two calls of a
+// poster.
 const HELD_ROOM: usize = 4_096;
 
 /// Bytes that wait to be written, so that many short texts are one write.

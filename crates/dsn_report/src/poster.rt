@@ -1,4 +1,5 @@
 //! Posting notices to an outbox, one mail transaction after another.
+//! Implements docs/FORMATS.md, "The outbox".
 ghost use Rattle.std.specs.Prelude.{◌≡◌, true, false, not, IsTrue, IsFalse, Err, OnOk, OnErr, IfErr, is_err};
 ghost use Rattle.std.specs.Io.KnownBytes.{Appends};
 ghost use Rattle.dsn_device.specs.Transfer.{AppendsFront};
@@ -120,6 +121,8 @@ impl<W: Drain> Poster<W> {
         send_letter(&mut self.lines, &self.site, &letter, self.greeted);
         self.greeted = true;
         self.lines.flush();
+        // The order of text, flush and mark is here alone, for `batch`, `serve` and a run over a
+        // journal.
         self.lines.mark_letter(letter.serial());
         if self.lines.writer.has_failed() {
             return Err(PostFault::Write(letter));

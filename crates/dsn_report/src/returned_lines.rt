@@ -1,4 +1,5 @@
 //! The lines of a message, or of its header, that a notice returns.
+//! Implements RFC 5322 section 2.1.1 and docs/FORMATS.md, "Returned lines".
 ghost use Rattle.std.specs.Prelude.{◌≡◌, ◌+◌, ◌≤◌, ◌==◌, [], ◌∷◌, ◌++◌, codes, length, take, if◌then◌else◌};
 ghost use Rattle.std.specs.Iterator.{YieldsFirstRef, item_count};
 ghost use Rattle.std.specs.Str.Lines.{lines, strip_carriage_return};
@@ -32,6 +33,7 @@ impl<'a> Iterator for ReturnedLines<'a> {
 
     fn next(&mut self) -> Option<&'a [u8]> {
         let (line, rest) = first_line(self.rest);
+        // A line of spaces or tabs isn't empty, and doesn't end the header.
         if line.is_empty() && (!self.whole || self.rest.is_empty()) {
             return None;
         }
@@ -51,7 +53,9 @@ pub(crate) fn first_line(text: &[u8]) -> (&[u8], &[u8])
     ensures empty { length text.now ≡ 0 → length result.0.now ≡ 0 }
 {
     match text.find_byte(b'\n') {
+        // Of two CRs before LF only the last belongs to the line's end.
         Some(feed) => (without_carriage_return(&text[..feed]), &text[feed + 1..]),
+        // The end of a last line without LF keeps its CR.
         None => (text, &text[text.len()..]),
     }
 }
@@ -73,6 +77,8 @@ pub(crate) fn show_line(line: &[u8], whole: bool, shown: &mut [u8; LINE_ROOM]) -
     ensures line { take (result + 1) shown.new ≡ codes "." ++ line_shown whole line.now }
 {
     shown[0] = b'.';
+    // Counted before the dot is put in front. Whether a line is cut or cleaned first makes no
+    // difference.
     let len = line.len().min(LONGEST_LINE);
     for (index, byte) in line[..len].iter().enumerate() {
         shown[index + 1] = byte_shown(*byte, whole);

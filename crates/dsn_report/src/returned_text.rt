@@ -1,4 +1,5 @@
 //! What a notice returns of a message.
+//! Implements RFC 2045 section 2.7, RFC 3461 section 4.3, and docs/FORMATS.md, "Returned lines".
 ghost use Rattle.std.specs.Prelude.{◌≡◌, ◌==◌, length};
 ghost use Rattle.std.specs.List.{list_all};
 ghost use Rattle.dsn_report.specs.Boundary.{is_message, returned_lines, returns_message, stands_whole};
@@ -63,6 +64,9 @@ fn returns_message(letter: &Letter, text: &[u8]) -> bool
     requires { text.now ≡ letter.now.draft.header }
     ensures { result ≡ returns_message letter.now.draft }
 {
+    // The outbox is written without waiting for replies, so it is unknown whether the server offers
+    // 8BITMIME, without which no 8bit line may be sent (RFC 6152). A message that was cleaned or
+    // cut would be another message.
     if is_message(letter) {
         stands_whole(text)
     } else {
@@ -117,6 +121,9 @@ fn has_mail_bytes(line: &[u8]) -> bool
 }
 
 /// Whether a line of a 7bit mail may hold the byte.
+///
+/// Escape (27) is allowed, as ISO-2022-JP has it, so a returned message has bytes that no other
+/// line of a notice has.
 fn is_mail_byte(byte: u8) -> bool
     ensures { result ≡ is_mail_byte byte }
 {

@@ -1,4 +1,5 @@
 //! The numbers that returned lines rule out for a notice's boundary.
+//! Implements docs/FORMATS.md, "The boundary".
 ghost use Rattle.std.specs.Prelude.{◌≡◌, ◌≢◌, ◌+◌, ◌*◌, ◌<◌, ℕ, ◌++◌, IsTrue, IsFalse, IfNone, IfSome, slice_index_or, nat_eq, false, not, position};
 ghost use Rattle.std.specs.List.{starts_with};
 ghost use Rattle.dsn_report.specs.Boundary.{boundary_numbers, four_digits, is_delimiter, rules_out};
@@ -41,6 +42,8 @@ pub(crate) fn first_free(ruled_out: &[bool; NUMBERS]) -> Option<usize>
 }
 
 /// The number that a line rules out, if it rules one out.
+///
+/// The front of a line rules it out, whatever follows (RFC 2046 section 5.1.1).
 fn number_ruled_out(front: &[u8], line: &[u8]) -> Option<usize>
     ensures some { IfSome result
         (λ number. (number < boundary_numbers)

@@ -1,4 +1,4 @@
--- The numbers of refusals and of faults, each once (this project's profile; FORMATS section 16). The
+-- The numbers of refusals and of faults, each once (docs/FORMATS.md, "All numbers"). The
 -- same numbers stand in the module fault_code.
 use Rattle.std.specs.Prelude.{ℕ}
 

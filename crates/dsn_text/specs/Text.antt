@@ -101,6 +101,7 @@ abbrev pub is_clean : List ℕ → Bool
 is_clean = is_text is_printable 0 longest_clean
 
 -- one that is there says something: an empty one means that there is none
+-- it isn't empty: an empty text means that there is no remark, so an empty one would be read back as no remark
 abbrev pub is_remark : List ℕ → Bool
 is_remark = is_text is_printable 1 longest_clean
 

@@ -1,4 +1,5 @@
 //! What a delivery agent did with a recipient (RFC 3464 section 2.3.3).
+//! Implements docs/FORMATS.md, "Append: log one recipient's outcome".
 ghost use Rattle.std.specs.Prelude.{◌≡◌};
 ghost use Rattle.dsn_text.specs.Action.{action_byte, action_word, action_of_byte};
 ghost use Rattle.dsn_text.specs.Action.{fits_class, fits_retry};
@@ -75,6 +76,8 @@ impl Action {
 
     /// Whether the action stands with what is said of until when delivery is tried again: only
     /// a delayed recipient's is (RFC 3464 section 2.3.9).
+    ///
+    /// The daemon reads no clock: neither moment has to be the earlier one.
     pub fn fits_retry(self, retry_until: Option<Stamp>) -> bool
         ensures { result ≡ fits_retry self retry_until }
     {

@@ -1,4 +1,5 @@
 //! Envelope addresses.
+//! Implements RFC 5321 section 4.1.2 and docs/FORMATS.md, "Append: log one recipient's outcome".
 ghost use Rattle.std.specs.Prelude.{◌≡◌, ◌↔◌, IsTrue, IfOk, IsOk, IsErrOf};
 ghost use Rattle.dsn_text.specs.Text.{IsAddress};
 
@@ -13,6 +14,8 @@ pub const LONGEST_ADDRESS: usize = 256;
 
 /// An envelope address without its angle brackets: 1 to 256 bytes of printable ASCII without the
 /// space, `<` and `>`. It needs no `@`.
+///
+/// Local recipients have no `@`.
 #[derive(Debug, Drop)]
 pub struct Address {
     bytes: Vec<u8>,

@@ -7,6 +7,8 @@ ghost use Rattle.std.specs.Slice.Scan.{big_endian};
 use std::cmp::Ordering;
 
 /// The order of two blocks by their bytes, which is that of their words in turn.
+///
+/// A queue id's bytes are more than 0 and zeros follow them, so this is also the order of two ids.
 pub(crate) fn compare(left: &[u8; 32], right: &[u8; 32]) -> Ordering
     ensures { result ≡ slice_cmp nat_cmp left.now right.now }
 {

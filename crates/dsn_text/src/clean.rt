@@ -1,4 +1,5 @@
 //! Diagnostics and reasons.
+//! Implements docs/FORMATS.md, "Append: log one recipient's outcome".
 ghost use Rattle.std.specs.Prelude.{◌≡◌, ◌↔◌, ◌<◌, ◌≤◌, length, IsTrue, IfOk, IsOk, IsErr, IsErrOf};
 ghost use Rattle.dsn_text.specs.Text.{IsClean, clean_byte, clean_text};
 
@@ -59,6 +60,9 @@ impl Clean {
 }
 
 /// The byte, or `?` where it isn't printable.
+///
+/// Remote systems send such bytes, and the outcome matters more than they do: so a byte is replaced
+/// and the text isn't refused.
 fn printable(byte: u8) -> u8
     ensures { result ≡ clean_byte byte }
 {

@@ -1,5 +1,6 @@
 //! Extension fields: what a mail system says of a message or of a recipient beside the fields of
 //! RFC 3464 (RFC 3464 section 2.4).
+//! Implements docs/FORMATS.md, "Append: log one recipient's outcome".
 ghost use Rattle.std.specs.Prelude.{◌≡◌, ◌<◌, ◌≤◌, ◌==◌, [], ◌∷◌, length, IsTrue, IfSome, MatchOption};
 ghost use Rattle.std.specs.List.{after_first, before_first, position_or_len};
 ghost use Rattle.dsn_text.specs.Extension.{IsExtensionText, are_extension_lines, lines_ended_by_lf, is_extension_line, is_extension_name, is_extension_rest, is_extension_text, is_feed, most_extensions};
@@ -13,6 +14,8 @@ pub const LONGEST_EXTENSION_NAME: usize = 64;
 pub const LONGEST_EXTENSION_VALUE: usize = 255;
 
 /// The most extension fields of a text (this project's profile).
+///
+/// The bounds are small so that a log of 1,000 outcomes stays small.
 pub const MOST_EXTENSIONS: usize = 8;
 
 /// The longest text of extension fields, in bytes: each has a colon, a space and LF too.
@@ -56,6 +59,8 @@ fn are_extension_lines(text: &[u8]) -> bool
 }
 
 /// The first line of a text that LF ends, without it, and what follows.
+///
+/// A CR has no part in a line's end: none that a client sends can end a line of the notice early.
 #[tactic(auto, using(crate::proofs::ExtensionLemmas::lines_ended_by_lf_first, crate::proofs::ExtensionLemmas::lines_ended_by_lf_none, crate::proofs::ExtensionLemmas::feed_before))]
 pub fn first_ended_line(text: &[u8]) -> Option<(&[u8], &[u8])>
     ensures lines { MatchOption result (lines_ended_by_lf text.now ≡ [])
@@ -82,6 +87,9 @@ fn is_extension_line(line: &[u8]) -> bool
 }
 
 /// Whether a text is the name of an extension field.
+///
+/// Names with `X-` are for experiments and for the fields of one mail system. Any other name has to
+/// be registered (RFC 3464 section 2.4), and the daemon may write a field of that name itself.
 fn is_extension_name(name: &[u8]) -> bool
     ensures { result ≡ is_extension_name name.now }
 {

@@ -1,10 +1,12 @@
-//! The numbers of refusals and of faults, each once: all of FORMATS section 16. The same numbers
-//! stand in the contracts' FaultCode.
+//! The numbers of refusals and of faults, each once: docs/FORMATS.md, "All numbers". The same
+//! numbers are in the contracts' FaultCode.
 //!
 //! 1 to 10 and 15 to 30 are refusals of a request's body, 11 to 14 faults of a frame, 31
 //! to 35 of what is written, 41 to 45 of a crew, 46 to 48 of a session, 51 of a site, 61 of a socket
 //! and 71 to 77 of a journal.
 //! Each is what `code()` of an error type of this project gives.
+//! The contracts have a list of their own so that a wrong number in one list is a contract that
+//! isn't met, and not another meaning of the number everywhere.
 
 /// The final recipient is no address.
 pub const BAD_RECIPIENT: u32 = 1;

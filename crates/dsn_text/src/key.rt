@@ -1,4 +1,5 @@
 //! The key of a log: a service and a message.
+//! Implements docs/FORMATS.md, "Requests".
 use crate::queue_id::QueueId;
 use crate::service::Service;
 

@@ -1,4 +1,5 @@
 //! Headers of messages that could not be delivered.
+//! Implements RFC 3461 section 4.3 and docs/FORMATS.md, "Flush: close the log and make its notice".
 ghost use Rattle.std.specs.Prelude.{◌≡◌, ◌↔◌, ◌<◌, ◌≤◌, length, IsTrue, IfOk, IsOk, IsErrOf};
 
 use crate::no_memory::NoMemory;

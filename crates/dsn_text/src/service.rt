@@ -1,4 +1,5 @@
 //! The three services of the daemon, as Postfix's bounce(8) has them.
+//! Implements docs/FORMATS.md, "Requests".
 ghost use Rattle.std.specs.Prelude.{◌≡◌};
 ghost use Rattle.dsn_text.specs.Service.{takes};
 ghost use Rattle.dsn_text.specs.Service.{service_byte, service_letter, service_of_byte};

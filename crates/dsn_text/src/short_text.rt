@@ -58,6 +58,8 @@ impl ShortText {
         if number < 10 {
             self.push(&[b'0' + number as u8]);
         } else {
+            // `itoa` writes in place and its contract has the text: a line of notes takes no
+            // memory.
             self.push(Buffer::new().format(number).as_bytes());
         }
     }

@@ -1,4 +1,5 @@
 //! Moments, in whole seconds since 1 January 1970 UTC, and their text (RFC 5322 section 3.3).
+//! Implements docs/FORMATS.md, "Dates".
 ghost use Rattle.std.specs.Prelude.{◌≡◌, ◌/◌, ◌%◌, ◌<◌, ◌≤◌, ◌↔◌, IsSome, IfSome};
 ghost use Rattle.std.specs.Int.{IsInRange};
 ghost use Rattle.jiff.specs.Words.{monday_zero, weekday_of};
@@ -80,6 +81,9 @@ impl Stamp {
         ensures date { IsCivil (civil_after (self / 86_400)) result }
         ensures weekday { weekday_of result ≡ weekday_after (self / 86_400) }
     {
+        // `jiff_core` has the date of a day number, and `jiff` its weekday, year, month and day.
+        // The text of RFC 5322 that `jiff` writes has a day of one digit without a zero, so `date`
+        // writes its own.
         let day = (self.seconds / 86_400) as i64;
         Date::from_plain(jiff_core::civil::Date::from_unix_epoch_day(day).unwrap())
     }

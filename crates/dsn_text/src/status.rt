@@ -1,4 +1,5 @@
 //! Status codes, as `5.1.1`.
+//! Implements RFC 3463 section 2 and RFC 3464 section 2.3.4.
 ghost use Rattle.std.specs.Prelude.{◌≡◌, ◌↔◌, ◌≤◌, length, IsTrue, IsSome, IfSome, Some, is_some};
 ghost use Rattle.std.specs.List.{before_first, after_first, position_or_len};
 ghost use Rattle.dsn_text.specs.Status.{IsStatusCode, is_class, is_class_text, is_dot, is_number_pair, is_number_text, is_status_code, has_leading_zero, status_class};

@@ -1,4 +1,5 @@
 //! The names of types: which kind of address or of diagnostic a text is.
+//! Implements RFC 3464 section 2.1.2 and docs/FORMATS.md, "Append: log one recipient's outcome".
 ghost use Rattle.std.specs.Prelude.{◌↔◌, IsTrue};
 ghost use Rattle.dsn_text.specs.Text.{IsTypeName};
 
@@ -9,6 +10,9 @@ pub const LONGEST_TYPE_NAME: usize = 32;
 
 /// Whether a text can be the name of a type (RFC 3464 sections 2.1.2 and 2.3.6): an atom (RFC 5322
 /// section 3.2.3) of 1 to 32 bytes. It takes no memory.
+///
+/// A mail system has reasons that no SMTP server replied (`X-Postfix`), and a sender may name a
+/// recipient by an address that isn't one of Internet mail.
 #[inline(never)]
 pub fn is_type_name(text: &[u8]) -> bool
     ensures { IsTrue result ↔ IsTypeName text.now }

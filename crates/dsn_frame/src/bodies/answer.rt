@@ -1,4 +1,5 @@
 //! Answers to frames, and back.
+//! Implements docs/FORMATS.md, "Answers".
 ghost use Rattle.std.specs.Prelude.{◌≡◌, ◌≢◌, ◌⊎◌, ℕ, ◌≤◌, [], ◌∷◌, ◌++◌, length, true, IfOk, IfErr, IfSome, OnOk, Ok, Some, None};
 ghost use Rattle.std.specs.Int.{w32, from_be_bytes, to_be_bytes};
 ghost use Rattle.dsn_frame.specs.bodies.Spoken.{FitsAnswer, answer_body, answer_bytes, first_answer_fault, is_without_rest, is_without_value, reply_kind, reply_value, sealed_kind, serial_bytes, spoken_kind, spoken_serial, spoken_value};
@@ -102,6 +103,9 @@ fn fields_of(answer: Spoken) -> (u8, u32)
 }
 
 /// The serial that an answer tells, if it does.
+///
+/// An agent with a log of its own names its notice by the Message-ID, of which it knows all but
+/// this.
 fn serial_of(answer: Spoken) -> Option<u64>
     ensures { result ≡ spoken_serial answer }
 {

@@ -1,4 +1,5 @@
 //! Why bytes are no answer.
+//! Implements docs/FORMATS.md, "Answers".
 ghost use Rattle.std.specs.Prelude.{◌≡◌};
 ghost use Rattle.dsn_frame.specs.bodies.AnswerFault.{answer_fault_code};
 

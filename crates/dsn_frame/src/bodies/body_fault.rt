@@ -1,4 +1,5 @@
 //! Why a body is refused.
+//! Implements docs/FORMATS.md, "Which refusal a body gets".
 ghost use Rattle.std.specs.Prelude.{◌≡◌};
 ghost use Rattle.dsn_frame.specs.bodies.BodyFault.{body_fault_code};
 

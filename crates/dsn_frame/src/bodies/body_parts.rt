@@ -1,4 +1,5 @@
 //! The fields of a body as they stand in it, before any is judged.
+//! Implements docs/FORMATS.md, "Requests".
 use dsn_outcome::Types;
 
 /// What every body begins with; its kind stands after its version.

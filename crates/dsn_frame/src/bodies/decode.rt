@@ -1,4 +1,5 @@
 //! Bodies to requests.
+//! Implements docs/FORMATS.md, "Requests" and "Which refusal a body gets".
 ghost use Rattle.std.specs.Prelude.{◌≡◌, ◌≢◌, ◌&&◌, nat_le, [], true, false, IsTrue, IfOk, IfErr, OnOk, Some, None, unwrap_or};
 ghost use Rattle.std.specs.Option.{option_map};
 ghost use Rattle.dsn_outcome.specs.Body.{body_of};

@@ -1,4 +1,5 @@
 //! Requests to frames.
+//! Implements docs/FORMATS.md, "Requests".
 ghost use Rattle.std.specs.Prelude.{◌≡◌, ◌≢◌, Some, IfOk, IsTrue};
 ghost use Rattle.std.specs.Option.{option_copied};
 ghost use Rattle.dsn_outcome.specs.Body.{body_of, body_lent};
@@ -26,6 +27,10 @@ use std::alloc::Global;
 /// The whole frame of a request: its length, and a body that encodes this number and this request.
 /// A diagnostic and a reason are written as the outcome keeps them, clean. Memory for the frame is
 /// taken at once, so `NoMemory` comes before a byte is written.
+///
+/// Its contract has both the bytes and that they encode the request. The bytes alone wouldn't fix
+/// the format's meaning. The meaning alone wouldn't fix the bytes: a diagnostic's unprintable bytes
+/// are all read as `?`, so one request has several bodies.
 pub fn encode_request(alloc: Global, number: u32, body: &Body) -> Result<Vec<u8>, NoMemory>
     requires { body_of body.now ≢ Bye }
     ensures written { IfOk result (λ frame. frame.items ≡ request_bytes number (body_of body.now)) }
@@ -39,6 +44,8 @@ pub fn encode_request(alloc: Global, number: u32, body: &Body) -> Result<Vec<u8>
 }
 
 /// The same of a request whose parts somebody else owns.
+///
+/// A journal's snapshot writes outcomes that a log or a letter keeps; a copy would take memory.
 #[tactic(auto, using(crate::proofs::bodies::EncodingLaws::written_encodes, crate::proofs::bodies::EncodingLaws::written_fits), unfolding(crate::specs::bodies::Request::request_body, crate::specs::bodies::Request::request_bytes))]
 pub fn encode_lent(alloc: Global, number: u32, body: BodyRef<'_>) -> Result<Vec<u8>, NoMemory>
     ensures written { IfOk result
@@ -113,6 +120,8 @@ fn append_parts<'a>(number: u32, id: &'a QueueId, outcome: &'a Outcome) -> BodyP
 
 /// Whether no type of an outcome's texts is said, and it has no extension field: an append of the
 /// second version can say it.
+///
+/// A type that was named is kept, also `rfc822` and `smtp`, though its notice is the same.
 fn has_usual_types(outcome: &Outcome) -> bool
     ensures { result ≡ has_usual_types outcome.now }
 {

@@ -1,5 +1,6 @@
 //! Fields, read from the front of some bytes. Each reader answers the field and the bytes after
 //! it, or none where the bytes end before the field does.
+//! Implements docs/FORMATS.md, "Conventions".
 ghost use Rattle.std.specs.Prelude.{◌≡◌};
 ghost use Rattle.std.specs.Int.{w16, w32, w64};
 ghost use Rattle.std.specs.Option.{option_map};

@@ -1,4 +1,5 @@
 //! What a session says to a frame.
+//! Implements docs/FORMATS.md, "Answers".
 ghost use Rattle.std.specs.Prelude.{◌≡◌};
 ghost use Rattle.dsn_frame.specs.bodies.Spoken.{says_serial, told_to};
 
@@ -21,6 +22,8 @@ impl Spoken {
         ensures { result ≡ told_to bytes.now self }
     {
         match self {
+            // A request doesn't say of which version it came, so the frame's first byte does.
+            // Clients of versions 1 and 2 read 14 bytes.
             Spoken::Reply(Replied { reply, .. }) if !says_serial(bytes) => {
                 Spoken::Reply(Replied {
                     reply,

@@ -1,4 +1,5 @@
 //! Fields, written one after another at the end of a text that has room for them.
+//! Implements docs/FORMATS.md, "Conventions".
 ghost use Rattle.std.specs.Prelude.{◌≡◌, ◌+◌, ◌<◌, ◌≤◌, ◌^◌, ◌++◌, length, vec_capacity};
 ghost use Rattle.std.specs.Int.{w32, w64};
 ghost use Rattle.dsn_frame.specs.bodies.BodyParts.{head_in, recipient_fields_in, retry_fields_in, type_fields_in, flush_fields_in, wish_fields_in, wire_body_in};

@@ -32,6 +32,9 @@ impl<B: Keeper + Drop> CollectorResult<B> {
         match desk.run(rt, sink) {
             Ok(()) => CollectorResult::Whole(desk),
             Err(fault) => {
+                // The book outlives the failure: it models all that was carried out. What was kept
+                // behind that is carried out by the next run, so a client that asks again may log
+                // an outcome twice.
                 let (stop, collector) = (desk.stopped(), Snapshot::of(&desk));
                 CollectorResult::Failed(desk.into_book(), stop, fault.into_letter(), collector)
             }

@@ -1,4 +1,5 @@
 //! What is left of a crew whose run ended with a fault.
+//! It returns what carried the requests out, so that a later run or a repair has its disk.
 ghost use Rattle.std.specs.Prelude.{◌≡◌, [], ◌∷◌, ◌++◌, None, Some};
 ghost use Rattle.dsn_book.specs.Step.{letters_in};
 ghost use Rattle.dsn_crew.specs.Breach.{cause_of, IsShown};

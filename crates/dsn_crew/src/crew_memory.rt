@@ -39,6 +39,7 @@ impl<P: Port, B: Keeper + Drop> CrewMemory<P, B> {
         ensures room { IfOk result (IsRoom B.Keeper book agents) }
         ensures back { IfErr result (λ back. back ≡ book) }
     {
+        // On the caller's thread, before the first thread starts.
         let (crew, desk) = open_room(rt, alloc, book, agents)?;
         let Ok((sink, source)) = open_post(rt, alloc) else {
             return Err(desk.into_book());

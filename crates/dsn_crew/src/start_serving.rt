@@ -65,6 +65,8 @@ fn start_thread<'s, E: 's, R: Wait + Sync, P: Port + Drop + Send + 's, G: Gate +
                 requires { P.may_be_asked port }
             { serve_port(rt, alloc, agent, port, gate) },
         )
+        // The closure that comes back isn't run: an agent on the collector's own thread would wait
+        // for ever.
         .ok()
 }
 

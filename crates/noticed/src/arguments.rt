@@ -87,6 +87,7 @@ pub(crate) fn command_of(rt: &HostRuntime) -> Result<Command, Refusal> {
     let mut words = match env::args(rt) {
         Ok(words) => words,
         Err(error) if error.kind() == ErrorKind::OutOfMemory => return Err(Refusal::NoMemory),
+        // A word that isn't UTF-8.
         Err(_) => return Err(Refusal::Usage),
     };
     let _program = words.next();
@@ -148,6 +149,8 @@ fn serve_options(words: &mut Args) -> Result<ServeOptions, Refusal> {
             logs: false,
         },
     };
+    // Only the words before the last four are options, so `serve` with four words means what it
+    // says even if one of them is an option's name. `--help` and `.` are legal host names.
     for _ in SERVE_WORDS..words.len() {
         if words.len() <= SERVE_WORDS {
             break;

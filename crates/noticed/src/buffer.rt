@@ -1,4 +1,5 @@
 //! The buffers of the program.
+//! They are the program's and not the library's, which is used over memory too.
 use std::io::{BufWriter, Write};
 
 /// The room for what is read and written at once, in bytes.

@@ -15,6 +15,7 @@ pub(crate) fn run_journal(rt: &HostRuntime, folder: &str) -> Result<u8, Refusal>
     let JournalFolder {
         mut journal,
         mut marks,
+        // Under the daemon's lock: a listing beside a daemon would be true of no moment.
     } = match open_as_it_is(rt, folder) {
         Ok(disks) => disks,
         Err(error) => return Ok(print_journal_fault(rt, folder, &error)),

@@ -8,6 +8,7 @@ use std::os::unix::fs::OpenOptionsExt;
 use std::{fs, io};
 
 /// How many bytes the file of a new journal has.
+// Room for some 460,000 outcomes.
 const JOURNAL_SIZE: usize = 67_108_864;
 
 /// How many bytes the file of new marks has.
@@ -60,11 +61,13 @@ fn make_files(rt: &HostRuntime, journal: &str, marks: &str) -> io::Result<()> {
         return Ok(());
     }
     if has_marks {
+        // A new journal would forget all open logs.
         return Err(not_found("the journal is missing, and its marks are there"));
     }
     if !has_journal {
         make_file(rt, journal, JOURNAL_SIZE)?;
     } else if !is_unwritten(rt, journal)? {
+        // New marks would send each notice again.
         return Err(not_found("the marks are missing, and their journal is there"));
     }
     make_file(rt, marks, MARKS_SIZE)
@@ -103,6 +106,8 @@ pub(crate) fn open_outbox(rt: &HostRuntime, path: &str) -> io::Result<File> {
         .mode(0o600)
         .open(rt, path)?;
     if file.metadata()?.len() > 0 {
+        // Neither appended to nor cut to its last whole notice: a daemon doesn't know what others
+        // do with it.
         return Err(Error::from(ErrorKind::AlreadyExists));
     }
     sync_folder(rt, path)?;

@@ -1,4 +1,6 @@
 //! Where the outbox of `serve` is written.
+//! A mark says that a notice is on the disk, so an outbox beside a journal is a file that can be
+//! synced. A sync of a pipe is an error, so standard output is only flushed.
 use std::fs::File;
 use std::io;
 use std::io::Write;

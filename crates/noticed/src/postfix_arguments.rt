@@ -19,6 +19,7 @@ pub(crate) fn postfix_arguments(alloc: Global, mut words: Args) -> Result<Postfi
     Ok(PostfixServing {
         site: site_of(alloc, &host)?,
         client: client_of(alloc, &host)?,
+        // No name: it would be looked up for each notice, and a notice would wait for that.
         hand_in: address_of(hand_in.as_str())?,
         values: PostfixValues::of(alloc, options, host.as_str())?,
         folder,

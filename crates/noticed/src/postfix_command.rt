@@ -1,4 +1,6 @@
 //! The command `postfix`.
+//! It ends by a signal alone and has nothing to finish: what isn't answered is asked again. So it
+//! needs no `stop`, and its sockets stay.
 use crate::postfix_serving::PostfixServing;
 use crate::refusal::Refusal;
 use dsn_postfix_service::{Listeners, PostfixPlace, StartFault, serve_postfix};

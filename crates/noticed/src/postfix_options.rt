@@ -1,4 +1,6 @@
 //! The options of `postfix`.
+//! main.cf isn't read: its values may name one another and come from tables, and only Postfix's own
+//! library reads it as Postfix does. The few that count are options with Postfix's defaults.
 use crate::arguments::number_of;
 use crate::refusal::Refusal;
 use dsn_postfix_service::MOST_DEPTH;

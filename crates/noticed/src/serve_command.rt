@@ -47,6 +47,8 @@ pub(crate) fn run_serve<R: Threads + Wait + Clock + Sync>(
         Ok(folder) => folder,
         Err(status) => return Ok(status),
     };
+    // The journal is locked before the socket is made: a second daemon on the same folder takes no
+    // client from the first.
     let (listener, watch) = match listen(rt, &socket, options) {
         Ok(listening) => listening,
         Err(error) => return Ok(print_socket_fault(rt, &socket, &error)),
@@ -109,6 +111,8 @@ fn listen<'a>(
     path: &'a str,
     options: WatchOptions,
 ) -> io::Result<(UnixListener, SocketWatch<'a, HostRuntime>)> {
+    // A path that is there already is refused, and nothing is removed at the end: only `stop`, or
+    // whoever owns the folder, removes the socket's file.
     let listener = UnixListener::bind(rt, path)?;
     let watch = SocketWatch::new(rt, &listener, path, options)?;
     Ok((listener, watch))

@@ -1,4 +1,6 @@
 //! A socket that could not be had.
+//! The number alone doesn't say whether a folder is missing, a file is in the way, or the rights
+//! are: so the system's words follow it.
 use dsn_text::fault_code;
 use std::io;
 use std::io::Eprint;

@@ -16,6 +16,8 @@ const TOO_MANY_FILES: i32 = 24;
 /// comes where one could not be taken, though a socket might still get it.
 pub(crate) fn take_closed_streams(rt: &HostRuntime) -> Result<(), Refusal> {
     for _ in 0..STREAMS {
+        // Not the null device: on it a daemon without standard output would lose its notices and
+        // say nothing.
         match File::open(rt, "/") {
             Ok(folder) if folder.as_raw_fd() < STREAMS => {
                 let _ = folder.into_raw_fd();

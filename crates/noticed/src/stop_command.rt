@@ -65,6 +65,8 @@ fn is_over(error: &io::Error) -> bool {
 fn remove<R: Files>(rt: &R, path: &str, socket: &Metadata) -> io::Result<bool> {
     let removed = match fs::symlink_metadata(rt, path) {
         Ok(file) if !is_same(&file, socket) => return Ok(false),
+        // Between the look and this the path could become another daemon's: the system has no call
+        // that does both.
         Ok(_) => fs::remove_file(rt, path),
         Err(error) => Err(error),
     };

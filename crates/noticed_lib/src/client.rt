@@ -1,5 +1,6 @@
 //! The client: it hands the frames of an input to a daemon, one after another, and writes in notes
 //! what each was answered.
+//! The client tests nothing of a request: the daemon answers what is wrong.
 mod laws;
 mod send_end;
 mod send_fault;

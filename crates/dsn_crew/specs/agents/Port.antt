@@ -69,6 +69,7 @@ pub record HasGiven (may_give : List Given → Type 0) (line : AgentLine) (lost 
 -- whether the stream may fail
 pub record Conn : Type 0 where
   pub bytes : List ℕ
+  -- a port whose connections are known never answers `Failed`
   pub may_fail : Bool
 
 -- the stream of this connection. One that may not fail is steady, and its count of failures isn't

@@ -15,6 +15,8 @@ use Rattle.dsn_crew.specs.declared.lane.lane_knowledge.LaneKnowledge.{LaneKnowle
 use Rattle.dsn_crew.specs.declared.lane.lane_knowledge.LaneKnowledge.TheVariants.{Sends, Takes, Spent}
 
 -- which lane it is: no two lanes share it; and how many items it holds at most
+-- the capacity is a part, so a half that stays of its lane keeps its capacity. The kit's channel is built on
+-- `atomic_table`, whose table and badges these are
 pub record Identity (T : Type 0) : Type 0 where
   pub table : TableId
   pub items : Badge (Key T)

@@ -83,6 +83,7 @@ impl Agent {
         ensures ask { IsAsk self.old (body_of body) self.new result }
         ensures kept { IsAgent self.new }
     {
+        // Before the limit: a lost agent's session ends (41), and its requests aren't answered 44.
         if self.lost.is_some() {
             return Err(AskFault::Lost(Some(body)));
         }

@@ -28,9 +28,13 @@ pub trait Port {
     ghost conns: { Self → Option (List Conn) };
 
     // Whether it may give these answers, one after another, from here on.
+    // A list of what was given would say no more, and each port would have to carry it through the
+    // threads to the account.
     ghost may_give: { Self → List Given → Type 0 };
 
     // Whether it may be asked for its next connection.
+    // A leave, like `can_next` of std's `Iterator`. A list of all calls would burden whoever writes
+    // a port, and the port is gone when the list could be read.
     ghost may_be_asked: { Self → Type 0 } = { λ _. Unit {0} };
 
     /// The next connection.

@@ -55,6 +55,8 @@ impl Agent {
             let Some(turn) = self.answer(rt, alloc, gate, place, bytes) else {
                 return Err(ServeFault::Lost);
             };
+            // One write and no flush: a socket passes a write on, and who owns a buffered stream
+            // flushes it.
             if send(stream, frame_told(place, bytes, turn.answer).bytes()).is_err() {
                 return Err(ServeFault::WriteBack);
             }

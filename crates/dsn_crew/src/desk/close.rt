@@ -1,4 +1,6 @@
 //! The close of a crew.
+//! The proof needs only that the collector has not failed. `all_gone` is required so that the
+//! collector's own count refuses a close that comes too early.
 ghost use Rattle.std.specs.Prelude.{◌≡◌, ◌+◌, List, [], true, All};
 ghost use mathlib.Core.List.{IsPrefix};
 ghost use Rattle.dsn_outcome.specs.History.{Exchange};

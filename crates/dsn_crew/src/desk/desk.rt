@@ -123,6 +123,8 @@ impl<B: Keeper> Desk<B> {
         ensures missed { self.new ≡ missing self.old agents }
         ensures kept { IsDesk B.Keeper self.new }
     {
+        // Whoever opens a crew starts its threads, and knows of one that could not be started. Its
+        // halves are gone, so this crew is dropped and not closed.
         self.missed += agents;
     }
 
@@ -181,6 +183,7 @@ impl<B: Keeper> Desk<B> {
             return Err(DeskFault::Requests);
         }
         if let Err(why) = self.intake.keep_by(&mut self.book) {
+            // It isn't known which of them are on the disk, so no answer about them would be true.
             self.stop = Some(StopCause::Unkept(why));
             return Err(DeskFault::Requests);
         }
@@ -205,6 +208,8 @@ impl<B: Keeper> Desk<B> {
         let agent = request.agent;
         self.gone += u32::from(request.body.is_bye());
         let Step { answer, letter } = self.book.apply(request);
+        // The letter is given after the answer, so an agent may go on before its notice is written.
+        // If the answer is lost, the fault has the letter, which was sealed.
         match send_answer(
             rt,
             &mut self.lines,
@@ -302,5 +307,7 @@ fn send_answer<B: Keeper>(
     requires room { answer.number < most_sent }
     ensures { IsAnswerSent (is_ok result) lines.old.items answer lines.new.items }
 {
+    // What is sent over a lane has no moment, so no clause on a run says that an answer comes after
+    // a sync. This function's premise does.
     lines[answer.agent as usize].send(rt, answer)
 }

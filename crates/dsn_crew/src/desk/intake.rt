@@ -92,6 +92,9 @@ impl Intake {
         ensures in_time { (n : ℕ) → n < length self.new.behind
             → heard + goodbyes (take n self.new.behind) ≢ agents }
     {
+        // It waits for the first alone: while a group is synced the next ones gather, so a group
+        // grows with the load. None is taken behind the last goodbye, so that no request is left
+        // over.
         take_together(rt, &mut self.lane, &mut self.behind, heard, agents)
     }
 
@@ -107,6 +110,8 @@ impl Intake {
         ensures limits { B.limits keeper.new ≡ B.limits keeper.old }
         ensures sealed { B.sealed keeper.new ≡ B.sealed keeper.old }
     {
+        // A group that isn't kept is answered in no part, though its first requests may have had
+        // room. After a failed write it isn't known which of them a crash would leave.
         keeper.keep(self.behind.make_contiguous())
     }
 

@@ -38,6 +38,7 @@ pub fn close_lane<T: Carried>(
         × IsAccepted T.agent T.number halves.items (out.taken ++ waiting) }
     ensures lists { result.lists ≡ record { halves = halves.items; out = out } }
 {
+    // As many halves as the lane has agents are all of them: a half can't be copied.
     let lists = LaneLists::of(&halves, &out);
     let LaneOut {
         mut pass,

@@ -82,6 +82,8 @@ impl<T: Carried> LaneOut<T> {
     {
         match self.receiver.recv_as::<Removes, _>(rt, &mut self.pass) {
             Ok(item) => {
+                // Sixteen halves send fewer than 2^36 items, so at the close the count is proved
+                // exact.
                 self.count = self.count.wrapping_add(1);
                 Ok(item)
             }

@@ -1,4 +1,6 @@
 //! A lane, from its first step on.
+//! The leave to wait is passed to what opens and closes a lane too, though neither waits: their
+//! contracts hold if they return.
 ghost use Rattle.std.specs.Prelude.{◌≡◌, ◌+◌, ◌≤◌, [], IfOk, vec_capacity};
 ghost use Rattle.crossbeam_channel.specs.Claims.{view, IsSeatAt};
 ghost use Rattle.crossbeam_channel.specs.Ends.{sends_on};
@@ -64,6 +66,8 @@ fn count_room<T: Carried>(
     ensures channel { IsSeatAt (sends_on sender.now) pass.new }
     ensures receiver { view pass.new ≡ passed_over capacity 0 }
 {
+    // The rule's first state can't depend on an argument, so the room is counted: at most 1,024
+    // loads of a word, once a lane.
     for _ in 0..capacity {
         sender.another::<CountRoom>(pass);
     }

@@ -39,6 +39,8 @@ pub fn end_posting<W: Drain + Drop>(
     Posted {
         outbox,
         whole,
+        // After a lost lane the letters that still waited in it are dropped, and are in neither
+        // list.
         posted: handed - unsent.len() as u32,
         unsent,
         all: lost.is_none(),

@@ -59,6 +59,9 @@ pub fn start_posting<'s, E: 's, R: Wait + Sync, W: Drain + Drop + Send + 's>(
     match scope.spawn_with(promise, move || post_all(rt, outgoing, source)) {
         Ok(handle) => Ok((sink, handle)),
         Err(refused) => {
+            // The closure runs here after the end mark, so it finds no letter, and the close proves
+            // that none came. It doesn't end the outbox, or an untouched outbox would get an empty
+            // session.
             let sink = sink.mark(rt);
             let Posting {
                 outgoing,

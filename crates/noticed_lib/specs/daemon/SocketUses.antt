@@ -33,6 +33,7 @@ UsesOne may_end uses left failed = uses ≡ left + 1
 UsesOne may_end uses left done = ((uses ≡ 0) × (left ≡ 0)) ⊎ ((uses ≡ left + 1) × may_end)
 
 -- a port over a socket, of which nothing is seen but its uses: it doesn't tell what comes
+-- the contract of `serve` speaks of these, one for each agent, since its ports are private
 abbrev pub socket_port : Type 0 → Port ℕ (Unit {0})
 socket_port may_end = record {
   conns = λ uses. None;

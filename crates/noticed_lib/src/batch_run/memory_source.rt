@@ -1,4 +1,6 @@
 //! Bytes in memory, as what a run reads from.
+//! `Plain` promises of no reader that its calls don't fail; this is proved, so a run over memory
+//! has no read fault.
 ghost use Rattle.std.specs.Prelude.{◌≡◌, Some};
 
 use dsn_outcome::{Broken, Source};

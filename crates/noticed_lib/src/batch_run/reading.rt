@@ -41,6 +41,8 @@ pub(crate) fn read_all<R: Source, W: Drain, N: Drain>(
         };
         let turn = run.answer(alloc, position, frame.body());
         if send(notes, answer_line(position, turn.answer).bytes()).is_err() {
+            // Also if the answer is `refused 46`: nothing is read after it, so no other fault can
+            // follow.
             return ReadingEnd::NotesLost;
         }
         if turn.over {
@@ -50,6 +52,8 @@ pub(crate) fn read_all<R: Source, W: Drain, N: Drain>(
     if let Err(fault) = buffer.read_next(input) {
         return ReadingEnd::Unreadable(fault);
     }
+    // A cut or a bad length at the limit was found above; here one whole frame is too many.
+    // Requests are never used up (44) before frames are.
     match buffer.frame() {
         Some(_) => ReadingEnd::TooMany,
         None => ReadingEnd::AtEnd,

@@ -152,6 +152,7 @@ fn fault_after(lost: bool, reading: ReadingEnd) -> Option<u32>
 fn status_of(fault: Option<u32>, whole: bool, listed: bool) -> u8
     ensures { result ≡ (if is_some fault || (not whole || not listed) then 1 else 0) }
 {
+    // A refused body is no fault: it was answered.
     if fault.is_some() || !whole || !listed {
         1
     } else {

@@ -32,6 +32,8 @@ pub fn send<R: Source, S: Stream, N: Drain>(
     ensures { IsSend R.Source S.Source S.Drain N.Drain input.old input.new stream.old stream.new
         notes.old notes.new result }
 {
+    // The leave to wait is required though no call here needs it: a daemon may let this wait for an
+    // answer.
     match hand_over(alloc, input, stream, notes) {
         Ok(()) => SendEnd {
             status: 0,

@@ -16,6 +16,7 @@ const LINE_ROOM: usize = 128;
 pub(crate) fn agent_line(agent: usize, line: &AgentLine) -> ArrayString<LINE_ROOM>
     ensures { result.bytes ≡ agent_line agent line.now }
 {
+    // One write a line, and a line is longer than a `ShortText`.
     let mut text = ArrayString::new();
     push_counted(&mut text, "agent ", agent as u64);
     push_counted(&mut text, " requests ", u64::from(line.requests));

@@ -154,8 +154,12 @@ fn start_over_ledger<W: Drain, D: Replaceable + Drop, M: Replaceable + Drop, C: 
         mut ledger,
         letters,
     } = opened;
+    // What the marks say by then, unless a letter failed. No clause says so: a call that borrows
+    // the marks would.
     let all = mark.saturating_add(letters.len() as u64);
     let outgoing = post_first(site, outbox, letters);
+    // Before a client is served: else a daemon whose outbox fails would go on taking requests whose
+    // notices nobody gets, over all its starts.
     if outgoing.has_failed() {
         return Err(NotStarted::after(fault_code::OUTBOX_WRITE, outgoing, ledger));
     }

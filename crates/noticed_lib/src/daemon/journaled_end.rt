@@ -1,4 +1,6 @@
 //! What is left of the daemon's run over a journal.
+//! The disks are returned also if the run didn't begin: nobody could use a clause on a disk that
+//! was dropped.
 use crate::daemon::serve_end::ServeEnd;
 
 /// How a run of [`serve_journaled`](crate::serve_journaled) ended.

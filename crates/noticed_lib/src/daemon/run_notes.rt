@@ -83,6 +83,8 @@ pub(crate) fn write_kept_account<
         ledger.book(),
         notes,
     );
+    // Only at a clean end, when no request is in hand. After a crash a client asks again, and a key
+    // that was forgotten would make a second notice.
     drop(ledger.forget_closed(alloc));
     let (outbox, marks) = outbox.into_outbox().into_parts();
     JournaledEnd {

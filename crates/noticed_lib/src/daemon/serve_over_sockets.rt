@@ -119,6 +119,7 @@ pub fn serve_journaled<
             )
         }
         Err(NoMemory) => {
+            // Nothing has begun, so it is noted as the crew's own want of memory is.
             let code = CrewCause::Refused.code();
             let end = write_fault(alloc, code, outbox, Letters::new(), notes);
             JournaledEnd {

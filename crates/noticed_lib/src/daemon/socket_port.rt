@@ -62,6 +62,8 @@ impl<'a, H: Watch> SocketPort<'a, H> {
         if self.watch.is_ending() {
             return Next::Done;
         }
+        // This agent says goodbye and the others go on. So used up descriptors end all agents in
+        // time, and a supervisor starts the daemon anew.
         self.watch.accept_failed(error);
         Next::Failed
     }
@@ -80,6 +82,7 @@ impl<'a, H: Watch> SocketPort<'a, H> {
                 Err(error) => return self.failed(&error),
             }
         }
+        // Not the end of the port: only its uses and the watch make it done, which contracts see.
         self.failed(&io::Error::from(ErrorKind::TimedOut))
     }
 }

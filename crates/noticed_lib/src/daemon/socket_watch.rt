@@ -1,4 +1,6 @@
 //! The watch of the program: over the socket's file, a limit of idle time, and a log.
+//! The kit handles no signal, and a request that stops a daemon could be asked by whoever may log
+//! an outcome. Who may remove the file owns its folder, and once it is gone no new client comes.
 use crate::daemon::watch::{TICK, Watch};
 use dsn_text::fault_code;
 use std::fs::{Files, Metadata};

@@ -1,4 +1,6 @@
 //! A connection to a client, under a watch.
+//! There is no buffer: agents ask one request at a time. So a request costs two reads and an answer
+//! one write, and no memory is kept for a silent client.
 ghost use Rattle.std.specs.Prelude.{refl};
 
 use crate::daemon::watch::{TICK, Watch};
@@ -9,6 +11,9 @@ use std::os::unix::net::UnixStream;
 use std::time::Duration;
 
 /// What a second of waiting uses up of a client's time.
+// Ten silent seconds or 30 pieces, or as much of both. No clock is read: a socket's time limit
+// counts the seconds. Without the pieces a client that gives a byte now and then would hold a stop
+// up for hours.
 const SECOND: u32 = 3;
 
 /// What a piece of a frame uses up of it, once the run is ending.
@@ -100,6 +105,8 @@ impl<'a, H: Watch> WatchedConnection<'a, H> {
             return false;
         };
         match error.kind() {
+            // A call with a time limit is also interrupted when a stopped process goes on
+            // (signal(7)). As a fault it would cut off each waiting client.
             ErrorKind::Interrupted => self.watch.looks_up(),
             ErrorKind::WouldBlock if self.watch.looks_up() => {
                 self.look();

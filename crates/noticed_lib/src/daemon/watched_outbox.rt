@@ -1,4 +1,6 @@
 //! The writer of an outbox, under a watch.
+//! The lines are read off the outbox's own bytes, between its buffer and the device. So a line says
+//! what was written, and the crates that write it know nothing of an event log.
 ghost use Rattle.std.specs.Prelude.{◌≡◌};
 
 use crate::daemon::log_line::{LINE_ROOM, notice_line};

@@ -1,4 +1,5 @@
 //! Reads attributes from the front of some bytes, one after another.
+//! Implements docs/FORMATS.md, "What Postfix's programs send".
 ghost use Rattle.std.specs.Prelude.{◌≡◌, true, codes, IfOk, IfErr, OnOk};
 ghost use Rattle.dsn_text.specs.Text.{is_queue_id};
 ghost use Rattle.dsn_postfix.specs.Attribute.{number_limit, offset_limit, zero_ended_at};
@@ -93,6 +94,8 @@ impl<'a> AttributeReader<'a> {
             (λ fault. value_number_at offset_limit name.now self.old ≡ Err fault) }
     {
         let value = self.text(name)?;
+        // local(8) sends -1 as 18446744073709551615 before it passes a message to another
+        // transport.
         number_in(value.bytes()).ok_or(RequestFault::Number)
     }
 
@@ -107,6 +110,8 @@ impl<'a> AttributeReader<'a> {
             ≡ Err fault) }
     {
         let value = self.text(b"queue_id")?;
+        // bounce(8) takes up to 255 bytes and `_`. Postfix makes no longer id for a message than
+        // this type has, and without a `/` or a dot none leads out of the queue's folder.
         QueueId::new(value.bytes()).ok_or(RequestFault::QueueId)
     }
 

@@ -1,4 +1,5 @@
 //! The texts that attributes have as values: any, the name of a queue, and delimiters.
+//! Implements docs/FORMATS.md, "What Postfix's programs send".
 ghost use Rattle.std.specs.Prelude.{◌≡◌, ◌↔◌, ◌+◌, ◌<◌, drop, length, IsSome, IfSome, MatchOption};
 ghost use Rattle.dsn_postfix.specs.Attribute.{zero_ended_at};
 ghost use Rattle.dsn_postfix.specs.files.ZeroFree.{IsZeroFree, is_zero_free};

@@ -1,4 +1,5 @@
 //! Why no notice can be made of a log, so that Postfix's own service has to make it.
+//! Implements docs/FORMATS.md, "The notice of a Postfix log".
 use crate::files::LogField;
 use thiserror::Error;
 

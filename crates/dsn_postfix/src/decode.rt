@@ -1,4 +1,5 @@
 //! The request that some bytes are.
+//! Implements docs/FORMATS.md, "What Postfix's programs send".
 ghost use Rattle.std.specs.Prelude.{◌≡◌, Ok, Err, IfOk, IfErr};
 ghost use Rattle.dsn_postfix.specs.PostfixRequest.{IsRequestIn};
 ghost use Rattle.dsn_postfix.specs.RequestReading.{postfix_request_at};

@@ -1,4 +1,5 @@
 //! A buffer for lists of attributes, which is kept from one list to the next.
+//! Implements docs/FORMATS.md, "What Postfix's programs send".
 ghost use Rattle.std.specs.Prelude.{◌≡◌, ◌<◌, ◌≤◌, length, take, None, IfOk, IfErr, IfSome, OnErr, OnOk};
 ghost use Rattle.std.specs.Option.{option_map};
 ghost use Rattle.std.specs.Io.KnownBytes.{Keeps};
@@ -117,10 +118,13 @@ fn read_into<S: Source>(bytes: &mut Vec<u8>, source: &mut S) -> Result<usize, Li
 {
     let mut filled = 0;
     let mut place = ListPlace::Front;
+    // bounce(8) sets no bound to a list; here what a client can make the service keep is known.
     while filled < LONGEST_LIST {
         let count = read_piece(bytes, filled, source)?;
         match place.step_over(&bytes[filled..filled + count]) {
             ListStep::Within(next) => place = next,
+            // A client keeps its half open and waits for the status, so the list's own end counts.
+            // Bytes that come later than its piece are never read.
             ListStep::Ended(size) if size < count => return Err(ListFault::Trailing),
             ListStep::Ended(_) => return Ok(filled + count),
         }

@@ -1,4 +1,5 @@
 //! The notices that a request has of a log.
+//! Implements docs/FORMATS.md, "The notice of a Postfix log".
 ghost use Rattle.std.specs.Prelude.{◌≡◌, ◌<◌, Ok, drop, map, take, IfOk, MatchResult};
 ghost use Rattle.std.specs.Option.{option_map};
 ghost use Rattle.dsn_postfix.specs.files.LogRecord.{logged_fields_in};
@@ -27,9 +28,13 @@ const TLS_REQUIRED: u32 = 16;
 fn option_lost(options: u32) -> Option<CantSay>
     ensures { result ≡ option_lost options }
 {
+    // Then bounce(8) makes a notice of another type (`message/global-delivery-status`). UTF-8 in
+    // the header alone (2) is no reason.
     if options % 2 == 1 {
         return Some(CantSay::NeedsSmtputf8);
     }
+    // 16 (`TLS-Required: no`) and 32 (REQUIRETLS) would have to go with the notice; of others
+    // nothing is known.
     if options >= TLS_REQUIRED {
         return Some(CantSay::SendOptions(options));
     }
@@ -40,6 +45,7 @@ fn option_lost(options: u32) -> Option<CantSay>
 fn is_no_sender(double_bounce: &[u8], sender: &[u8]) -> bool
     ensures { result ≡ is_no_sender double_bounce.now sender.now }
 {
+    // As bounce(8) does if `notify_classes` has no 2bounce.
     sender.is_empty() || sender.eq_ignore_ascii_case(double_bounce)
 }
 
@@ -85,6 +91,8 @@ fn records_asked<'a>(
         PostfixRequest::Append(_) => Ok(Vec::new(alloc)),
         PostfixRequest::Flush(_) | PostfixRequest::Verp(..) => match log {
             Some(file) => whole_records(alloc, service, file),
+            // bounce(8) sends a notice here which says that no report is available: without one the
+            // message would be lost in silence.
             None => Err(PlanFault::Unsaid(CantSay::NoLog)),
         },
         PostfixRequest::Warn(_) | PostfixRequest::Trace(_) => match log {
@@ -119,6 +127,7 @@ impl<'a> PostfixRequest<'a> {
     {
         match self {
             PostfixRequest::Verp(..) => 1,
+            // The most that a notice of this service has. bounce(8) has no bound.
             _ => 1000,
         }
     }

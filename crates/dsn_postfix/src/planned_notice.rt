@@ -1,4 +1,5 @@
 //! A notice that is to be made.
+//! Implements docs/FORMATS.md, "The notice of a Postfix log".
 use crate::files::LogRecord;
 use crate::returned_part::ReturnedPart;
 use dsn_text::Service;

@@ -1,4 +1,5 @@
 //! What Postfix's programs ask of its bounce service.
+//! Implements docs/FORMATS.md, "What Postfix's programs send".
 
 use crate::attribute_text::AttributeText;
 use crate::queue_name::QueueName;

@@ -1,4 +1,5 @@
 //! Which addresses stand in a log file as they are.
+//! Implements RFC 5321 section 4.1.2 and docs/FORMATS.md, "The record that an append becomes".
 ghost use Rattle.std.specs.Prelude.{◌≡◌, ◌+◌, length};
 ghost use Rattle.std.specs.List.{list_all, suffix_len};
 ghost use Rattle.dsn_postfix.specs.VerpPath.{domain_part};

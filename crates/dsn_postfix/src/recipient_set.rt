@@ -1,5 +1,6 @@
 //! Sets in which outcomes and recipients are looked up, so that the time that a log takes doesn't grow with the square of
 //! its records.
+//! Implements docs/FORMATS.md, "The notice of a Postfix log".
 ghost use Rattle.std.specs.Prelude.{◌≡◌, ◌∷◌, List, map, IfOk, OnOk};
 ghost use Rattle.std.specs.List.{list_any};
 ghost use Rattle.dsn_text.specs.declared.service.Service.TheVariants.{Defer};
@@ -27,9 +28,12 @@ pub(crate) fn is_outcome_again<'a>(
     ensures seen { (later : List LoggedFields) → HasOutcomes seen.old later
         → OnOk result (HasOutcomes seen.new (logged_fields_in found.now ∷ later)) }
 {
+    // Without a place each record is an outcome of its own.
     if found.offset == 0 {
         return Ok(false);
     }
+    // Place and address alone aren't enough: local(8) logs two commands of one alias with the
+    // alias's address and place. bounce(8) reports a repeated outcome twice.
     let outcome = (
         found.offset,
         found.recipient,
@@ -51,6 +55,9 @@ pub(crate) fn past_places(
 {
     match service {
         Service::Bounce | Service::Trace => Ok(BTreeSet::new(alloc)),
+        // The notice of an expired message is asked for with the flag that marks its recipients as
+        // done. If Postfix asks again after a crash, they aren't reported twice. The other logs'
+        // recipients are done because they are logged.
         Service::Defer => done_places(alloc, queued),
     }
 }

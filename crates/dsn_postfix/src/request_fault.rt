@@ -1,4 +1,5 @@
 //! Why bytes are no request of Postfix's programs.
+//! Implements docs/FORMATS.md, "What Postfix's programs send".
 
 use thiserror::Error;
 

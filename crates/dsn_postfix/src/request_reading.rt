@@ -1,4 +1,8 @@
 //! The attributes of requests, read one after another in the order that their layouts have.
+//! Implements docs/FORMATS.md, "What Postfix's programs send".
+//! A request has its layout's attributes, in its order, and no others. bounce(8) passes over what
+//! it doesn't want, and takes signs and spaces in numbers; Postfix's programs send none of these.
+//! So what is read can be written again, byte for byte.
 ghost use Rattle.std.specs.Prelude.{◌≡◌, IfOk, IfErr};
 ghost use Rattle.dsn_postfix.specs.PostfixRequest.{send_options_name};
 ghost use Rattle.dsn_postfix.specs.RequestReading.{append_request_at, notice_request_at, own_request_at, recipient_at, report_at, verp_at, one_at};
@@ -13,6 +17,8 @@ use crate::request_fault::RequestFault;
 pub(crate) fn send_options_name(newer: bool) -> &'static [u8]
     ensures { result.now ≡ send_options_name newer }
 {
+    // Whichever version asks: a setting for the version would pass all requests on if it was wrong,
+    // and an upgrade of Postfix would make it wrong.
     if newer { b"sendopts" } else { b"smtputf8" }
 }
 

@@ -1,4 +1,5 @@
 //! What a notice gives back of the message that it is about.
+//! Implements docs/FORMATS.md, "The notice of a Postfix log".
 
 /// What a notice gives back (RFC 3461 section 4.3).
 #[derive(Clone, Copy, Debug, PartialEq, Eq)]

@@ -1,4 +1,5 @@
 //! Which outcomes of a log the notices of a request tell.
+//! Implements docs/FORMATS.md, "The notice of a Postfix log".
 ghost use Rattle.std.specs.Prelude.{◌≡◌, ◌&&◌, ◌∷◌, not, List, map, IfOk, OnOk, if◌then◌else◌};
 ghost use Rattle.std.specs.List.{list_all, list_any};
 ghost use Rattle.dsn_postfix.specs.files.LogRecord.{LoggedFields, logged_fields_in};
@@ -19,6 +20,8 @@ fn told_as<'a>(request: &PostfixRequest<'_>, found: LogRecord<'a>) -> LogRecord<
 {
     match request {
         PostfixRequest::Flush(_) | PostfixRequest::Verp(..) | PostfixRequest::One(..) => {
+            // As bounce(8) does, also for an expired message whose log has delays. The status stays
+            // the log's.
             LogRecord {
                 action: b"failed",
                 ..found

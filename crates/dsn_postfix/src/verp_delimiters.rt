@@ -1,4 +1,5 @@
 //! The delimiters of a return path that has the recipient in it.
+//! Implements docs/FORMATS.md, "What Postfix's programs send".
 ghost use Rattle.std.specs.Prelude.{◌≡◌, ◌↔◌, IsSome, IfSome};
 ghost use Rattle.dsn_postfix.specs.AttributeValues.{AreDelimiters};
 

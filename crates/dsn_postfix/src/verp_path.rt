@@ -1,4 +1,5 @@
 //! The address of a notice that has its recipient in it.
+//! Implements docs/FORMATS.md, "What Postfix's programs send".
 ghost use Rattle.std.specs.Prelude.{◌≡◌, ◌++◌, IfOk, OnOk};
 ghost use Rattle.dsn_postfix.specs.files.LogRecord.{logged_fields_in};
 ghost use Rattle.dsn_postfix.specs.PlannedNotice.{notice_facts_in};
@@ -42,6 +43,8 @@ fn verp_path(
     let [before, within, ..] = delimiters else {
         return copied(alloc, sender);
     };
+    // The texts of the log, so a quoted local part keeps its quotes within the new one, as in
+    // bounce(8)'s.
     let mut path = copied(alloc, local_part(sender))?;
     path.push(*before)?;
     path.extend_from_slice(local_part(recipient))?;

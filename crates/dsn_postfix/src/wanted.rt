@@ -1,4 +1,5 @@
 //! Whom a request's notices tell of.
+//! Implements docs/FORMATS.md, "The notice of a Postfix log".
 ghost use Rattle.std.specs.Prelude.{◌≡◌};
 ghost use Rattle.dsn_postfix.specs.Wanted.{wants, wants_flag};
 

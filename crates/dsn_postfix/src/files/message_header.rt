@@ -1,4 +1,5 @@
 //! The header of a message.
+//! Implements RFC 5322 section 2.2 and docs/FORMATS.md, "Postfix's queue files".
 ghost use Rattle.std.specs.Prelude.{◌≡◌, take};
 ghost use Rattle.dsn_postfix.specs.files.MessageHeader.{after_all, begins_with, is_blank_byte, is_colon, is_header_line, is_name_byte, longest_field_name, message_header, names_field};
 
@@ -85,6 +86,9 @@ fn is_header_line(line: &[u8]) -> bool
     ensures { result ≡ is_header_line line.now }
 {
     match line {
+        // Not up to the empty line alone: a message without one has its body right after its
+        // fields. A line counts by its front, so the front of a text shows its header. bounce(8)
+        // asks each record instead, and loses what follows a field of more than 2,048 bytes.
         [byte, ..] => is_blank_byte(*byte) || names_field(front_of_line(line)),
         [] => false,
     }

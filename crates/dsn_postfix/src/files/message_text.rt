@@ -1,4 +1,5 @@
 //! The text of a queue file's message: its header, an empty line, its body.
+//! Implements docs/FORMATS.md, "Postfix's queue files".
 ghost use Rattle.std.specs.Prelude.{◌≡◌, ◌++◌, ◌-◌, List, IfOk, OnOk, length, take};
 ghost use Rattle.dsn_postfix.specs.files.MessageText.{is_of_text, message_text, text_of_record};
 ghost use Rattle.dsn_postfix.specs.files.QueueListing.{QueueEnding, RecordsFrom};

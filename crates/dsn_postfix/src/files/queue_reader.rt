@@ -1,4 +1,7 @@
 //! Reads a queue file, a record at a time.
+//! Implements docs/FORMATS.md, "Postfix's queue files".
+//! Stricter than Postfix on damaged files alone: a pointer needs a digit, and a length has five
+//! bytes at most. Records of type `w`, which Postfix passes over, are returned.
 ghost use Rattle.std.specs.Prelude.{◌≡◌, ◌<◌, ◌≤◌, List, length, IfOk, IfSome, MatchOption, MatchResult};
 ghost use Rattle.dsn_postfix.specs.files.QueueListing.{RecordsFrom, QueueEnding, ReadsListing};
 ghost use Rattle.dsn_postfix.specs.files.QueueRecipients.{ReadsRecipients, RecipientFacts, RecipientsLeft, nothing_before};

@@ -1,4 +1,5 @@
 //! What stands at a place of a queue file.
+//! Implements docs/FORMATS.md, "Postfix's queue files".
 ghost use Rattle.std.specs.Prelude.{◌≡◌, ◌≤◌, drop, length};
 ghost use Rattle.dsn_postfix.specs.files.QueueWalk.{pointer_step, step_at, step_in};
 

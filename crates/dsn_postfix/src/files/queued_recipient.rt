@@ -1,4 +1,5 @@
 //! The recipients of a queue file.
+//! Implements docs/FORMATS.md, "Postfix's queue files".
 ghost use Rattle.std.specs.Prelude.{◌≤◌, List, length};
 ghost use Rattle.dsn_postfix.specs.files.QueueListing.{QueueEnding};
 ghost use Rattle.dsn_postfix.specs.files.QueueRecipients.{IsLaterPlace, RecipientFacts, RecipientsLeft, StepsRecipients, nothing_before};

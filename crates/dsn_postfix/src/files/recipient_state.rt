@@ -1,4 +1,5 @@
 //! What a queue file says of whether a recipient is done.
+//! Implements docs/FORMATS.md, "Postfix's queue files".
 ghost use Rattle.std.specs.Prelude.{◌≡◌};
 ghost use Rattle.dsn_postfix.specs.files.QueueRecipients.{state_of_kind};
 

@@ -1,4 +1,5 @@
 //! What the records before a recipient's say of it.
+//! Implements docs/FORMATS.md, "Postfix's queue files".
 ghost use Rattle.std.specs.Prelude.{◌≡◌};
 ghost use Rattle.dsn_postfix.specs.files.LogRecord.{number_if_said, number_or_0, written_number};
 ghost use Rattle.dsn_postfix.specs.files.QueueRecipients.{after_record, nothing_before, recipient_facts_in, recipient_with, said_before_in, with_attribute};

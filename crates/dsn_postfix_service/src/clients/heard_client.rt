@@ -1,4 +1,5 @@
 //! Hearing what a client asks, before anything is done for it.
+//! Implements docs/FORMATS.md, "A connection".
 ghost use Rattle.std.specs.Prelude.{IfErr, IfOk, OnOk};
 ghost use Rattle.dsn_postfix.specs.PostfixAnswer.{announcement_bytes};
 ghost use Rattle.dsn_postfix_service.specs.clients.HeardClient.{HearsClient, HearsNoClient, IsUnannounced};

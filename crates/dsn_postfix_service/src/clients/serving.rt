@@ -1,4 +1,5 @@
 //! Answering a client that was heard.
+//! Implements docs/FORMATS.md, "A connection".
 ghost use Rattle.std.specs.Prelude.{◌≡◌, IfErr, IfOk};
 ghost use Rattle.dsn_postfix.specs.PostfixAnswer.{status_bytes};
 ghost use Rattle.dsn_postfix_service.specs.clients.ServedClient.{AnswersClient, DoesAsked, SaysNoStatus, SaysStatus, status_said};
@@ -88,6 +89,7 @@ fn status_said(answer: Result<u32, NoMemory>) -> u32
 {
     match answer {
         Ok(status) => status,
+        // As bounce(8) answers it.
         Err(NoMemory) => NOT_CARRIED_OUT,
     }
 }

@@ -1,4 +1,5 @@
 //! The command lines of a mail transaction.
+//! Implements RFC 5321 section 4.1.1.
 ghost use Rattle.std.specs.Prelude.{◌≡◌, ◌+◌, ◌≤◌, ◌++◌, [], length};
 ghost use Rattle.dsn_postfix_service.specs.hand_in.CommandLine.{IsCommandLine, hello_line, longest_command_line, recipient_line};
 

@@ -39,6 +39,7 @@ impl HandInFault {
         ensures { result ≡ is_refused_for_good self.now }
     {
         match self {
+            // At any step: the first digit alone counts.
             HandInFault::Refused(_, code) => matches!(code.class(), ReplyClass::RefusedForGood),
             HandInFault::Unheard(..) | HandInFault::Unsaid(_) => false,
         }

@@ -1,4 +1,5 @@
 //! Handing in a notice over a session that was kept, or over a new one.
+//! Implements docs/FORMATS.md, "A connection".
 ghost use Rattle.std.specs.Prelude.{IfSome};
 ghost use Rattle.dsn_postfix_service.specs.hand_in.HandIn.{commands_of};
 ghost use Rattle.dsn_postfix_service.specs.hand_in.Session.{AsksAnew, AsksOver, IsBegun};
@@ -30,6 +31,7 @@ pub fn hand_in_over<S: Stream + Drop, C: Connect<S>>(
     };
     match session.hand_in(buffer, notice.path, notice.message) {
         Ok(session) => Ok(session),
+        // No message was sent in it yet.
         Err(fault) if fault.is_at_sender() => {
             // none of its replies is left
             *buffer = ReplyBuffer::new();

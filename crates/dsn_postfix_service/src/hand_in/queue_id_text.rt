@@ -1,4 +1,5 @@
 //! The queue id that a mail server tells with its acceptance.
+//! Implements docs/FORMATS.md, "Lines on standard error".
 ghost use Rattle.std.specs.Prelude.{◌≡◌, ◌==◌, ℕ, List, Some, IfSome};
 ghost use Rattle.std.specs.List.{after_last};
 ghost use Rattle.dsn_postfix_service.specs.hand_in.QueueIdIn.{TellsQueueId};

@@ -1,4 +1,5 @@
 //! A buffer for one reply, into which replies are read from a device in the pieces that it gives.
+//! Implements RFC 5321 section 4.2.
 ghost use Rattle.std.specs.Prelude.{◌≡◌, ◌<◌, ◌≤◌, [], length, take, IfOk, IfErr, OnErr};
 ghost use Rattle.std.specs.Io.KnownBytes.{Keeps};
 ghost use Rattle.dsn_device.specs.Failures.{counted};

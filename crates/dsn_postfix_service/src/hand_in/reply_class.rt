@@ -1,4 +1,5 @@
 //! What a reply says of the command before it.
+//! Implements RFC 5321 section 4.2.1.
 
 /// What the first digit of a reply says (RFC 5321 section 4.2.1).
 #[derive(Clone, Copy, Debug, PartialEq, Eq)]

@@ -1,4 +1,5 @@
 //! The code of a reply.
+//! Implements RFC 5321 section 4.2.
 ghost use Rattle.std.specs.Prelude.{◌≡◌, ◌↔◌, ◌∷◌, [], IsTrue, IsSome, IfSome};
 ghost use Rattle.dsn_postfix_service.specs.hand_in.ReplyCode.{IsReplyCode, class_of, is_reply_code};
 

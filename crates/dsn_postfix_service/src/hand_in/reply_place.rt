@@ -1,4 +1,5 @@
 //! Where reading stands within a reply, and what it makes of the bytes so far.
+//! Implements RFC 5321 section 4.2.
 ghost use Rattle.std.specs.Prelude.{◌≡◌, ◌==◌, if◌then◌else◌};
 ghost use Rattle.dsn_postfix_service.specs.hand_in.ReplyCode.{is_reply_code};
 ghost use Rattle.dsn_postfix_service.specs.hand_in.ReplyPlace.{reply_place_after, scan, step_if};

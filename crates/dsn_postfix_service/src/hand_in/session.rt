@@ -1,4 +1,7 @@
 //! A session with a mail server that may be kept: it goes on as long as nothing goes wrong in it.
+//! Implements docs/FORMATS.md, "A connection".
+//! A connection, a greeting and EHLO for each notice would take more processor time than bounce(8),
+//! which writes straight to cleanup(8).
 ghost use Rattle.dsn_postfix_service.specs.hand_in.HandIn.{AsksAll, Greets, commands_of};
 ghost use Rattle.dsn_postfix_service.specs.hand_in.Session.{Continues, Ends, IsBegun};
 

@@ -1,4 +1,9 @@
 //! A session with a mail server: it begins, notices are handed in, one after another, and it ends.
+//! Implements RFC 5321 sections 3.1 to 3.3 and docs/FORMATS.md, "A connection".
+//! Nothing is pipelined (RFC 2920), so bytes behind a reply answer nothing that was said. Bytes
+//! that a server sends unasked between two notices are read as the reply to MAIL. Each reply is one
+//! step late then, and DATA gets a 2yz where 3yz is wanted: no reply to something else is taken for
+//! the message's.
 ghost use Rattle.std.specs.Prelude.{◌≡◌, List, [], ◌∷◌};
 ghost use Rattle.dsn_postfix_service.specs.hand_in.Dialogue.{TakesTurns, Turn};
 ghost use Rattle.dsn_postfix_service.specs.hand_in.HandIn.{AsksAll, Greets, GreetsWith, Leaves, Listens, SaysGoodbye, TurnsOver, commands_of, commands_with, fault_said};
@@ -91,6 +96,9 @@ pub fn leave<S: Stream>(stream: &mut S, outcome: &Result<(), HandInFault>)
 {
     match outcome {
         Err(fault) if fault.is_broken() => {}
+        // The log is removed after the message's 250. If a 221 was waited for before, a process
+        // killed meanwhile would send the notice twice. Postfix's smtp(8) doesn't wait either
+        // (`smtp_skip_quit_response`).
         _ => say_goodbye(stream),
     }
 }

@@ -1,4 +1,5 @@
 //! Why a planned notice is no letter, so that Postfix's own service has to make it.
+//! Implements docs/FORMATS.md, "The notice of a Postfix log".
 ghost use Rattle.std.specs.Prelude.{◌≡◌};
 
 use dsn_outcome::{DraftFault, NoMemory, OutcomeFault};

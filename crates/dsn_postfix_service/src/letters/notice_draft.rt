@@ -1,4 +1,5 @@
 //! The draft of a planned notice.
+//! Implements docs/FORMATS.md, "The notice of a Postfix log".
 ghost use Rattle.std.specs.Prelude.{◌≡◌, ◌≤◌, ◌++◌, codes, IfErr, IfOk, IsSome, None, OnOk};
 ghost use Rattle.dsn_postfix.specs.PlannedNotice.{notice_facts_in};
 ghost use Rattle.dsn_postfix_service.specs.letters.LetterFault.{IsLetterFault};
@@ -70,6 +71,7 @@ fn is_returned_whole(part: ReturnedPart, size_limit: u32, text: &[u8]) -> bool
     ensures { result ≡ is_returned_whole part size_limit text.now }
 {
     match part {
+        // The text is counted; bounce(8) counts the queue file.
         ReturnedPart::Whole => text.len() <= size_limit as usize && text.len() <= LONGEST_HEADER,
         ReturnedPart::Header => false,
     }
@@ -109,6 +111,7 @@ pub(super) fn draft_told(
         (notice_facts_in notice.now))) }
 {
     let address = notice.address(alloc)?;
+    // Without its quotes it could be read as another address.
     if !needs_no_quotes(&address) {
         return Err(LetterFault::Quotes);
     }

@@ -1,4 +1,6 @@
 //! The status of a log's record without zeros in front of its numbers.
+//! RFC 3463 section 2 has none there, and Postfix takes them.
+//! Implements docs/FORMATS.md, "The notice of a Postfix log".
 ghost use Rattle.std.specs.Prelude.{◌≡◌, IfOk};
 ghost use Rattle.dsn_postfix_service.specs.letters.PlainStatus.{begins_with_digit, is_spare_zero, plain_status};
 

@@ -1,4 +1,7 @@
 //! The outcome that a notice tells of a log's record.
+//! Implements docs/FORMATS.md, "The notice of a Postfix log".
+//! If a text can't be reported as it is, Postfix's own service makes the notice: a cleaned address
+//! would name somebody else. Only a remark, as a reason, is cut.
 ghost use Rattle.std.specs.Prelude.{◌≡◌, ◌≤◌, length, take, IfErr, IfOk, OnOk, None};
 ghost use Rattle.std.specs.List.{after_first, before_first, position_or_len};
 ghost use Rattle.dsn_postfix.specs.files.LogRecord.{logged_fields_in};
@@ -91,6 +94,9 @@ fn unless_final<'a>(recipient: &[u8], original: TypedText<'a>) -> TypedText<'a>
     ensures text { result.text.now ≡ (unless_final recipient.now
         (record { kind = original.entry.kind.now; text = original.entry.text.now })).text }
 {
+    // RFC 3461 wants it if the sender gave ORCPT, but without that smtpd(8) writes down the address
+    // of RCPT too. Readers that begin a recipient at Final-Recipient, as bounce(8) does, would give
+    // it to the one before.
     if is_usual_type(original.kind) && original.text == recipient {
         return TypedText {
             kind: b"",

@@ -1,4 +1,5 @@
 //! The sessions with the mail server that are kept from one notice to another.
+//! Implements docs/FORMATS.md, "A connection".
 use crate::hand_in::{
     HandInFault, HandInStep, Notice, ReplyBuffer, ReplyFault, Session, hand_in_over,
 };
@@ -14,6 +15,8 @@ use std::time::{Clock, Duration};
 /// How many notices are handed in at once. Others wait: a notice that was taken is told twice where
 /// the process is killed before its log is removed, and the more go to the server's disk at once,
 /// the longer that takes each.
+// Two keep a server busy: the rate at load is the queue manager's. A notice that waits has its log
+// locked, so an append to that log waits too, and fails after 20 seconds, as with bounce(8).
 const MOST_AT_ONCE: usize = 2;
 
 /// For how many seconds a notice waits for its turn: so a server that doesn't answer holds no more

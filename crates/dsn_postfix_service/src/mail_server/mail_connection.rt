@@ -1,4 +1,5 @@
 //! Connections to the mail server that notices are handed to.
+//! Implements RFC 5321 section 4.5.3.2 and docs/FORMATS.md, "A connection".
 use crate::hand_in::{Connect, HandInFault, HandInStep, ReplyFault};
 use crate::queue_folder::{Connection, PostfixPlace};
 use dsn_device::Plain;

@@ -1,4 +1,6 @@
 //! A connection whose calls go on where they are interrupted.
+//! Else a process that was stopped for a while, as by a debugger, would put off a notice that the
+//! mail server has. Its sender would get it twice.
 ghost use Rattle.std.specs.Prelude.{refl};
 
 use dsn_device::OpaqueStream;

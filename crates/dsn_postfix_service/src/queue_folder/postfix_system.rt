@@ -289,6 +289,8 @@ impl<W: Wait + Clock> MailSystem for PostfixSystem<'_, W> {
         self.end_turn();
         let path = self.deed(PATH, path_of(rt, place, queue.bytes(), id))?;
         let Some(file) = self.deed(path.as_str(), open_shared(rt, path.as_str()))? else {
+            // An empty file leads to passing on: bounce(8) says what it can without the file. An
+            // error would put the request off for ever.
             return Ok(Vec::new(rt.alloc()));
         };
         let bytes = self.read_in_turn(path.as_str(), &file)?;

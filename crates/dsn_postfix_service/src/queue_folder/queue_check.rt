@@ -1,4 +1,5 @@
 //! Whether the queues of a Postfix are hashed as the settings say, by what stands in them.
+//! Implements docs/FORMATS.md, "Files".
 use crate::queue_folder::postfix_place::PostfixPlace;
 use crate::queue_folder::queue_entry::depth_against;
 use std::fs::DirEntry;

@@ -1,4 +1,5 @@
 //! What the entries of a queue's folder show of how deep the queue is hashed.
+//! Implements docs/FORMATS.md, "Files".
 ghost use Rattle.std.specs.Prelude.{◌↔◌, ℕ, IsTrue, MatchOption};
 ghost use Rattle.dsn_postfix_service.specs.queue_folder.FolderHashing.{depth_of};
 ghost use Rattle.dsn_postfix_service.specs.queue_folder.QueueEntry.{IsAgainst, IsFileName, IsFolderName};

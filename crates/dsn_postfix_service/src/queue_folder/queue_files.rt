@@ -1,4 +1,5 @@
 //! The paths of logs and of messages in the queue folder of a Postfix.
+//! Implements docs/FORMATS.md, "Files".
 use crate::queue_folder::log_file::has_bytes;
 use crate::queue_folder::postfix_place::PostfixPlace;
 use crate::queue_folder::queue_check::MOST_DEPTH;

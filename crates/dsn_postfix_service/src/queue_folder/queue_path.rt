@@ -1,4 +1,5 @@
 //! The paths of files in Postfix's queues.
+//! Implements docs/FORMATS.md, "Files".
 ghost use Rattle.std.specs.Prelude.{◌≡◌, ◌++◌, ◌∷◌, [], IfOk, OnOk};
 ghost use Rattle.dsn_postfix_service.specs.queue_folder.PathInQueue.{folder_levels, path_in_queue};
 

@@ -1,5 +1,6 @@
 //! Answering one request of Postfix's programs: the bounce log of a message is told before its
 //! defer log.
+//! Implements docs/FORMATS.md, "A connection".
 ghost use Rattle.std.specs.Prelude.{◌≡◌};
 ghost use Rattle.dsn_postfix_service.specs.requests.AnsweredRequest.{FlushesBounceLog, IsAnswered, IsBounceLogTold, IsFlushedInTurn, bounce_flush, bounce_serial, first_flush, without_flags};
 ghost use Rattle.dsn_postfix_service.specs.requests.Gains.{Gains};
@@ -21,6 +22,8 @@ fn without_flags<'a>(notice: &NoticeRequest<'a>) -> NoticeRequest<'a>
     ensures { result ≡ without_flags notice.now }
 {
     NoticeRequest {
+        // CLEAN and DELRCPT are about the log that is named. Postfix sets DELRCPT on each flush of
+        // a defer log.
         flags: notice.flags / 4 * 4,
         queue_name: notice.queue_name.lent(),
         queue_id: notice.queue_id,
@@ -80,6 +83,8 @@ fn flush_bounce_log<M: MailSystem>(
     let bounce_terms = RequestTerms {
         settings: terms.settings,
         service: Service::Bounce,
+        // With the same serials two notices would have one Message-ID, and some mailboxes would
+        // drop the second.
         moment: terms.moment,
         first_serial: bounce_serial(terms.first_serial),
     };

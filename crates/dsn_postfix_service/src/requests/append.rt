@@ -1,4 +1,5 @@
 //! A request to log what became of a recipient.
+//! Implements docs/FORMATS.md, "A connection".
 ghost use Rattle.std.specs.Prelude.{◌≡◌};
 ghost use Rattle.dsn_postfix_service.specs.requests.AppendDeeds.{IsAppended};
 ghost use Rattle.dsn_postfix_service.specs.requests.Gains.{Gains};

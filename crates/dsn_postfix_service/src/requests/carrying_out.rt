@@ -1,4 +1,5 @@
 //! Carrying out one request of Postfix's programs on the log of its service.
+//! Implements docs/FORMATS.md, "A connection".
 ghost use Rattle.std.specs.Prelude.{◌≡◌};
 ghost use Rattle.dsn_postfix_service.specs.requests.CarriedOut.{Cleans, IsCarriedOut, IsDone, flags_of, must_clean, queue_id_of};
 ghost use Rattle.dsn_postfix_service.specs.requests.Gains.{Gains};
@@ -65,6 +66,8 @@ fn clean<M: MailSystem>(service: Service, request: &PostfixRequest<'_>, due: boo
     ensures { Gains M.deeds system.old system.new (Cleans service request.now due) }
 {
     if due {
+        // Postfix's own service will have removed it by now; a log that isn't there counts as
+        // removed.
         let _ = system.remove_log(service, queue_id_of(request));
     }
 }

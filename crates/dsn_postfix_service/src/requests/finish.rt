@@ -1,4 +1,5 @@
 //! What is done once all notices of a request are accepted.
+//! Implements docs/FORMATS.md, "A connection".
 ghost use Rattle.std.specs.Prelude.{◌≡◌};
 ghost use Rattle.std.specs.Option.{option_map};
 ghost use Rattle.dsn_postfix_service.specs.requests.Finishing.{FinishesAt, MarksAll, MarksOne, RemovesLog, is_removal_due, removes_log};
@@ -24,6 +25,7 @@ fn removes_log(request: &PostfixRequest<'_>) -> bool
 fn is_removal_due(request: &PostfixRequest<'_>, log: Option<&[u8]>) -> bool
     ensures { result ≡ is_removal_due request.now (option_map (λ log. log.now) log.entry) }
 {
+    // An empty log is removed, and notifies nobody: an append that was cut back leaves such a file.
     removes_log(request) && log.is_some()
 }
 
@@ -76,6 +78,8 @@ pub(super) fn finish<M: MailSystem>(
         (option_map (λ log. log.now) log.entry) places.now result) }
 {
     let terms: &RequestTerms<'_> = task.terms;
+    // The log stays and the request is asked again: then its sender is notified twice. The other
+    // order could lose a notice.
     if !mark_all(task.notice, places, system) {
         return false;
     }

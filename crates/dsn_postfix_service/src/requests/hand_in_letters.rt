@@ -1,4 +1,5 @@
 //! Handing in letters, one after another.
+//! Implements docs/FORMATS.md, "A connection".
 ghost use Rattle.std.specs.Prelude.{◌≡◌};
 ghost use Rattle.dsn_postfix_service.specs.requests.Gains.{Gains};
 ghost use Rattle.dsn_postfix_service.specs.requests.HandingIn.{HandsInAll, HandsInOne, refusal_of};
@@ -15,6 +16,7 @@ use std::alloc::Global;
 fn refusal(is_first: bool, fault: HandInFault) -> NotAccepted
     ensures { result ≡ refusal_of is_first fault }
 {
+    // Once a letter was accepted nothing is passed on: bounce(8) would notify its recipient again.
     if is_first && fault.is_refused_for_good() {
         NotAccepted::RefusedForGood
     } else {

@@ -1,5 +1,7 @@
 //! All that lies outside of the service: Postfix's files, the mail server that notices are handed
 //! to, and Postfix's own services.
+//! A request's effects are calls of one trait so that its contract can state their order, and with
+//! it what a crash leaves, without a file or a socket.
 ghost use Rattle.std.specs.Prelude.{◌≡◌, [], ◌∷◌};
 ghost use Rattle.std.specs.Option.{option_map};
 ghost use Rattle.dsn_postfix_service.specs.requests.Deed.{Appended, HandedIn, LogRead, LogReleased, LogRemoved, LogSought, MarkedDone, MessageRead, PassedOn, answer_as, reply_as};

@@ -1,4 +1,5 @@
 //! A request for notices.
+//! Implements docs/FORMATS.md, "A connection".
 ghost use Rattle.std.specs.Prelude.{◌≡◌};
 ghost use Rattle.dsn_postfix_service.specs.requests.Gains.{Gains};
 ghost use Rattle.dsn_postfix_service.specs.requests.MailFound.{mail_read_in};
@@ -73,6 +74,8 @@ fn tell_of_mail<M: MailSystem>(
         task.now.request.now task.now.notice.now task.now.terms.now.moment
         task.now.terms.now.first_serial (mail_read_in found.now) result) }
 {
+    // All of them, and the list of who is marked: what can't be said, or has no memory, shows while
+    // nobody was notified. A letter's text is made in its turn.
     match make_letters(alloc, task, found) {
         Ok(made) => tell_letters(alloc, task, found, &made, system),
         Err(NoLetters::Unsayable(why)) => Telling::Unsayable(why),
@@ -106,8 +109,13 @@ fn end_telling<M: MailSystem>(
     match telling {
         Telling::Told => Ok(CARRIED_OUT),
         Telling::Failed => Ok(NOT_CARRIED_OUT),
+        // Not put off: a request that fails is asked again, and one that always fails would stay in
+        // the queue.
         Telling::Unsayable(why) => Ok(pass_on(system, service, bytes, why)),
+        // A server that replies 5yz mostly replies so again. bounce(8) hands its notices to
+        // cleanup(8).
         Telling::RefusedForGood => Ok(pass_on(system, service, bytes, PassReason::Refused)),
+        // Not a status: so no body can give a request up untried and say that it failed.
         Telling::NoMemory => Err(NoMemory),
     }
 }
@@ -128,6 +136,7 @@ pub(super) fn notify<M: MailSystem>(
 {
     let terms: &RequestTerms<'_> = task.terms;
     let telling = tell(alloc, task, system);
+    // First, since an append of Postfix's own service takes this lock.
     system.release_log();
     end_telling(terms.service, bytes, telling, system)
 }

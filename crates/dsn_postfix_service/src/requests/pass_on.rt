@@ -1,4 +1,5 @@
 //! The statuses that answer requests, and passing one on to Postfix's own service.
+//! Implements docs/FORMATS.md, "A connection".
 ghost use Rattle.std.specs.Prelude.{◌≡◌, Ok};
 ghost use Rattle.dsn_postfix_service.specs.requests.Gains.{Gains};
 ghost use Rattle.dsn_postfix_service.specs.requests.RequestStatus.{PassesOn};
@@ -24,6 +25,7 @@ pub(crate) fn pass_on<M: MailSystem>(
 {
     match system.pass_on(service, bytes, why) {
         Ok(status) => status,
+        // Programs know no third status: what isn't 0 is asked again.
         Err(_) => NOT_CARRIED_OUT,
     }
 }

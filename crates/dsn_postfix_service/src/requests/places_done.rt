@@ -1,4 +1,5 @@
 //! Which recipients of a message's file are marked as done once the sender was told.
+//! Implements docs/FORMATS.md, "A connection".
 ghost use Rattle.std.specs.Prelude.{◌≡◌, ◌++◌, IfOk, OnOk};
 ghost use Rattle.std.specs.List.{flat_map};
 ghost use Rattle.std.specs.Option.{option_map};
@@ -88,6 +89,7 @@ fn places_named(
         PostfixRequest::Flush(_)
         | PostfixRequest::Warn(_)
         | PostfixRequest::Verp(..)
+        // Also those who didn't want to be notified: they are done all the same.
         | PostfixRequest::Trace(_) => places_in_log(alloc, service, log),
     }
 }

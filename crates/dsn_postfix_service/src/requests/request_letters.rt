@@ -1,4 +1,5 @@
 //! The letters of a request for notices, made of what was read for it.
+//! Implements docs/FORMATS.md, "The notice of a Postfix log".
 ghost use Rattle.std.specs.Prelude.{◌≡◌, ◌<◌, [], List, length, map, true, IfOk, IfErr, IfSome, MatchOption, OnOk};
 ghost use Rattle.std.specs.List.{list_any};
 ghost use Rattle.std.specs.Option.{unwrap_or};
@@ -145,6 +146,7 @@ fn letters_of(
             Ok(()) => {}
             Err(why) => return Err(why),
         }
+        // No two notices of one request have the same Message-ID.
         serial = serial.wrapping_add(1);
         rest = after;
     }

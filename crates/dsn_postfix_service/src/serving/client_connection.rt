@@ -1,4 +1,5 @@
 //! A client's connection, over which all that it asks comes before a moment.
+//! Implements docs/FORMATS.md, "A connection".
 use std::io;
 use std::io::{Error, ErrorKind, Read, Write};
 use std::os::unix::net::UnixStream;

@@ -1,4 +1,7 @@
 //! The lock of a Postfix's folder.
+//! The sockets can't keep a second process out: those that an ended process left have to be
+//! replaced, and then a second one would take them from the first. A lock ends with its process.
+//! Implements docs/FORMATS.md, "Files".
 use std::fs::File;
 use std::io;
 use std::os::unix::fs::OpenOptionsExt;

@@ -1,4 +1,5 @@
 //! The sockets at which Postfix's programs ask.
+//! Implements docs/FORMATS.md, "Files".
 use crate::queue_folder::{PostfixPlace, check_queues, socket_name};
 use crate::serving::account::{check_owner, own_account, owner_of_sockets};
 use crate::serving::folder_lock::FolderLock;
@@ -54,6 +55,8 @@ impl Listeners {
     ) -> Result<Listeners, StartFault> {
         check_place(rt, place)?;
         let folder = place.root;
+        // An option and no look at the environment: another service's `LISTEN_FDS` would be taken
+        // for one's own.
         let bounce = UnixListener::from_raw_fd(3);
         let defer = UnixListener::from_raw_fd(4);
         let trace = UnixListener::from_raw_fd(5);

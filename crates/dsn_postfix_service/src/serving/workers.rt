@@ -1,5 +1,6 @@
 //! The threads that serve the programs of a Postfix: some hear clients and append, and some make
 //! notices, so that no append waits for a mail server.
+//! Implements docs/FORMATS.md, "In front of Postfix".
 use crate::clients::{answer_client, hear_client, refuse_client};
 use crate::event_log::EventLog;
 use crate::queue_folder::{
@@ -26,6 +27,8 @@ const HEARING: u32 = 32;
 
 /// How many threads of one service do all else: what they do may have to wait for the mail server,
 /// for Postfix's own service or for a log's lock.
+// With one kind of thread a mail server that hung would stop appends, smtp(8) processes with them,
+// and so mail to good recipients.
 const TELLING: u32 = 8;
 
 /// How many clients of one service have seconds to say their lists. Postfix's programs say them at

@@ -51,6 +51,8 @@ from feed_state import PAUSE, Record, State, Stopped, Unusable, Waiting, lock, s
 
 PATIENCE = 600  # seconds that a reply may take: the longest is that to a message's end (RFC 5321 section 4.5.3.2.6)
 RETRY = 60  # seconds between two tries of a notice that was refused for now
+# The four days begin with the first refusal by a mail system that was reached: a server that is away, or a clock that
+# jumps, says nothing of a notice. RFC 5321 has 30 minutes between two tries, for a host far away.
 GIVE_UP = 4 * 86400  # seconds for which one is tried (section 4.5.4.1)
 MOST_WAITING = 100  # notices of a pipe that wait for another try before no more is read
 AT_ONCE = 8  # waiting notices that are tried before the next new one
@@ -511,6 +513,7 @@ def options():
         help="with --follow: what becomes of an outbox that is done (keep)",
     )
     reader.add_argument(
+        # an option, since an outbox that was copied on purpose is to be submitted anew
         "--once", action="store_true", help="leave out a notice that was handed in before, byte for byte"
     )
     reader.add_argument(

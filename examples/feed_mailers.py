@@ -12,6 +12,7 @@ GREETING = 300  # seconds that a server may take to greet (section 4.5.3.2.1)
 PARTING = 5  # seconds that the reply to QUIT is waited for
 IDLE = 10  # seconds without a notice after which the connection is given up
 CLOSING = 421  # the reply of a server that closes the connection, at any point (section 3.8)
+# exim and nullmailer end with 1 after every failure, a full disk too, so 1 is not for good.
 FINAL = (os.EX_USAGE, os.EX_DATAERR, os.EX_NOUSER)  # 64, 65, 67: statuses of a program that another try won't change
 
 DOT_STRING = re.compile(rb"[A-Za-z0-9!#$%&'*+/=?^_`{|}~-]+(\.[A-Za-z0-9!#$%&'*+/=?^_`{|}~-]+)*")  # section 4.1.2
@@ -56,6 +57,7 @@ class Server:
 
     def transact(self, notice: Notice):
         """One transaction, its path as it stands in the outbox. After a refused RCPT or DATA the server begins anew."""
+        # smtplib's own `sendmail` parses an address once more, and changes it
         self.ask(b"MAIL FROM:<>")
         try:
             self.ask(b"RCPT TO:<" + notice.path + b">")

@@ -46,6 +46,8 @@ class Record:
     number: int
     inode: int
     position: int = 0
+    # of places, since two runs of a daemon may use one Message-ID for two notices; with a digest, since an inode number
+    # is used again
     digest: str = hashlib.sha256().hexdigest()
     waiting: dict = field(default_factory=dict)
     left: bool = False

@@ -45,6 +45,7 @@ trap end_run TERM INT HUP
 trap '' USR1 USR2 ALRM # of the daemon too: what a shell ignores stays so in the programs that it starts
 while [ -z "$stopping" ]; do
     remove_socket || exit 1
+    # An outbox is one SMTP session: behind a notice that was cut, the next run's commands would be read as its lines.
     if [ -s outbox ]; then mv outbox "outbox.$(date +%s.%N)" || exit 1; fi
     rm -f outbox || exit 1
     # The name is on the disk before anything is written to the file that a journal counts as done.

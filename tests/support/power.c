@@ -2,6 +2,8 @@
    and the file that OUTBOX names. It counts the calls that write, sync, link, rename or take away one of these, or sync
    the folder; where ON is set, only those on the file of that name in the folder (journal, marks) or on the outbox (outbox).
 
+   (A process that is killed leaves all that it wrote, synced or not: so kills alone show no loss.)
+
    FAIL_AT: the call of this number, from 1, does nothing and answers the error FAIL_WITH (a number). With FAIL_ALL each later
    one fails too.
 

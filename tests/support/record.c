@@ -1,6 +1,6 @@
 /* Preloaded into a program (LD_PRELOAD), it writes a line for each of its reads and writes to the file that the
    environment variable RECORD names: the call, the descriptor, how many bytes were asked for, how many were answered
-   (or -1), and the first bytes of a write in hexadecimal. */
+   (or -1), and the first bytes of a write in hexadecimal. (strace isn't on every machine, and may not trace.) */
 #define _GNU_SOURCE
 #include <dlfcn.h>
 #include <errno.h>

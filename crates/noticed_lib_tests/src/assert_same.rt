@@ -1,4 +1,5 @@
 //! One assertion for all tests: a call of it is proved in less time than an `assert_eq!` in its place.
+//! Each crate of tests has its own: the kit lets tests alone abort, so no library can have it.
 use std::fmt::Debug;
 use std::process::Abort;
 

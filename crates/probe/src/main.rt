@@ -25,6 +25,9 @@
 //! reads a request, the log of that service and the queue file, a length in four bytes before each, and
 //! writes the notices that the request has. `probe postfix many KIND` reads many files of a kind likewise,
 //! and writes a line of numbers for each.
+//!
+//! A test can't refuse a growth or the start of a thread within its process. Over memory a run
+//! takes milliseconds, and its ends are known to the byte.
 #![tactic(auto)]
 
 mod calls;

@@ -18,12 +18,12 @@ use crate::not_kept::NotKept;
 use crate::step::Step;
 use dsn_outcome::Request;
 
-/// What carries requests out, each once it is kept: a book alone, for which nothing is to be kept, or
-/// one beside a journal. It stands for a history, as a book does, and carries a request out as that
+/// What carries requests out, each once it is kept: a book alone, for which nothing is to be kept,
+/// or one beside a journal. It models a history, as a book does, and carries a request out as that
 /// history says.
 ///
 /// It has a clock: its clauses say what a crash may leave at each moment, within a call and between
-/// two. What it stands for is among what a crash leaves, with each request that it has kept.
+/// two. What it models is among what a crash leaves, with each request that it has kept.
 pub trait Keeper {
     ghost use Rattle.std.specs.Prelude.{ℕ, List};
     ghost use Rattle.dsn_outcome.specs.History.{Limits, Exchange};
@@ -33,8 +33,8 @@ pub trait Keeper {
     // The limits by which requests are answered.
     ghost limits: { Self → Limits };
 
-    // That it stands for this history, and that these requests may be carried out next, in this
-    // order, as they are kept.
+    // That it models this history, and that these requests may be carried out next, in this order,
+    // as they are kept.
     ghost has: { Self → List Exchange → List Request → Type 0 };
 
     // No fewer letters than have their serials by it.
@@ -48,17 +48,17 @@ pub trait Keeper {
     // The moment, as a number that doesn't fall.
     ghost moment: { Self → ℕ };
 
-    // What a crash at some moment from that one on might have left, during a call or between two.
+    // What a crash since this moment might have left, during a call or between two.
     ghost left_since: { Self → ℕ → List ℕ → Type 0 };
 
-    // That a later run which finds these bytes, under these limits, stands for this history.
+    // That a later run which finds these bytes, under these limits, models this history.
     ghost reopens: { Limits → List ℕ → List Exchange → Type 0 };
 
     /// Its limits.
     fn limits(&self) -> Limits
         ensures { result ≡ limits self.now };
 
-    /// Keeps requests, so that they may be carried out. It asks that it stands for some history and
+    /// Keeps requests, so that they may be carried out. Requires that it models some history and
     /// that none is awaited. At an error none of them may be carried out, and `refuses` says what
     /// the keeper is then: after `Failed` it isn't known whether some of them will be by a later
     /// run.
@@ -73,8 +73,8 @@ pub trait Keeper {
         ensures limits { limits self.new ≡ limits self.old }
         ensures sealed { sealed self.new ≡ sealed self.old };
 
-    /// Does what the next of the kept requests asks, and answers it. It takes no memory. It asks that
-    /// fewer than 18,446,744,073,709,551,615 letters were sealed.
+    /// Does what the next of the kept requests asks, and answers it. It takes no memory. Requires
+    /// that fewer than 18,446,744,073,709,551,615 letters were sealed.
     fn apply(&mut self, request: Request) -> Step
         requires has { (t : List Exchange) × (rest : List Request)
             × has self.old t (request ∷ rest) }
@@ -95,9 +95,8 @@ pub trait Keeper {
             → left_since self.new t left → left_since self.old t left) }
         ensures sealed { sealed self.new ≤ sealed self.old + 1 };
 
-    // A crash now leaves what it stands for, with the requests that are kept.
-    // A law and no clause of a call, so that it also holds between two calls: an answer is sent
-    // there.
+    // A crash now leaves what it models, with the requests that are kept. A law and no clause of a
+    // call, so that it also holds between two calls: an answer is sent there.
     ghost leaves_kept: { (keeper : Self) (t : List Exchange) (requests : List Request)
         (left : List ℕ) → has keeper t requests → left_since keeper (moment keeper) left
         → reopens (limits keeper) left (history_after (limits keeper) t requests) };

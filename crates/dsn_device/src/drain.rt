@@ -10,18 +10,18 @@ ghost use Rattle.dsn_device.specs.Throughout.{LeavesThroughout, StandsStill};
 use crate::broken::Broken;
 
 /// A writer that counts its failures and its flushes. A write that takes no byte of a text that has
-/// some is one, and so is an interrupted call.
+/// some is one, as is an interrupted call.
 pub trait Drain {
-    // The bytes that the device holds, where they are known.
+    // The bytes that the device holds, if they are known.
     ghost contents: { Self → Option (List ℕ) };
 
-    // The bytes that reads of a device which is read from as well will give, where they are known.
+    // The bytes that reads of a device which is read from as well will give, if they are known.
     ghost left: { Self → Option (List ℕ) } = { λ _. None };
 
-    // How many calls have failed; the count stands still at `u64::MAX`.
+    // How many calls have failed; the count stops at `u64::MAX`.
     ghost failures: { Self → ℕ };
 
-    // How many times it was flushed, also where that failed; the count stands still at `u64::MAX`.
+    // How many times it was flushed, also where that failed; the count stops at `u64::MAX`.
     ghost flushes: { Self → ℕ };
 
     // Whether it has taken bytes since the last flush that went well.
@@ -30,21 +30,21 @@ pub trait Drain {
     // bytes.
     ghost unflushed: { Self → Bool };
 
-    // How many letters are marked, where it marks them: those whose text was flushed, so that no
-    // later run writes it again.
+    // How many letters are marked, if it marks them: those whose text was flushed, so that no later
+    // run writes it again.
     ghost marked: { Self → Option ℕ } = { λ _. None };
 
     // The moment, as a number that doesn't fall.
     ghost moment: { Self → ℕ } = { λ _. 0 };
 
-    // What a crash at some moment from that one on might have left of its marks, during a call or
-    // between two; nothing, where it marks no letters.
+    // What a crash since this moment might have left of its marks, during a call or between two;
+    // nothing, if it marks no letters.
     ghost left_since: { Self → ℕ → List ℕ → Type 0 } = { λ _ _ _. ⊥ };
 
-    // That a later run which finds these bytes of marks takes so many letters for marked.
+    // That a later run which finds these bytes of marks takes this number of letters for marked.
     ghost say: { List ℕ → ℕ → Type 0 } = { λ _ _. ⊥ };
 
-    // While this holds the count stands still, and the device keeps it: no call fails.
+    // While this holds the count doesn't change, and the device keeps it: no call fails.
     ghost steady: { Self → Type 0 };
 
     // While this holds no flush fails, and writes and flushes keep it.

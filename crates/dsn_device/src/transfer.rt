@@ -41,9 +41,9 @@ pub fn send<D: Drain>(drain: &mut D, text: &[u8]) -> Result<(), Broken>
     Ok(())
 }
 
-/// Reads until the buffer is full or the input ends, and says how many bytes it read, which then
-/// stand at the buffer's front. It stops at the source's first failure: what it read before that
-/// is lost. An empty buffer makes no read.
+/// Reads until the buffer is full or the input ends, and says how many bytes it read, which are
+/// then at the buffer's front. It stops at the source's first failure: what it read before that is
+/// lost. An empty buffer makes no read.
 pub fn fill<S: Source>(source: &mut S, buffer: &mut [u8]) -> Result<usize, Broken>
     ensures bound { ReadsAtMost result buffer.new }
     ensures bytes { IfOk result (λ n.

@@ -41,7 +41,7 @@ impl UntilFailure {
     }
 
     /// Has the drain mark the letter with this serial, unless it has failed. Requires that the
-    /// drain has taken no byte since its last flush, where it has not failed.
+    /// drain has taken no byte since its last flush, if it has not failed.
     pub fn mark_letter<D: Drain>(&mut self, drain: &mut D, serial: u64)
         requires { self.old.failed ≡ false → D.unflushed drain.old ≡ false }
         ensures { MarksUntilFailure D.Drain self.old.failed self.new.failed drain.old drain.new

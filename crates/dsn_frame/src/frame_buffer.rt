@@ -24,7 +24,7 @@ const LONGEST_FRAME: usize = LENGTH + LONGEST_BODY;
 /// bytes, however short the frames after it.
 #[derive(Debug, Drop)]
 pub struct FrameBuffer {
-    /// The frame that was read last stands at the front; what follows it is left of longer ones.
+    /// The frame that was read last is at the front; what follows it is left of longer ones.
     bytes: Vec<u8>,
     /// How many bytes that frame has; none where there is no frame.
     whole: Option<usize>,
@@ -54,10 +54,10 @@ impl FrameBuffer {
         }
     }
 
-    /// Reads the next frame, as [`read_frame`](crate::read_frame) does, and holds it in place of the
-    /// last one; none where the input ends before its first byte, or after a fault. Memory is taken
-    /// only for a frame that is longer than the room there is, and there is none (`NoMemory`) only
-    /// where that was refused.
+    /// Reads the next frame, as [`read_frame`](crate::read_frame) does, and holds it in place of
+    /// the last one; none where the input ends before its first byte, or after a fault. Memory is
+    /// taken only for a frame that is longer than the room there is, and `NoMemory` is returned
+    /// only if that was refused.
     pub fn read_next<S: Source>(&mut self, source: &mut S) -> Result<(), FrameFault>
         ensures next { IfOk result
             (λ _. ReadsNext (S.remaining source.old) (S.remaining source.new) self.new.held) }

@@ -1,5 +1,5 @@
-//! What one frame comes to: a body to be asked, or a refusal.
-//! Implements docs/FORMATS.md, "A session".
+//! The result of one frame: a body to be asked, or a refusal. Implements docs/FORMATS.md, "A
+//! session".
 ghost use Rattle.std.specs.Prelude.{◌≢◌, ℕ, [], ◌∷◌, IfOk, IfErr};
 ghost use Rattle.dsn_outcome.specs.Body.{body_of};
 ghost use Rattle.dsn_outcome.specs.Request.{Bye};

@@ -8,7 +8,7 @@ use crate::lane_item::Carried;
 /// What became of a request. A number is how many outcomes the log held before it.
 #[derive(Clone, Copy, Debug, PartialEq, Eq)]
 pub enum Reply {
-    /// The outcome stands in its log, after so many others.
+    /// The outcome is in its log, after this number of others.
     Logged(u32),
     /// The log was flushed or discarded before, and not forgotten since; nothing changed.
     Closed,
@@ -28,13 +28,13 @@ pub enum Reply {
     Gone,
     /// The log was closed; its key is held no more.
     Forgotten,
-    /// The log is open, or there is none: there is no closed one to forget; nothing changed.
+    /// The log is open, or there is no log: there is no closed one to forget; nothing changed.
     NotClosed,
     /// The log has another number of outcomes than the flush expects; nothing changed.
     Differs(u32),
 }
 
-/// A reply, and which notice it tells of.
+/// A reply, and the notice that it is about.
 #[derive(Clone, Copy, Debug, PartialEq, Eq)]
 pub struct Replied {
     /// What became of the request.
@@ -52,7 +52,7 @@ pub struct Answer {
     pub number: u32,
     /// What became of the request.
     pub reply: Reply,
-    /// The serial of the letter that the request sealed, if it did; it stands in the notice's
+    /// The serial of the letter that the request sealed, if it did; it is in the notice's
     /// Message-ID.
     pub serial: Option<u64>,
 }

@@ -1,5 +1,5 @@
-//! What a flush says of the notice that it asks for.
-//! Implements docs/FORMATS.md, "Flush: close the log and make its notice".
+//! What a flush says of its notice. Implements docs/FORMATS.md, "Flush: close the log and make its
+//! notice".
 ghost use Rattle.std.specs.Prelude.{◌≡◌, ◌≤◌, ◌↔◌, [], length, IsTrue, IsSome, IfOk, IfErr, OnOk, Some, None, unwrap_or, if◌then◌else◌};
 ghost use Rattle.dsn_outcome.specs.Draft.{first_draft_fault, is_count};
 ghost use Rattle.dsn_outcome.specs.DraftParts.{draft_fields_of};
@@ -43,7 +43,7 @@ impl Model for Draft {
 
 impl Draft {
     /// A draft without extension fields. `None` as return path is the null path of RFC 5321 section
-    /// 4.5.5, to which no notice is sent. `NoMemory` comes only where the memory for it was refused.
+    /// 4.5.5, to which no notice is sent. Returns `NoMemory` only if the memory for it was refused.
     pub fn new(
         alloc: Global,
         moment: Stamp,
@@ -173,7 +173,7 @@ impl Draft {
     }
 }
 
-/// What is returned and the wording, where the fields have no fault; else the first one.
+/// What is returned and the wording, if the fields have no fault; else the first one.
 fn check(parts: DraftParts<'_>) -> Result<(Returned, Wording), DraftFault>
     ensures accepted { OnOk result (first_draft_fault (draft_fields_of parts.entry) ≡ None) }
     ensures header { OnOk result (length parts.entry.header.now ≤ LONGEST_HEADER) }

@@ -20,7 +20,7 @@ pub enum DraftFault {
     /// What the header field holds is neither the header nor the message.
     #[error("it is unknown whether the header field holds the header or the message")]
     Returned,
-    /// The wording is none.
+    /// The wording is unknown.
     #[error("the wording of the notice is unknown")]
     Wording,
     /// The extension fields are neither empty nor 1 to 8 lines of a name that begins with `X-` and a

@@ -1,5 +1,5 @@
-//! The fields of a draft as they are handed in.
-//! Implements docs/FORMATS.md, "Flush: close the log and make its notice".
+//! The fields of a draft as they are given. Implements docs/FORMATS.md, "Flush: close the log and
+//! make its notice".
 ghost use Rattle.std.specs.Prelude.{◌≡◌, [], None};
 ghost use Rattle.dsn_outcome.specs.declared.returned.Returned.TheVariants.{Header};
 ghost use Rattle.dsn_outcome.specs.declared.wording.Wording.TheVariants.{ByService};
@@ -33,7 +33,7 @@ impl Wishes {
     }
 }
 
-/// What a flush says of its notice, but for its moments. An empty return path is the null path (RFC
+/// What a flush says of its notice, except its moments. An empty return path is the null path (RFC
 /// 5321 section 4.5.5), and an empty envelope id none.
 #[derive(Clone, Copy)]
 pub struct DraftParts<'a> {

@@ -8,7 +8,7 @@ use std::alloc::Global;
 use std::marker::Model;
 
 /// Extension fields (RFC 3464 section 2.4): at most 8 lines, each ended by LF alone, of a name that
-/// begins with `X-`, a colon, a space and a value. An empty text is none.
+/// begins with `X-`, a colon, a space and a value. An empty text means no field.
 ///
 /// They are a group of their own, as Postfix writes `X-Postfix-Queue-ID` and `X-Postfix-Sender`: a
 /// name may mean another thing in a recipient's group.
@@ -39,8 +39,8 @@ impl ExtensionFields {
         }
     }
 
-    /// Keeps a text that was found to be extension fields: it isn't tested again. `NoMemory` comes
-    /// only where memory for it was refused.
+    /// Keeps a text that was found to be extension fields: it isn't tested again. Returns
+    /// `NoMemory` only if memory for it was refused.
     pub(crate) fn kept(alloc: Global, text: &[u8]) -> Result<ExtensionFields, NoMemory>
         requires { IsTrue (is_extension_text text.now) }
         ensures { IfOk result (λ kept. kept ≡ text.now) }

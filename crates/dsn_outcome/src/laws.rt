@@ -69,7 +69,7 @@ pub fn histories_answer_each_request()
         ≡ length (from_agent (λ request. request.agent) agent requests) }
 {}
 
-/// The answers of a history tell the serials of its letters, each of them once and in order.
+/// The answers of a history have the serials of its letters, each of them once and in order.
 #[tactic(auto, using(crate::proofs::HistoryLaws::serials_answered))]
 pub fn answers_tell_serials()
     ensures { (history : List Exchange) → serials_told (answers_after [] history)

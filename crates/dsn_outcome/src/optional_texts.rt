@@ -1,4 +1,4 @@
-//! Texts that may be missing: an empty text means that there is none.
+//! Texts that may be missing: an empty text means a missing one.
 ghost use Rattle.std.specs.Prelude.{◌≡◌, ◌↔◌, IsTrue, IfOk};
 ghost use Rattle.std.specs.Option.{option_copied};
 ghost use Rattle.dsn_text.specs.Optional.{unless_empty, is_none_or};

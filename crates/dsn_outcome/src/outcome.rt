@@ -14,9 +14,9 @@ use dsn_text::{Action, Address, Clean, KeptStamp, Service, Stamp, Status, is_ext
 use std::alloc::Global;
 use std::marker::Model;
 
-/// A legal outcome: the service's log takes its action, its status stands with the action, its
-/// texts are within their bounds, only a delayed recipient's delivery is tried again, each type is
-/// that of a text, and its extension fields are such.
+/// A legal outcome: the service's log takes its action, its status fits the action, its texts are
+/// within their bounds, only a delayed recipient's delivery is tried again, each type is that of a
+/// text, and its extension fields are such.
 #[derive(Drop)]
 pub struct Outcome {
     texts: OutcomeTexts,
@@ -184,8 +184,8 @@ impl Outcome {
         unless_empty(self.texts.recipient_type())
     }
 
-    /// The type of the original recipient, if it isn't the usual `rfc822` (RFC 3464 section
-    /// 2.3.1); none where there is no original recipient.
+    /// The type of the original recipient, if it isn't the usual `rfc822` (RFC 3464 section 2.3.1);
+    /// none if there is no original recipient.
     pub fn original_type(&self) -> Option<&[u8]>
         ensures same { option_copied result ≡ self.now.original_type }
         ensures legal { IsTrue (is_none_or is_type_name (option_copied result)) }
@@ -193,8 +193,8 @@ impl Outcome {
         unless_empty(self.texts.original_type())
     }
 
-    /// The type of the diagnostic, if it isn't the usual `smtp` (RFC 3464 section 2.3.6); none
-    /// where there is no diagnostic.
+    /// The type of the diagnostic, if it isn't the usual `smtp` (RFC 3464 section 2.3.6); none if
+    /// there is no diagnostic.
     pub fn diagnostic_type(&self) -> Option<&[u8]>
         ensures same { option_copied result ≡ self.now.diagnostic_type }
         ensures legal { IsTrue (is_none_or is_type_name (option_copied result)) }
@@ -202,7 +202,7 @@ impl Outcome {
         unless_empty(self.texts.diagnostic_type())
     }
 
-    /// The extension fields (RFC 3464 section 2.4), each a line that LF ends; none where it is empty.
+    /// The extension fields (RFC 3464 section 2.4), each a line that LF ends; empty for none.
     pub fn extensions(&self) -> &[u8]
         ensures same { result.now ≡ self.now.extensions }
         ensures legal { IsTrue (is_extension_text result.now) }

@@ -21,7 +21,7 @@ pub enum OutcomeFault {
     /// The status is no status code.
     #[error("the status is no status code")]
     BadStatus,
-    /// The class of the status doesn't stand with the action.
+    /// The class of the status doesn't fit the action.
     #[error("the class of the status does not stand with the action")]
     StatusClass,
     /// The remote system's name is neither empty nor a name.

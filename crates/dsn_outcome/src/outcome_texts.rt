@@ -10,7 +10,7 @@ use dsn_text::replace_unprintable;
 use std::alloc::Global;
 use std::marker::Model;
 
-/// The offset behind each text but the last, where the next one begins.
+/// The offset behind each text but the last, which is where the next one begins.
 #[derive(Clone, Copy)]
 struct Offsets {
     recipient: u16,
@@ -23,7 +23,7 @@ struct Offsets {
     diagnostic: u16,
 }
 
-/// The texts of an outcome one after another; an empty one means that there is none.
+/// The texts of an outcome one after another; an empty one is a missing one.
 ///
 /// One piece for all texts: an outcome takes two pieces of memory in place of up to six.
 #[derive(Drop)]
@@ -174,7 +174,7 @@ impl OutcomeTexts {
     }
 }
 
-/// Puts a text after the others, where there is room for it. It takes no memory. Most texts of an
+/// Puts a text after the others, if there is room for it. It takes no memory. Most texts of an
 /// outcome are empty, and cost one test.
 fn append(bytes: &mut Vec<u8>, text: &[u8])
     requires { vec_len bytes.old + length text.now ≤ vec_capacity bytes.old }
@@ -187,8 +187,8 @@ fn append(bytes: &mut Vec<u8>, text: &[u8])
     }
 }
 
-/// Puts a text after the others with `?` for each byte that isn't printable, where there is room
-/// for it. It takes no memory.
+/// Puts a text after the others with `?` for each byte that isn't printable, if there is room for
+/// it. It takes no memory.
 fn append_cleaned(bytes: &mut Vec<u8>, text: &[u8])
     requires { vec_len bytes.old + length text.now ≤ vec_capacity bytes.old }
     ensures items { bytes.new.items ≡ bytes.old.items ++ clean_text text.now }

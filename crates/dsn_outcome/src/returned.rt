@@ -8,12 +8,12 @@ ghost use Rattle.dsn_outcome.specs.Returned.{returned_byte, returned_of_byte};
 pub enum Returned {
     /// The message's header.
     Header,
-    /// The whole message. Where it can't stand in a 7bit mail as it is, its header is returned.
+    /// The whole message. If it can't be in a 7bit mail as it is, its header is returned.
     Message,
 }
 
 impl Returned {
-    /// What a flush's byte stands for: 0 header, 1 message.
+    /// What a flush's byte means: 0 header, 1 message.
     pub fn from_byte(byte: u8) -> Option<Returned>
         ensures { result ≡ returned_of_byte byte }
     {
@@ -24,7 +24,7 @@ impl Returned {
         }
     }
 
-    /// The byte that stands for it in a flush.
+    /// Its byte in a flush.
     pub fn byte(self) -> u8
         ensures { result ≡ returned_byte self }
     {

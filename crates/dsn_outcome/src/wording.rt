@@ -14,7 +14,7 @@ pub enum Wording {
 }
 
 impl Wording {
-    /// What a flush's byte stands for: 0 by service, 1 by outcome.
+    /// What a flush's byte means: 0 by service, 1 by outcome.
     pub fn from_byte(byte: u8) -> Option<Wording>
         ensures { result ≡ wording_of_byte byte }
     {
@@ -25,7 +25,7 @@ impl Wording {
         }
     }
 
-    /// The byte that stands for it in a flush.
+    /// Its byte in a flush.
     pub fn byte(self) -> u8
         ensures { result ≡ wording_byte self }
     {

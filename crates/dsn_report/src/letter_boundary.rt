@@ -5,7 +5,7 @@ ghost use Rattle.dsn_report.specs.Boundary.{letter_name, boundary_front, boundar
 
 use dsn_outcome::{Letter, ShortText};
 
-/// How long a boundary's number is, which stands last in it.
+/// How long a boundary's number is, which is last in it.
 pub(crate) const NUMBER_LEN: usize = 4;
 
 /// The letter's name: its service's letter, its queue id and its moment.

@@ -83,7 +83,7 @@ impl<W: Drain> LineWriter<W> {
         }
     }
 
-    /// Writes a line that stands with its CRLF behind a dot. The dot is written where the line
+    /// Writes a line that is given with its CRLF behind a dot. The dot is written if the line
     /// begins with one and dots are added.
     pub(crate) fn dotted_line(&mut self, dotted: &[u8])
         requires { 0 < length dotted.now }
@@ -94,7 +94,7 @@ impl<W: Drain> LineWriter<W> {
     }
 }
 
-/// What is sent of a line that stands with its CRLF behind a dot.
+/// What is sent of a line that is given with its CRLF behind a dot.
 #[tactic(auto, using(crate::proofs::LineWriterLemmas::after_dot))]
 fn sent(dots: bool, dotted: &[u8]) -> &[u8]
     requires { 0 < length dotted.now }

@@ -113,7 +113,7 @@ fn write_outcome<W: Drain>(lines: &mut LineWriter<W>, wording: Wording, outcome:
     write_if_any(lines, b"    ", outcome.reason());
 }
 
-/// Writes what was done for a recipient, and from which address it came, where that is told.
+/// Writes what was done for a recipient, and from which address it came, if that is said.
 fn write_action<W: Drain>(lines: &mut LineWriter<W>, outcome: &Outcome, origin: Option<&[u8]>)
     ensures { Wrote W.Drain lines.old lines.new
         ((recipient_told outcome.now.recipient (option_copied origin.entry) ++ codes ": "
@@ -228,7 +228,7 @@ fn write_recipient_fields<W: Drain>(lines: &mut LineWriter<W>, outcome: &Outcome
     write_extensions(lines, outcome.extensions());
 }
 
-/// Writes extension fields, each as it stands (RFC 3464 section 2.4).
+/// Writes extension fields, each unchanged (RFC 3464 section 2.4).
 fn write_extensions<W: Drain>(lines: &mut LineWriter<W>, extensions: &[u8])
     requires { IsTrue (is_extension_text extensions.now) }
     ensures { Wrote W.Drain lines.old lines.new (lines_ended_by_lf extensions.now) }

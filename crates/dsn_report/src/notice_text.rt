@@ -15,7 +15,7 @@ use dsn_outcome::{Letter, NoMemory};
 use std::alloc::Global;
 
 /// The text of a letter's notice, as a mail program shows it: without the dots that the mail
-/// protocol adds. `NoMemory` comes only where the memory for it was refused.
+/// protocol adds. Returns `NoMemory` only if the memory for it was refused.
 #[tactic(auto, using(crate::proofs::NoticeTextLemmas::plain_text))]
 pub fn notice(alloc: Global, site: &Site, letter: &Letter) -> Result<Vec<u8>, NoMemory>
     ensures { IfOk result (λ text. text.items ≡ notice_of site.now letter.now) }
@@ -25,7 +25,7 @@ pub fn notice(alloc: Global, site: &Site, letter: &Letter) -> Result<Vec<u8>, No
 
 /// The mail data of a letter's notice: what is sent after the command DATA (RFC 5321 section
 /// 4.1.1.4), with the dots that the mail protocol adds and the one that ends it (section 4.5.2).
-/// `NoMemory` comes only where the memory for it was refused.
+/// Returns `NoMemory` only if the memory for it was refused.
 #[tactic(auto, using(crate::proofs::NoticeTextLemmas::data_text))]
 pub fn mail_data(alloc: Global, site: &Site, letter: &Letter) -> Result<Vec<u8>, NoMemory>
     ensures { IfOk result (λ text. text.items ≡ mail_data site.now letter.now) }

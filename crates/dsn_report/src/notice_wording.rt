@@ -45,7 +45,7 @@ impl Words {
     }
 }
 
-/// The words of a trace, by what became of its recipients.
+/// The words of a trace, by its recipients' outcomes.
 fn trace_words(letter: &Letter) -> Words
     ensures { words_in result
         ≡ words_by ByOutcome Trace
@@ -54,7 +54,7 @@ fn trace_words(letter: &Letter) -> Words
     if all_arrived(letter) { SUCCESS } else { TRACE }
 }
 
-/// The words where what is returned is named in one way.
+/// The words with one name for what is returned.
 fn with_bounce_names(words: Words) -> Words
     ensures { words_in result ≡ with_bounce_names (words_in words) }
 {
@@ -66,7 +66,7 @@ fn with_bounce_names(words: Words) -> Words
     }
 }
 
-/// Of mail that could not be delivered.
+/// About mail that could not be delivered.
 const BOUNCE: Words = Words {
     subject: b"Undelivered Mail Returned to Sender",
     opening: b"Your message could not be delivered to the recipients below.",
@@ -74,7 +74,7 @@ const BOUNCE: Words = Words {
     message: b"Undelivered Message",
 };
 
-/// Of mail that is still being tried.
+/// About mail that is still being tried.
 const DEFER: Words = Words {
     subject: b"Delayed Mail (still being retried)",
     opening: b"Your message has not yet been delivered to the recipients below.",
@@ -82,7 +82,7 @@ const DEFER: Words = Words {
     message: b"Delayed Message",
 };
 
-/// Of a delivery that the sender asked about.
+/// About a delivery that the sender asked about.
 const TRACE: Words = Words {
     subject: b"Mail Delivery Status Report",
     opening: b"This is the delivery report for your message.",
@@ -90,7 +90,7 @@ const TRACE: Words = Words {
     message: b"Message",
 };
 
-/// Of such a delivery, where the message arrived everywhere.
+/// About such a delivery, if the message arrived everywhere.
 const SUCCESS: Words = Words {
     subject: b"Successful Mail Delivery Report",
     opening: b"Your message was delivered to the recipients below.",
@@ -120,7 +120,7 @@ fn has_arrived(action: Action) -> bool
     }
 }
 
-/// The original recipient of an outcome, where its notice tells it: it isn't the final one.
+/// The original recipient of an outcome, if its notice names it: it isn't the final one.
 pub(crate) fn origin_told(wording: Wording, outcome: &Outcome) -> Option<&[u8]>
     ensures { option_copied result ≡ origin_told wording outcome.now }
 {

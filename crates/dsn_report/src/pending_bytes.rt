@@ -8,7 +8,7 @@ use std::marker::Model;
 // poster.
 const HELD_ROOM: usize = 4_096;
 
-/// Bytes that wait to be written, so that many short texts are one write.
+/// Bytes that wait to be written, so that short texts are one write.
 #[derive(Drop)]
 pub(crate) struct PendingBytes {
     room: [u8; HELD_ROOM],
@@ -37,7 +37,7 @@ impl PendingBytes {
         }
     }
 
-    /// Adds a text at the end where there is room for it, and says whether there is.
+    /// Adds a text at the end if there is room for it, and says whether there is.
     #[inline(always)]
     pub(crate) fn push(&mut self, text: &[u8]) -> bool
         ensures { self.new ≡ (if result then self.old ++ text.now else self.old) }
@@ -58,7 +58,7 @@ impl PendingBytes {
         &self.room[..self.len]
     }
 
-    /// Lets go of the bytes.
+    /// Drops the bytes.
     pub(crate) fn clear(&mut self)
         ensures { self.new ≡ [] }
     {

@@ -87,8 +87,8 @@ impl<W> Poster<W> {
 
 impl<W: Drain> Poster<W> {
     /// Writes the letter's notice, after the greeting if that isn't written, then flushes the
-    /// outbox, once, and then has it mark the letter. `Write` comes where the outbox fails now, and
-    /// `Failed` from every later call; the letter comes back. It takes no memory.
+    /// outbox, once, and then has it mark the letter. Returns `Write` if the outbox fails now, and
+    /// `Failed` from every later call, with the letter. It takes no memory.
     #[tactic(auto, using(crate::proofs::PosterLemmas::marked_by_serial), unfolding(crate::specs::Poster::post_text))]
     pub fn post(&mut self, letter: Letter) -> Result<(), PostFault>
         ensures sent { OnOk result
@@ -108,8 +108,8 @@ impl<W: Drain> Poster<W> {
         ensures later { IsTrue self.old.failed → result ≡ Err (PostFault.Failed letter) }
         ensures nothing { IsTrue self.old.failed → self.new ≡ self.old }
 
-        // It fails where the outbox does: the outbox's count of failures rises there, unless it
-        // stands at its end, and nowhere else.
+        // It fails where the outbox does: the outbox's count of failures rises there, unless it is
+        // at its end, and nowhere else.
         ensures count { W.failures self.new.outbox
             ≡ counts_failure self.old.failed (is_err result) (W.failures self.old.outbox) }
         ensures steady { W.steady self.old.outbox
@@ -145,7 +145,7 @@ impl<W: Drain> Poster<W> {
         ensures nothing { IsTrue self.failed
             → result ≡ record { outbox = self.outbox; whole = false } }
 
-        // Where nothing failed before, `whole` is false exactly where the outbox fails now.
+        // If nothing failed before, `whole` is false exactly where the outbox fails now.
         ensures count { W.failures result.outbox
             ≡ counts_failure self.failed (not result.whole) (W.failures self.outbox) }
         ensures steady { W.steady self.outbox

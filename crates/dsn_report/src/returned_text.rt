@@ -84,7 +84,7 @@ fn is_message(letter: &Letter) -> bool
     }
 }
 
-/// Whether each line of a text stands in a 7bit mail as it is (RFC 2045 section 2.7).
+/// Whether each line of a text can be in a 7bit mail as it is (RFC 2045 section 2.7).
 #[tactic(auto, unfolding(crate::specs::Boundary::stands_whole))]
 fn stands_whole(text: &[u8]) -> bool
     ensures { result ≡ stands_whole text.now }
@@ -101,15 +101,15 @@ fn stands_whole(text: &[u8]) -> bool
     true
 }
 
-/// Whether a line stands in a 7bit mail as it is.
+/// Whether a line can be in a 7bit mail as it is.
 fn is_mail_line(line: &[u8]) -> bool
     ensures { result ≡ is_mail_line line.now }
 {
     line.len() <= LONGEST_LINE && has_mail_bytes(line)
 }
 
-/// Whether each byte is one that a line of a 7bit mail may hold. It looks at all of them, also after
-/// one that isn't, so that many are tested at once.
+/// Whether each byte is one that a line of a 7bit mail may hold. It looks at all of them, also
+/// after one that isn't, so that several are tested at once.
 fn has_mail_bytes(line: &[u8]) -> bool
     ensures { result ≡ list_all is_mail_byte line.now }
 {

@@ -22,7 +22,7 @@ pub enum Action {
 }
 
 impl Action {
-    /// The action that a request's byte stands for, 1 to 5 in the order of the variants.
+    /// The action that a request's byte means, 1 to 5 in the order of the variants.
     pub fn from_byte(byte: u8) -> Option<Action>
         ensures { result ≡ action_of_byte byte }
     {
@@ -36,7 +36,7 @@ impl Action {
         }
     }
 
-    /// The byte that stands for the action in a request.
+    /// The action's byte in a request.
     pub fn byte(self) -> u8
         ensures { result ≡ action_byte self }
     {
@@ -62,8 +62,7 @@ impl Action {
         }
     }
 
-    /// Whether a status of this class, `2`, `4` or `5`, stands with the action (this project's
-    /// profile).
+    /// Whether a status of this class, `2`, `4` or `5`, fits the action (this project's profile).
     pub fn fits_class(self, class: u8) -> bool
         ensures { result ≡ fits_class self class }
     {
@@ -74,8 +73,8 @@ impl Action {
         }
     }
 
-    /// Whether the action stands with what is said of until when delivery is tried again: only
-    /// a delayed recipient's is (RFC 3464 section 2.3.9).
+    /// Whether the action fits this moment until which delivery is tried again: only a delayed
+    /// recipient may have one (RFC 3464 section 2.3.9).
     ///
     /// The daemon reads no clock: neither moment has to be the earlier one.
     pub fn fits_retry(self, retry_until: Option<Stamp>) -> bool

@@ -40,8 +40,8 @@ impl Address {
         has_long_form(text, 1, LONGEST_ADDRESS, Alphabet::AddressBytes)
     }
 
-    /// Keeps a text that can be an address. `Bad` comes where it can't be one,
-    /// `NoMemory` only where memory for it was refused.
+    /// Keeps a text that can be an address. Returns `Bad` if it can't be one, and `NoMemory` only
+    /// if memory for it was refused.
     pub fn new(alloc: Global, text: &[u8]) -> Result<Address, TextFault>
         ensures kept { IfOk result (λ kept. kept ≡ text.now) }
         ensures legal { IsOk result → IsAddress text.now }
@@ -54,7 +54,7 @@ impl Address {
     }
 
     /// Keeps a text that can be an address, as [`Address::is_valid`] found: it isn't tested again.
-    /// `NoMemory` comes only where memory for it was refused.
+    /// Returns `NoMemory` only if memory for it was refused.
     pub fn kept(alloc: Global, text: &[u8]) -> Result<Address, NoMemory>
         requires { IsAddress text.now }
         ensures { IfOk result (λ kept. kept ≡ text.now) }

@@ -36,8 +36,8 @@ impl Clean {
         text.len() <= LONGEST_CLEAN
     }
 
-    /// Keeps a text that is short enough, with `?` for each byte that isn't printable, a tab
-    /// too. `Bad` comes where it is too long, `NoMemory` only where memory for it was refused.
+    /// Keeps a text that is short enough, with `?` for each byte that isn't printable, a tab too.
+    /// Returns `Bad` if it is too long, and `NoMemory` only if memory for it was refused.
     pub fn new(alloc: Global, text: &[u8]) -> Result<Clean, TextFault>
         ensures kept { IfOk result (λ kept. kept ≡ clean_text text.now) }
         ensures legal { IsOk result → length text.now ≤ LONGEST_CLEAN }
@@ -59,7 +59,7 @@ impl Clean {
     }
 }
 
-/// The byte, or `?` where it isn't printable.
+/// The byte, or `?` if it isn't printable.
 ///
 /// Remote systems send such bytes, and the outcome matters more than they do: so a byte is replaced
 /// and the text isn't refused.

@@ -37,8 +37,8 @@ impl EnvelopeId {
         has_form(text, 1, LONGEST_ENVELOPE_ID, Alphabet::Printable)
     }
 
-    /// Keeps a text that can be an envelope id. `Bad` comes where it can't be one,
-    /// `NoMemory` only where memory for it was refused.
+    /// Keeps a text that can be an envelope id. Returns `Bad` if it can't be one, and `NoMemory`
+    /// only if memory for it was refused.
     pub fn new(alloc: Global, text: &[u8]) -> Result<EnvelopeId, TextFault>
         ensures kept { IfOk result (λ kept. kept ≡ text.now) }
         ensures legal { IsOk result → IsEnvelopeId text.now }
@@ -50,8 +50,8 @@ impl EnvelopeId {
         Ok(EnvelopeId::kept(alloc, text)?)
     }
 
-    /// Keeps a text that can be an envelope id, as [`EnvelopeId::is_valid`] found: it isn't
-    /// tested again. `NoMemory` comes only where memory for it was refused.
+    /// Keeps a text that can be an envelope id, as [`EnvelopeId::is_valid`] found: it isn't tested
+    /// again. Returns `NoMemory` only if memory for it was refused.
     pub fn kept(alloc: Global, text: &[u8]) -> Result<EnvelopeId, NoMemory>
         requires { IsEnvelopeId text.now }
         ensures { IfOk result (λ kept. kept ≡ text.now) }

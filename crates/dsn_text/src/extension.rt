@@ -40,7 +40,7 @@ fn is_empty_or_lines(text: &[u8]) -> bool
     text.is_empty() || are_extension_lines(text)
 }
 
-/// Whether a text is at most so many extension fields, one line after the other.
+/// Whether a text is at most the allowed number of extension fields, one line after the other.
 #[inline(never)]
 fn are_extension_lines(text: &[u8]) -> bool
     ensures { result ≡ are_extension_lines most_extensions text.now }
@@ -103,8 +103,8 @@ fn is_extension_rest(rest: &[u8]) -> bool
     rest.starts_with(b" ") && has_form(&rest[1..], 1, LONGEST_EXTENSION_VALUE, Alphabet::Printable)
 }
 
-/// What stands before the first such byte, and what stands after it. Without one all of the text
-/// stands before it.
+/// What is before the first such byte, and what is after it. Without one all of the text is before
+/// it.
 fn split_at_first(text: &[u8], sought: u8) -> (&[u8], &[u8])
     ensures before { result.0.now ≡ before_first (λ byte. byte == sought) text.now }
     ensures after { result.1.now ≡ after_first (λ byte. byte == sought) text.now }

@@ -16,7 +16,7 @@ pub const BAD_ORIGINAL: u32 = 2;
 pub const BAD_ACTION: u32 = 3;
 /// The status is no status code.
 pub const BAD_STATUS: u32 = 4;
-/// The class of the status does not stand with the action.
+/// The class of the status does not fit the action.
 pub const STATUS_CLASS: u32 = 5;
 /// The remote system's name is neither empty nor a name.
 pub const BAD_MTA: u32 = 6;
@@ -31,9 +31,9 @@ pub const RETRY_UNTIL: u32 = 10;
 
 /// The type of the final recipient is neither empty nor the name of a type.
 pub const RECIPIENT_TYPE: u32 = 15;
-/// The type of the original recipient is none, or there is no original recipient.
+/// The type of the original recipient is malformed, or there is no original recipient.
 pub const ORIGINAL_TYPE: u32 = 16;
-/// The type of the diagnostic is none, or there is no diagnostic.
+/// The type of the diagnostic is malformed, or there is no diagnostic.
 pub const DIAGNOSTIC_TYPE: u32 = 17;
 /// It is unknown whether the header field holds the header or the message.
 pub const RETURNED: u32 = 18;
@@ -61,7 +61,7 @@ pub const SHORT: u32 = 23;
 pub const EXTRA: u32 = 24;
 /// The service is unknown.
 pub const SERVICE: u32 = 25;
-/// The queue id is none.
+/// The queue id is malformed.
 pub const QUEUE_ID: u32 = 26;
 /// A moment is after the year 9999.
 pub const MOMENT: u32 = 27;
@@ -78,7 +78,7 @@ pub const OUTBOX_WRITE: u32 = 31;
 pub const OUTBOX_FAILED: u32 = 32;
 /// A line of the notes could not be written.
 pub const NOTES_WRITE: u32 = 33;
-/// The value of an answer is none.
+/// The value of an answer isn't a legal one.
 pub const ANSWER_VALUE: u32 = 34;
 /// An answer or a frame could not be written to a connection.
 pub const CONNECTION_WRITE: u32 = 35;
@@ -101,7 +101,7 @@ pub const TOO_MANY_FRAMES: u32 = 47;
 /// The daemon's bytes ended before an answer's first one.
 pub const UNANSWERED: u32 = 48;
 
-/// The name of the host is none.
+/// The name of the host is malformed.
 pub const BAD_HOST: u32 = 51;
 
 /// A socket could not be bound, connected or removed, or an accept failed.

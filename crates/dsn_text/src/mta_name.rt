@@ -36,8 +36,8 @@ impl MtaName {
         has_form(text, 1, LONGEST_MTA_NAME, Alphabet::Visible)
     }
 
-    /// Keeps a text that can be a mail system's name. `Bad` comes where it can't be one,
-    /// `NoMemory` only where memory for it was refused.
+    /// Keeps a text that can be a mail system's name. Returns `Bad` if it can't be one, and
+    /// `NoMemory` only if memory for it was refused.
     pub fn new(alloc: Global, text: &[u8]) -> Result<MtaName, TextFault>
         ensures kept { IfOk result (λ kept. kept ≡ text.now) }
         ensures legal { IsOk result → IsMtaName text.now }

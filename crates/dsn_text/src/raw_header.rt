@@ -35,8 +35,8 @@ impl RawHeader {
         text.len() <= LONGEST_HEADER
     }
 
-    /// Keeps a text that is short enough, byte for byte. `Bad` comes where it is too long,
-    /// `NoMemory` only where memory for it was refused.
+    /// Keeps a text that is short enough, byte for byte. Returns `Bad` if it is too long, and
+    /// `NoMemory` only if memory for it was refused.
     pub fn new(alloc: Global, text: &[u8]) -> Result<RawHeader, TextFault>
         ensures kept { IfOk result (λ kept. kept ≡ text.now) }
         ensures legal { IsOk result → length text.now ≤ LONGEST_HEADER }
@@ -48,8 +48,8 @@ impl RawHeader {
         Ok(RawHeader::kept(alloc, text)?)
     }
 
-    /// Keeps a text that is short enough, as [`RawHeader::is_valid`] found: it isn't
-    /// tested again. `NoMemory` comes only where memory for it was refused.
+    /// Keeps a text that is short enough, as [`RawHeader::is_valid`] found: it isn't tested again.
+    /// Returns `NoMemory` only if memory for it was refused.
     pub fn kept(alloc: Global, text: &[u8]) -> Result<RawHeader, NoMemory>
         requires { length text.now ≤ LONGEST_HEADER }
         ensures { IfOk result (λ kept. kept ≡ text.now) }

@@ -18,7 +18,7 @@ pub enum Service {
 }
 
 impl Service {
-    /// The service that a request's byte stands for: 1 bounce, 2 defer, 3 trace.
+    /// The service that a request's byte means: 1 bounce, 2 defer, 3 trace.
     pub fn from_byte(byte: u8) -> Option<Service>
         ensures { result ≡ service_of_byte byte }
     {
@@ -30,7 +30,7 @@ impl Service {
         }
     }
 
-    /// The byte that stands for the service in a request.
+    /// The service's byte in a request.
     pub fn byte(self) -> u8
         ensures { result ≡ service_byte self }
     {
@@ -41,7 +41,7 @@ impl Service {
         }
     }
 
-    /// The letter that stands for the service in boundaries, message identifiers and notes.
+    /// The service's letter in boundaries, message identifiers and notes.
     pub fn letter(self) -> u8
         ensures { result ≡ service_letter self }
     {

@@ -31,7 +31,7 @@ impl Model for Stamp {
 }
 
 impl Stamp {
-    /// The moment so many seconds after 1970 began, or `None` after [`LAST_MOMENT`].
+    /// The moment this number of seconds after 1970 began, or `None` after [`LAST_MOMENT`].
     pub fn new(seconds: u64) -> Option<Stamp>
         ensures bound { IsSome result ↔ (seconds ≤ last_moment) }
         ensures value { IfSome result (λ stamp. stamp ≡ seconds) }

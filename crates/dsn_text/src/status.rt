@@ -143,8 +143,7 @@ fn has_leading_zero(text: &[u8]) -> bool
     matches!(text, [b'0', _, ..])
 }
 
-/// What stands before the first dot, and what stands after it. Without a dot all of the text
-/// stands before it.
+/// What is before the first dot, and what is after it. Without a dot all of the text is before it.
 fn split_at_dot(text: &[u8]) -> (&[u8], &[u8])
     ensures before { result.0.now ≡ before_first is_dot text.now }
     ensures after { result.1.now ≡ after_first is_dot text.now }

@@ -62,7 +62,7 @@ impl Alphabet {
     }
 
     /// Whether a text may hold each of these bytes. It looks at all of them, also after one that a
-    /// text may not hold, so that many are tested at once.
+    /// text may not hold, so that several are tested at once.
     fn allows_all(self, text: &[u8]) -> bool
         ensures { result ≡ list_all (allows self) text.now }
     {
@@ -98,7 +98,8 @@ fn is_mail_special(byte: u8) -> bool
     )
 }
 
-/// Whether a text has so many bytes, both bounds included, and only bytes that it may hold.
+/// Whether a text's length is within these bounds, both included, and it has only bytes that it may
+/// hold.
 pub(crate) fn has_form(text: &[u8], least: usize, most: usize, alphabet: Alphabet) -> bool
     ensures { result ≡ is_text (allows alphabet) least most text.now }
 {

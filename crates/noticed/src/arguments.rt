@@ -76,7 +76,7 @@ pub(crate) struct Serving {
 pub(crate) struct ServeOptions {
     /// The folder of the journal, if there is to be one.
     pub(crate) journal: Option<String>,
-    /// The path of the outbox, where it isn't standard output.
+    /// The path of the outbox, if it isn't standard output.
     pub(crate) outbox: Option<String>,
     /// What the run's watch is asked to do.
     pub(crate) watch: WatchOptions,

@@ -86,7 +86,7 @@ fn is_unwritten(rt: &HostRuntime, path: &str) -> io::Result<bool> {
     Ok(fs::read(rt, path)?.iter().all(|byte| *byte == 0))
 }
 
-/// The error that one of two files is missing.
+/// The error for one of two files that is missing.
 fn not_found(words: &str) -> io::Error {
     Error::new(ErrorKind::NotFound, words)
 }
@@ -96,9 +96,9 @@ fn path_in(rt: &HostRuntime, folder: &str, name: &str) -> io::Result<String> {
     Ok(format!(in rt.alloc(); "{folder}/{name}")?)
 }
 
-/// Opens the file of an outbox, for its owner alone where it is made. An error of the kind
-/// `AlreadyExists` comes where it has something: a run before may have been cut off within a
-/// letter, and what is written behind that would be read as its text. Its name is synced.
+/// Opens the file of an outbox, for its owner alone where it is made. Returns an error of the kind
+/// `AlreadyExists` if it has something: a run before may have been cut off within a letter, and
+/// what is written behind that would be read as its text. Its name is synced.
 pub(crate) fn open_outbox(rt: &HostRuntime, path: &str) -> io::Result<File> {
     let file = File::options()
         .append(true)

@@ -26,7 +26,7 @@ pub(crate) struct PostfixOptions {
     pub(crate) double_bounce: Option<String>,
     /// The names of the hashed queues.
     pub(crate) hashed: Option<String>,
-    /// How deep their files stand.
+    /// How deep their files are.
     pub(crate) depth: Option<u32>,
     /// Whether the sockets are inherited.
     pub(crate) inherits: bool,

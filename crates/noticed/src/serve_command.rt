@@ -80,7 +80,7 @@ pub(crate) fn run_serve<R: Threads + Wait + Clock + Sync>(
     Ok(status)
 }
 
-/// The outbox at this path, or standard output where there is none; else the status.
+/// The outbox at this path, or standard output without one; else the status.
 fn outbox_at(rt: &HostRuntime, path: Option<String>) -> Result<OutboxWriter, u8> {
     let Some(path) = path else {
         return Ok(OutboxWriter::Standard(rt.stdout()));
@@ -118,7 +118,8 @@ fn listen<'a>(
     Ok((listener, watch))
 }
 
-/// Prints to the log that the daemon listens, and where its host's name is one that stands in examples.
+/// Prints to the log that the daemon listens, and that its host's name is one for examples, if it
+/// is.
 fn print_start(
     rt: &HostRuntime,
     watch: &impl Watch,

@@ -15,7 +15,7 @@ const BODY: usize = 10;
 /// How many bytes one has that says a serial.
 const SERIAL_BODY: usize = 18;
 
-/// The byte of a reply that tells of a notice.
+/// The byte of a reply about a notice.
 const SEALED: u8 = 7;
 
 /// The byte of a refusal.
@@ -25,7 +25,7 @@ const REFUSED: u8 = 10;
 const LAST: u8 = 13;
 
 /// The frame of an answer to the frame at this place: a length of 10, and the ten bytes of its
-/// body; or a length of 18, and eight bytes more, where a serial is told.
+/// body; or a length of 18, and eight bytes more, if there is a serial.
 #[tactic(auto, unfolding(crate::specs::bodies::Spoken::answer_bytes, crate::specs::bodies::Spoken::answer_body))]
 pub fn encode_answer(number: u32, answer: &Spoken) -> ShortText
     ensures { result ≡ answer_bytes number answer.now }
@@ -83,7 +83,7 @@ pub fn decode_answer(bytes: &[u8]) -> Result<(u32, Spoken), AnswerFault>
     Ok((number, answer))
 }
 
-/// Whether an answer's body has ten bytes at most, or eighteen where it tells of a notice.
+/// Whether an answer's body has ten bytes at most, or eighteen if it is about a notice.
 fn is_without_rest(bytes: &[u8]) -> bool
     ensures { result ≡ is_without_rest bytes.now }
 {
@@ -102,7 +102,7 @@ fn fields_of(answer: Spoken) -> (u8, u32)
     }
 }
 
-/// The serial that an answer tells, if it does.
+/// The serial that an answer has, if it has one.
 ///
 /// An agent with a log of its own names its notice by the Message-ID, of which it knows all but
 /// this.

@@ -12,7 +12,7 @@ pub enum AnswerFault {
     /// The first byte isn't version 1.
     #[error("the version is unknown")]
     Version,
-    /// The second byte is none of 1 to 13.
+    /// The second byte isn't 1 to 13.
     #[error("the reply is unknown")]
     Kind,
     /// The body has fewer than 10 bytes.

@@ -25,7 +25,7 @@ pub enum BodyFault {
     /// The service is unknown.
     #[error("the service is unknown")]
     Service,
-    /// The queue id is none.
+    /// The queue id is malformed.
     #[error("the queue id is none")]
     QueueId,
     /// A moment of a flush or of an append is after the year 9999.

@@ -1,8 +1,7 @@
-//! The fields of a body as they stand in it, before any is judged.
-//! Implements docs/FORMATS.md, "Requests".
+//! The fields of a body before any is judged. Implements docs/FORMATS.md, "Requests".
 use dsn_outcome::Types;
 
-/// What every body begins with; its kind stands after its version.
+/// What every body begins with; its kind is after its version.
 #[derive(Clone, Copy)]
 pub(crate) struct HeadParts<'a> {
     /// The version.
@@ -69,10 +68,10 @@ impl TypeParts<'_> {
     }
 }
 
-/// The number that stands for no moment.
+/// The number that means no moment.
 pub(crate) const NO_MOMENT: u64 = u64::MAX;
 
-/// The number that stands for any number of outcomes.
+/// The number that means any number of outcomes.
 pub(crate) const ANY_COUNT: u32 = u32::MAX;
 
 /// What a flush goes on with. An empty text means that there is none.
@@ -93,7 +92,7 @@ pub(crate) struct FlushParts<'a> {
 /// What a flush of the third version goes on with.
 #[derive(Clone, Copy)]
 pub(crate) struct WishParts<'a> {
-    /// How many outcomes it expects; [`ANY_COUNT`] stands for any number.
+    /// How many outcomes it expects; [`ANY_COUNT`] means any number.
     pub(crate) expected: u32,
     /// The byte of what its header field holds.
     pub(crate) returned: u8,
@@ -147,7 +146,7 @@ pub(crate) enum BodyParts<'a> {
     CountedFlush(HeadParts<'a>, FlushParts<'a>, WishParts<'a>),
     /// A log to be dropped.
     Discard(HeadParts<'a>),
-    /// A key to be let go.
+    /// A key to be released.
     Forget(HeadParts<'a>),
 }
 

@@ -22,9 +22,9 @@ use crate::bodies::{THIRD_VERSION, VERSION, read_fields};
 use dsn_outcome::{Body, Draft, DraftParts, Key, Node, Outcome, Parts, QueueId, Service, Stamp};
 use std::alloc::Global;
 
-/// The request that a body stands for, with its number on the connection. It is never a goodbye.
-/// A fault is the first one in the order of `BodyFault`'s variants; memory is taken once none is
-/// left, so `NoMemory` comes only where a body without a fault met a refused growth.
+/// The request that a body encodes, with its number on the connection. It is never a goodbye. A
+/// fault is the first one in the order of `BodyFault`'s variants; memory is taken once none is
+/// left, so `NoMemory` is returned only if a body without a fault met a refused growth.
 #[tactic(auto, unfolding(crate::specs::bodies::Request::first_body_fault))]
 pub fn decode_request(alloc: Global, bytes: &[u8]) -> Result<(u32, Body), BodyFault>
     ensures encoded { IfOk result (λ read. Encodes bytes.now read.0 (body_of read.1)) }
@@ -86,7 +86,7 @@ fn key_of(head: HeadParts<'_>) -> Result<Key, BodyFault>
     Ok(Key { service, id })
 }
 
-/// The body that fields stand for, about their key.
+/// The body that fields encode, about their key.
 #[tactic(auto, unfolding(crate::specs::bodies::Request::first_own_fault, crate::specs::bodies::Request::StandsFor))]
 fn body_about(alloc: Global, key: Key, parts: BodyParts<'_>) -> Result<Body, BodyFault>
     requires { IsKeyOf (head_of (wire_body_in parts)) key }
@@ -125,7 +125,7 @@ fn body_about(alloc: Global, key: Key, parts: BodyParts<'_>) -> Result<Body, Bod
 }
 
 /// The outcome of a service that an append's fields, these types and extension fields, and these
-/// moments stand for.
+/// moments encode.
 fn outcome_from(
     alloc: Global,
     service: Service,
@@ -181,7 +181,7 @@ fn checked_dates(dates: RetryParts) -> Result<(Option<Stamp>, Option<Stamp>), Bo
     Ok((last_attempt, retry_until))
 }
 
-/// The moment that a number stands for, if it is one or stands for none.
+/// The moment that a number encodes, if it encodes a moment or none.
 fn checked_date(seconds: u64) -> Result<Option<Stamp>, BodyFault>
     ensures moment { IfOk result (λ moment. moment ≡ moment_if_any seconds) }
     ensures accepted { OnOk result (is_none_or is_moment (moment_if_any seconds) ≡ true) }
@@ -197,7 +197,7 @@ fn checked_date(seconds: u64) -> Result<Option<Stamp>, BodyFault>
     }
 }
 
-/// How many outcomes a number of a flush stands for; none where it stands for any number.
+/// How many outcomes a number of a flush means; none if it means any number.
 fn count_if_any(count: u32) -> Option<u32>
     ensures same { result ≡ count_if_any count }
     ensures counted { IsTrue (is_none_or is_count result) }
@@ -208,7 +208,7 @@ fn count_if_any(count: u32) -> Option<u32>
     Some(count)
 }
 
-/// The draft that a flush's fields stand for.
+/// The draft that a flush's fields encode.
 #[tactic(auto, using(crate::proofs::bodies::EncodingLaws::draft_refused))]
 fn draft_from(
     alloc: Global,

@@ -155,7 +155,7 @@ fn retry_parts(outcome: &Outcome) -> RetryParts
     }
 }
 
-/// The seconds of a moment, or the number that stands for none.
+/// The seconds of a moment, or the number that means no moment.
 fn seconds_or_none(moment: Option<Stamp>) -> u64
     ensures { result ≡ moment_or_none moment }
 {
@@ -165,7 +165,7 @@ fn seconds_or_none(moment: Option<Stamp>) -> u64
     }
 }
 
-/// The fields of an outcome but for its moments.
+/// The fields of an outcome, except its moments.
 fn recipient_parts(outcome: &Outcome) -> RecipientParts<'_>
     ensures { recipient_fields_in result ≡ fields_for outcome.now }
 {
@@ -180,7 +180,7 @@ fn recipient_parts(outcome: &Outcome) -> RecipientParts<'_>
     }
 }
 
-/// All fields of a flush: what it asks for besides is of the third version.
+/// All fields of a flush: its further wishes are of the third version.
 #[tactic(auto, unfolding(crate::specs::bodies::Request::flush_written_as))]
 fn flush_body<'a>(number: u32, key: &'a Key, terms: &'a Terms) -> BodyParts<'a>
     ensures same { wire_body_in result ≡ flush_written_as number key.now terms.now }
@@ -198,7 +198,7 @@ fn flush_body<'a>(number: u32, key: &'a Key, terms: &'a Terms) -> BodyParts<'a>
     )
 }
 
-/// The number of outcomes, or the number that stands for any.
+/// The number of outcomes, or the number that means any.
 fn count_or_any(expected: Option<u32>) -> u32
     ensures { result ≡ count_or_any expected }
 {
@@ -208,7 +208,7 @@ fn count_or_any(expected: Option<u32>) -> u32
     }
 }
 
-/// The fields of a flush of each version, and what it asks for besides.
+/// The fields of a flush of each version, and its further wishes.
 fn flush_parts(terms: &Terms) -> (FlushParts<'_>, WishParts<'_>)
     ensures same { flush_fields_in result.0 ≡ flush_fields_for terms.now }
     ensures wishes { wish_fields_in result.1 ≡ wish_fields_for terms.now }
@@ -252,7 +252,7 @@ fn envelope_id_text(id: Option<&EnvelopeId>) -> &[u8]
     }
 }
 
-/// The text, or the empty one where there is none.
+/// The text, or the empty text.
 fn text_or_empty(text: Option<&[u8]>) -> &[u8]
     ensures { result.now ≡ text_or_empty (option_copied text.entry) }
 {

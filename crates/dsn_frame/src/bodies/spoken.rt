@@ -17,7 +17,7 @@ pub enum Spoken {
 }
 
 impl Spoken {
-    /// What a frame with this body is told of the answer: the serial only where it is of version 3.
+    /// What the answer to a frame with this body says: the serial only where it is of version 3.
     pub fn told_to(self, bytes: &[u8]) -> Spoken
         ensures { result ≡ told_to bytes.now self }
     {

@@ -66,10 +66,9 @@ pub record HasGiven (may_give : List Given → Type 0) (line : AgentLine) (lost 
 -- ---- what a port tells
 
 -- a connection that a port tells before it gives it: the bytes that its stream will give, and
--- whether the stream may fail
+-- whether the stream may fail. A port whose connections are known never answers `Failed`
 pub record Conn : Type 0 where
   pub bytes : List ℕ
-  -- a port whose connections are known never answers `Failed`
   pub may_fail : Bool
 
 -- the stream of this connection. One that may not fail is steady, and its count of failures isn't

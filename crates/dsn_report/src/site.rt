@@ -1,4 +1,5 @@
 //! The mail system's own name.
+//! Implements docs/FORMATS.md, "Command line and exit status".
 ghost use Rattle.std.specs.Prelude.{◌≡◌, ◌↔◌, IsTrue, IfOk, IsOk, IsErrOf};
 ghost use Rattle.std.specs.List.{list_all};
 ghost use Rattle.dsn_report.specs.Site.{IsHost, is_host_byte, site_fault_code};

@@ -30,14 +30,6 @@ fn new_book(alloc: Global) -> Option<Book> {
     Book::new(alloc, Limits::new(8, 8, 8)?).ok()
 }
 
-/// The first two letters of a book: about `K1` and `K2`.
-pub(crate) fn two_letters(alloc: Global) -> Option<[Letter; 2]> {
-    let mut book = new_book(alloc)?;
-    let first = letter_of(alloc, &mut book, b"K1")?;
-    let second = letter_of(alloc, &mut book, b"K2")?;
-    Some([first, second])
-}
-
 /// The first letter of a book, about `K1`.
 pub(crate) fn one_letter(alloc: Global) -> Option<Letter> {
     letter_of(alloc, &mut new_book(alloc)?, b"K1")

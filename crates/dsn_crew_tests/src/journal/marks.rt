@@ -1,36 +1,9 @@
-//! Files of marks, and letters that are marked once they were taken.
-ghost use Rattle.std.specs.Prelude.{List, map};
-ghost use Rattle.dsn_outcome.specs.Letter.{Letter};
-
+//! Files of marks, and letters that are marked in their turn.
 use crate::assert_same::same;
-use crate::letters::two_letters;
-use dsn_device::Broken;
-use dsn_journal::{DeliveryError, Marks, MarksError, MemoryDisk, Outlet, deliver};
-use dsn_outcome::Letter;
+use dsn_device::{Broken, Drain, Plain};
+use dsn_journal::{MarkedOutbox, Marks, MarksError, MemoryDisk};
 use std::alloc::Global;
-use std::snapshot::Snapshot;
 use std::test::Fail;
-
-/// Takes one letter, and fails then.
-#[derive(Drop)]
-struct One {
-    taken: Vec<Snapshot<Letter>>,
-    failures: u64,
-}
-
-impl Outlet for One {
-    ghost taken = { λ one. map (λ it. it.value) one.taken.items };
-
-    ghost failures = { λ one. one.failures };
-
-    fn take(&mut self, letter: &Letter) -> Result<(), Broken> {
-        if !self.taken.is_empty() || self.taken.push(Snapshot::of(letter)).is_err() {
-            self.failures = self.failures.saturating_add(1);
-            return Err(Broken);
-        }
-        Ok(())
-    }
-}
 
 /// Opens a file of marks.
 fn open_marks(alloc: Global, bytes: &[u8]) -> Result<Marks<MemoryDisk>, MarksError> {
@@ -107,39 +80,19 @@ fn marks_of_files(rt: HostRuntime) {
     }
 }
 
-/// Gives a letter to an outlet: the answer, and the mark then.
-fn deliver_one(
-    alloc: Global,
-    letter: &Letter,
-    outlet: &mut One,
-    marks: &mut Marks<MemoryDisk>,
-) -> (Result<(), DeliveryError>, u64) {
-    if marks.mark() > 100 {
-        return (Err(DeliveryError::Unsettled), 0);
-    }
-    let answer = deliver(alloc, letter, outlet, marks);
-    (answer, marks.mark())
+/// Marks the letter with this serial over new marks: the answer, and the mark then.
+fn mark_first(alloc: Global, serial: u64) -> Result<(Result<(), Broken>, u64), Fail> {
+    let marks = open_marks(alloc, &[0; 40]).ok().ok_or("marks")?;
+    let written: Vec<u8> = Vec::new(alloc);
+    let mut outbox = MarkedOutbox::new(alloc, Plain::new(written), marks);
+    let answer = outbox.mark_letter(serial);
+    let (_, marks) = outbox.into_parts();
+    Ok((answer, marks.mark()))
 }
 
-/// Which of two letters is delivered, the answer, and the mark then.
-const STEPS: &[(usize, Result<(), DeliveryError>, u64)] = &[
-    (1, Err(DeliveryError::OutOfTurn), 0),
-    (0, Ok(()), 1),
-    (1, Err(DeliveryError::Outlet), 1),
-];
-
 #[test]
-fn a_letter_is_marked_once_it_was_taken(rt: HostRuntime) -> Result<(), Fail> {
-    let letters = two_letters(rt.alloc()).ok_or("two letters")?;
-    let mut marks = open_marks(rt.alloc(), &[0; 40]).ok().ok_or("marks")?;
-    let mut outlet = One {
-        taken: Vec::new(rt.alloc()),
-        failures: 0,
-    };
-    for (place, answer, mark) in STEPS {
-        let came = deliver_one(rt.alloc(), &letters[*place], &mut outlet, &mut marks);
-        same(&rt, came, (*answer, *mark));
-    }
-    same(&rt, (outlet.taken.len(), outlet.failures), (1, 1));
+fn a_letter_is_marked_in_its_turn(rt: HostRuntime) -> Result<(), Fail> {
+    same(&rt, mark_first(rt.alloc(), 1)?, (Err(Broken), 0));
+    same(&rt, mark_first(rt.alloc(), 0)?, (Ok(()), 1));
     Ok(())
 }

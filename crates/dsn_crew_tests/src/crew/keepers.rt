@@ -14,12 +14,15 @@ use crate::refusing::Refusing;
 use dsn_book::{Book, Keeper, Limits, NotKept};
 use dsn_crew::{Account, CrewCause, CrewFault, NoGate, run_crew_over};
 use dsn_device::Plain;
-use dsn_journal::{KeptBook, MemoryDisk, ledgers_have_earlier_histories, ledgers_have_one_history};
+use dsn_journal::{
+    KeptBook, MemoryDisk, SharedMarkCount, ledgers_have_earlier_histories, ledgers_have_one_history,
+};
 use dsn_report::{Outgoing, Site};
 use std::alloc::Global;
 use std::sync::Wait;
 use std::test::Fail;
 use std::thread::Threads;
+use std::time::Clock;
 
 /// Why a request is not kept for which there is no room.
 const NO_ROOM: CrewCause = CrewCause::Unkept(NotKept::Full);
@@ -82,7 +85,7 @@ fn refused_request_ends_a_crew(rt: HostRuntime) -> Result<(), Fail> {
 }
 
 /// What comes of a ledger over a new disk of so many bytes, and the disk.
-fn run_over_disk<R: Threads + Wait + Sync>(
+fn run_over_disk<R: Threads + Wait + Clock + Sync>(
     rt: &R,
     alloc: Global,
     size: usize,
@@ -94,7 +97,8 @@ fn run_over_disk<R: Threads + Wait + Sync>(
     }
     ledgers_have_one_history();
     ledgers_have_earlier_histories();
-    let keeper = KeptBook::new(alloc, ledger);
+    let marks = SharedMarkCount::new(rt);
+    let keeper = KeptBook::new(alloc, ledger, &marks);
     let (cause, left) = run_keeper(rt, alloc, keeper)?;
     Ok((cause, left.into_ledger().into_disk()))
 }

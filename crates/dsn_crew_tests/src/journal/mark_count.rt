@@ -1,6 +1,6 @@
 //! What a count of marked letters says to who waits for them: no contract says when.
 use crate::assert_same::same;
-use dsn_journal::{MarkCount, NoMarkCount, SharedMarkCount};
+use dsn_journal::{MarkCount, SharedMarkCount};
 
 #[test]
 fn count_says_how_many_letters_are_marked(rt: HostRuntime) {
@@ -11,5 +11,4 @@ fn count_says_how_many_letters_are_marked(rt: HostRuntime) {
     // From now on no letter will be marked.
     count.stop();
     same(&rt, (count.reaches(0), count.reaches(3)), (false, false));
-    same(&rt, NoMarkCount.reaches(0), false);
 }

@@ -199,5 +199,5 @@ fn keeper_over<D: Replaceable, C: MarkCount>(
     // A book's limits allow it a key and an outcome, as the law asks.
     let limits = ledger.book().limits();
     let (_logs, _entries) = (limits.logs(), limits.entries());
-    KeptBook::with_marks(alloc, ledger, count)
+    KeptBook::new(alloc, ledger, count)
 }

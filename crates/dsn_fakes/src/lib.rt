@@ -1,9 +1,12 @@
 //! Devices and texts for tests: readers, writers and a connection in memory that work in pieces and
-//! fail where a test sets it, and outboxes as a mail program gets them.
+//! fail where a test sets it, a disk in memory that gives what a crash may leave, and outboxes as a
+//! mail program gets them.
 #![tactic(auto)]
 
+mod memory_disk;
 mod outboxes;
 mod pieces;
 
+pub use memory_disk::MemoryDisk;
 pub use outboxes::{EMPTY, ONE_NOTICE};
 pub use pieces::{PieceConnection, PieceReader, PieceWriter};

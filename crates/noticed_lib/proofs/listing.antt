@@ -1,4 +1,3 @@
 pub mod ClosedKeysLemmas
 pub mod CopiedFolderLemmas
-pub mod CopyLemmas
 pub mod ListingLemmas

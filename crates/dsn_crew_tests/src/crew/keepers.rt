@@ -2,7 +2,7 @@
 //! comes back. A crew over a ledger: what a crash leaves at each moment of it.
 ghost use Rattle.std.specs.Prelude.{◌^◌, ◌<◌, ◌≤◌, List};
 ghost use Rattle.dsn_crew.specs.desk.Desk.{BeginsWith};
-ghost use Rattle.dsn_journal.specs.MemoryDisk.{memory_moment};
+ghost use Rattle.dsn_fakes.specs.MemoryDisk.{memory_moment};
 ghost use Rattle.dsn_outcome.specs.History.{Exchange};
 
 use super::client::{ClientPort, only_port};
@@ -14,8 +14,9 @@ use crate::refusing::Refusing;
 use dsn_book::{Book, Keeper, Limits, NotKept};
 use dsn_crew::{Account, CrewCause, CrewFault, NoGate, run_crew_over};
 use dsn_device::Plain;
+use dsn_fakes::MemoryDisk;
 use dsn_journal::{
-    KeptBook, MemoryDisk, SharedMarkCount, ledgers_have_earlier_histories, ledgers_have_one_history,
+    KeptBook, SharedMarkCount, ledgers_have_earlier_histories, ledgers_have_one_history,
 };
 use dsn_report::{Outgoing, Site};
 use std::alloc::Global;

@@ -1,6 +1,7 @@
 //! Which bytes a crash takes from a disk in memory: its contract allows that it takes none.
 use crate::assert_same::same;
-use dsn_journal::{Disk, MemoryDisk};
+use dsn_fakes::MemoryDisk;
+use dsn_journal::Disk;
 use std::alloc::Global;
 use std::test::Fail;
 

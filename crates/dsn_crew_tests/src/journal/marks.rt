@@ -1,7 +1,8 @@
 //! Files of marks, and letters that are marked in their turn.
 use crate::assert_same::same;
 use dsn_device::{Broken, Drain, Plain};
-use dsn_journal::{MarkedOutbox, Marks, MarksError, MemoryDisk};
+use dsn_fakes::MemoryDisk;
+use dsn_journal::{MarkedOutbox, Marks, MarksError};
 use std::alloc::Global;
 use std::test::Fail;
 

@@ -5,7 +5,7 @@ use Rattle.dsn_journal.specs.Header.{StandsForFile}
 use Rattle.dsn_journal.specs.InPlace.{IsLedgerInPlaceOf}
 use Rattle.dsn_journal.specs.Journal.{IsSettled}
 use Rattle.dsn_journal.specs.OpenLedger.{AwaitsRequests, Ledger}
-use Rattle.dsn_journal.specs.contracts.memory_disk.MemoryDiskDisk.TheImpl as memory
+use Rattle.dsn_fakes.specs.contracts.memory_disk.MemoryDiskDisk.TheImpl as memory
 use Rattle.dsn_journal.proofs.Goodbyes.{kept_to_carry_out}
 use Rattle.dsn_journal.proofs.KeptBooks.{has_kept}
 use Rattle.dsn_crew_tests.proofs.crew.keepers.run_over_disk.Goals as goal

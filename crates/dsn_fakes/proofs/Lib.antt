@@ -1,0 +1,3 @@
+mod MemoryCalls
+mod MemoryDiskExamples
+mod OneCallMore

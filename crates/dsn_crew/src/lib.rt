@@ -19,8 +19,7 @@ mod post;
 mod start_serving;
 
 pub use agents::{
-    Agent, AgentLine, AskFault, Finished, Gate, Next, NoGate, Port, PortEnd, ServeFault, Served,
-    serve_port,
+    Agent, AgentLine, AskFault, Finished, Gate, Next, NoGate, Port, ServeFault, Served,
 };
 pub use crew_account::Account;
 pub use crew_cause::CrewCause;
@@ -31,6 +30,5 @@ pub use lane::{
     LaneEnd, LaneGone, LaneIn, LaneLeft, LaneLists, LaneOut, LaneShut, Lost, close_lane, open_lane,
 };
 pub use post::{
-    LetterSink, LetterSource, LettersEnd, Posted, Posting, Posts, Sink, end_posting, open_post,
-    start_posting,
+    LetterSink, LetterSource, LettersEnd, Posting, Posts, Sink, open_post, start_posting,
 };

@@ -101,6 +101,7 @@ impl Agent {
 
     /// Says goodbye, which is allowed at the limit too, and waits until the collector has heard it.
     /// `Lost` (41) comes where a lane was lost before or is lost now; the agent's halves are dropped.
+    /// The agents of `run_crew` leave without it: it is for embedders and tests.
     #[tactic(auto, using(crate::proofs::agents::AgentLemmas::goodbye_fault))]
     pub fn bye(self, rt: &impl Wait) -> Result<Finished, AskFault>
         ensures bye { IsGoodbye self result }

@@ -8,11 +8,11 @@ use std::marker::Model;
 
 /// What came of an agent that served its port. One whose goodbye was not heard keeps why.
 #[derive(Drop)]
-pub struct PortEnd {
+pub(crate) struct PortEnd {
     /// What the agent did, up to its goodbye.
-    pub line: AgentLine,
+    pub(crate) line: AgentLine,
     /// The agent, once it said goodbye and was heard; none where a lane was lost.
-    pub finished: Option<Finished>,
+    pub(crate) finished: Option<Finished>,
     /// Why its goodbye was not heard.
     unheard: Option<Unheard>,
 }

@@ -21,7 +21,7 @@ const MOST_CONNECTIONS: u32 = 1_000_000;
 /// Serves the connections of a port, one after another, and then says goodbye. Each stream is
 /// dropped once it is served. Memory is taken only as a session takes it. It asks that the port may
 /// be asked, and asks it no more once it answered that it is done, or that it failed.
-pub fn serve_port<P: Port + Drop, G: Gate>(
+pub(crate) fn serve_port<P: Port + Drop, G: Gate>(
     rt: &impl Wait,
     alloc: Global,
     agent: Agent,

@@ -20,7 +20,8 @@ use std::sync::Wait;
 /// How many requests wait at most.
 const REQUESTS_WAITING: u32 = 64;
 
-/// A crew of so many agents, from agent 0 on, and its collector, over a book that is empty.
+/// A crew of so many agents, from agent 0 on, and its collector, over a book that is empty. It is for
+/// embedders and tests: `run_crew` opens its crew itself.
 ///
 /// `AgentCount` (43) comes where there are not 1 to 16 agents, before any memory is taken;
 /// `NoMemory` (42) only where memory was refused.
@@ -45,8 +46,8 @@ pub fn open_crew(
 }
 
 /// A crew of so many agents, from agent 0 on, and its collector, over what carries their requests
-/// out. It asks that there is a history to begin with, after which nothing is awaited, and that fewer
-/// than 2^63 letters were sealed by it.
+/// out, as [`open_crew`] opens one. Requires that there is a history to begin with, after which nothing
+/// is awaited, and that fewer than 2^63 letters were sealed by it.
 ///
 /// `AgentCount` (43) comes where there are not 1 to 16 agents, before any memory is taken;
 /// `NoMemory` (42) only where memory was refused.

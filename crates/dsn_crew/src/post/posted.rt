@@ -4,18 +4,18 @@ use dsn_outcome::Letters;
 
 /// An outbox at its end, once all its letters were sent and its poster has ended.
 #[derive(Drop)]
-pub struct Posted<W> {
+pub(crate) struct Posted<W> {
     /// The outbox.
-    pub outbox: W,
+    pub(crate) outbox: W,
     /// Whether nothing failed, so that the outbox has the notice of each letter that came to the
     /// poster, and its end.
-    pub whole: bool,
+    pub(crate) whole: bool,
     /// The letters that came to the poster and could not be written, in order.
-    pub unsent: Letters,
+    pub(crate) unsent: Letters,
     /// How many letters were posted.
-    pub posted: u32,
+    pub(crate) posted: u32,
     /// Whether all letters came to the poster, and the end mark after them; else the lane was lost.
-    pub all: bool,
+    pub(crate) all: bool,
     /// Where the lane was lost: what the lane reported.
-    pub lost: Option<LaneGone>,
+    pub(crate) lost: Option<LaneGone>,
 }

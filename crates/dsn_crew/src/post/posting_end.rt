@@ -13,7 +13,7 @@ use std::thread::{PromisedHandle, Threads};
 
 /// Sends the end mark, waits for the poster's thread to end, closes the lane, and ends the outbox.
 /// Requires that no letter was unsent when the thread was started. It takes no memory.
-pub fn end_posting<W: Drain + Drop>(
+pub(crate) fn end_posting<W: Drain + Drop>(
     rt: &(impl Threads + Wait),
     sink: LetterSink,
     handle: PromisedHandle<Posting<W>, Posts<W>>,

@@ -47,7 +47,7 @@ CALLS = {
     "clean": 1,
     "raw-header": 1,
     "outcome": 2,
-    "draft": 2,
+    "draft": 1,
     "book": 2,
     "open-lines": 1,
     "read-frame": 1,

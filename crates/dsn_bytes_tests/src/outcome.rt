@@ -1,8 +1,8 @@
 //! Tests of values, over what `dsn_outcome` makes public, that of `dsn_text` among it.
 use crate::assert_same::same;
 use dsn_outcome::{
-    Address, Chain, Draft, Key, LAST_MOMENT, Letter, Letters, Outcome, Parts, QueueId, RawHeader,
-    Service, Stamp, Types, Wishes,
+    Chain, Draft, DraftParts, Key, LAST_MOMENT, Letter, Letters, Outcome, Parts, QueueId, Service,
+    Stamp, Types,
 };
 use std::alloc::Global;
 use std::process::Abort;
@@ -36,11 +36,9 @@ const EXTENSIONS: &[u8] = b"X-A: : b \n";
 pub(crate) fn letter(alloc: Global, header: &[u8]) -> Result<Letter, Fail> {
     let moment = Stamp::new(1).ok_or("the moment")?;
     let id = QueueId::new(b"A").ok_or("the queue id")?;
-    let sender = Address::new(alloc, b"ann@example.com")?;
-    let header = RawHeader::new(alloc, header)?;
-    let wishes = Wishes::usual();
-    let draft = Draft::new(alloc, moment, moment, Some(sender), None, header, wishes)?;
-    let draft = draft.with_extensions(alloc, EXTENSIONS)?;
+    let mut fields = DraftParts::usual(b"ann@example.com", b"", header);
+    fields.extensions = EXTENSIONS;
+    let draft = Draft::read(alloc, moment, moment, fields)?;
     let parts = Parts {
         recipient: b"bob@example.org",
         original: b"",

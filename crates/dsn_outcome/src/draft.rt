@@ -1,6 +1,6 @@
 //! What a flush says of its notice. Implements docs/FORMATS.md, "Flush: close the log and make its
 //! notice".
-ghost use Rattle.std.specs.Prelude.{◌≡◌, ◌≤◌, ◌↔◌, [], length, IsTrue, IsSome, IfOk, IfErr, OnOk, Some, None, unwrap_or, if◌then◌else◌};
+ghost use Rattle.std.specs.Prelude.{◌≡◌, ◌≤◌, ◌↔◌, [], length, IsTrue, IsSome, IfOk, IfErr, OnOk, Some, None, unwrap_or};
 ghost use Rattle.dsn_outcome.specs.Draft.{first_draft_fault, is_count};
 ghost use Rattle.dsn_outcome.specs.DraftParts.{draft_fields_of};
 ghost use Rattle.dsn_outcome.specs.Returned.{returned_of_byte};
@@ -44,6 +44,7 @@ impl Model for Draft {
 impl Draft {
     /// A draft without extension fields. `None` as return path is the null path of RFC 5321 section
     /// 4.5.5, to which no notice is sent. Returns `NoMemory` only if the memory for it was refused.
+    /// It is for embedders and tests: a flush's fields are read by [`Draft::read`].
     pub fn new(
         alloc: Global,
         moment: Stamp,
@@ -91,24 +92,6 @@ impl Draft {
             Ok(cell) => Ok(Draft { cell }),
             Err(_) => Err(NoMemory),
         }
-    }
-
-    /// The same draft with these extension fields of the message (RFC 3464 section 2.4), or with
-    /// none for an empty text. The text is tested before memory is taken.
-    pub fn with_extensions(self, alloc: Global, text: &[u8]) -> Result<Draft, DraftFault>
-        ensures set { IfOk result (λ draft. draft ≡ record self { extensions = text.now }) }
-        ensures accepted { OnOk result (IsTrue (is_extension_text text.now)) }
-        ensures refused { IfErr result
-            (λ fault. fault
-            ≡ (if is_extension_text text.now then DraftFault.NoMemory else DraftFault.Extensions)) }
-    {
-        if !is_extension_text(text) {
-            return Err(DraftFault::Extensions);
-        }
-        let extensions = ExtensionFields::kept(alloc, text)?;
-        let Draft { mut cell } = self;
-        cell.terms.extensions = extensions;
-        Ok(Draft { cell })
     }
 
     /// The draft of these fields, which are tested in the order of `DraftFault`'s variants before

@@ -1,9 +1,12 @@
 //! What is asked: fields, texts and bodies.
 use dsn_outcome::{
-    Address, Body, Draft, EnvelopeId, Key, Node, Outcome, OutcomeFault, Parts, QueueId, RawHeader,
-    Service, Stamp, Types, Wishes,
+    Address, Body, Draft, DraftParts, EnvelopeId, Key, Node, Outcome, OutcomeFault, Parts, QueueId,
+    RawHeader, Service, Stamp, Types,
 };
 use std::alloc::Global;
+
+/// The header of a message.
+const HEADER: &[u8] = b"Subject: hi\nX: y\n";
 
 /// What became of a failed recipient, with all the texts that there may be.
 pub(crate) fn outcome(alloc: Global) -> Result<Box<Node>, OutcomeFault> {
@@ -35,30 +38,18 @@ pub(crate) fn envelope_id(alloc: Global) -> Option<EnvelopeId> {
 
 /// A header of two lines.
 pub(crate) fn header(alloc: Global) -> Option<RawHeader> {
-    RawHeader::new(alloc, b"Subject: hi\nX: y\n").ok()
+    RawHeader::new(alloc, HEADER).ok()
 }
 
 /// The extension fields of a message.
-pub(crate) const EXTENSIONS: &[u8] = b"X-Postfix-Queue-ID: 4F9D195432C\n";
+const EXTENSIONS: &[u8] = b"X-Postfix-Queue-ID: 4F9D195432C\n";
 
 /// A draft of a notice to the return path.
 pub(crate) fn draft(alloc: Global) -> Option<Draft> {
     let moment = Stamp::new(1_700_000_000)?;
-    let return_path = return_path(alloc)?;
-    let header = header(alloc)?;
-    let wishes = Wishes::usual();
-    Draft::new(
-        alloc,
-        moment,
-        moment,
-        Some(return_path),
-        None,
-        header,
-        wishes,
-    )
-    .ok()?
-    .with_extensions(alloc, EXTENSIONS)
-    .ok()
+    let mut fields = DraftParts::usual(b"ann@example.com", b"", HEADER);
+    fields.extensions = EXTENSIONS;
+    Draft::read(alloc, moment, moment, fields).ok()
 }
 
 /// The key of a message's bounce log.

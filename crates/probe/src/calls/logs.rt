@@ -1,10 +1,8 @@
 //! Outcomes, drafts, and a book of logs.
-use crate::calls::asked::{EXTENSIONS, append, envelope_id, header, return_path};
+use crate::calls::asked::{append, envelope_id, header, return_path};
 use crate::calls::{asked, begin};
 use dsn_book::{Book, Limits};
-use dsn_outcome::{
-    Body, Draft, DraftFault, Letter, OutcomeFault, Request, Returned, Stamp, Wishes, Wording,
-};
+use dsn_outcome::{Body, Draft, Letter, OutcomeFault, Request, Returned, Stamp, Wishes, Wording};
 use std::alloc::Global;
 
 /// An outcome with all its texts.
@@ -17,7 +15,7 @@ pub(crate) fn outcome(rt: &impl Print, alloc: Global) -> Option<u32> {
     }
 }
 
-/// A draft with all that it may have.
+/// A draft with all that it may have except extension fields.
 pub(crate) fn draft(rt: &impl Print, alloc: Global) -> Option<u32> {
     let moment = Stamp::new(1_700_000_000)?;
     let return_path = return_path(alloc)?;
@@ -29,7 +27,7 @@ pub(crate) fn draft(rt: &impl Print, alloc: Global) -> Option<u32> {
         returned: Returned::Header,
         wording: Wording::ByService,
     };
-    let Ok(draft) = Draft::new(
+    let draft = Draft::new(
         alloc,
         moment,
         moment,
@@ -37,14 +35,8 @@ pub(crate) fn draft(rt: &impl Print, alloc: Global) -> Option<u32> {
         Some(envelope_id),
         header,
         wishes,
-    ) else {
-        return Some(9);
-    };
-    match draft.with_extensions(alloc, EXTENSIONS) {
-        Ok(_) => Some(0),
-        Err(DraftFault::NoMemory) => Some(9),
-        Err(_) => None,
-    }
+    );
+    Some(if draft.is_ok() { 0 } else { 9 })
 }
 
 /// A book for eight logs.

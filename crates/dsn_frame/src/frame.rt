@@ -59,7 +59,7 @@ impl Frame {
 /// anything of the body is read. After a fault the source is to be used no further. It makes at
 /// most 65,540 reads.
 ///
-/// It takes memory for each frame, and is for those who keep frames; a
+/// It takes memory for each frame, and is for embedders and tests that keep frames; the daemon's
 /// [`FrameBuffer`](crate::FrameBuffer) is reused.
 #[tactic(auto, using(crate::proofs::FrameLaws::frame_read, crate::proofs::FrameLaws::length_missed, crate::proofs::FrameLaws::frame_missed))]
 pub fn read_frame<S: Source>(alloc: Global, source: &mut S) -> Result<Option<Frame>, FrameFault>
@@ -103,7 +103,7 @@ pub(crate) fn read_length<S: Source>(source: &mut S) -> Result<Option<usize>, Fr
     if count < 4 {
         return Err(FrameFault::CutShort);
     }
-    let size = number_in(&bytes) as usize;
+    let size = number_in(bytes) as usize;
     // After a bad length nothing says where the next frame begins: so it ends the session.
     if size > LONGEST_BODY {
         return Err(FrameFault::TooLong);
@@ -176,10 +176,9 @@ pub(crate) fn fill_frame<S: Source>(
 
 /// The number that four bytes are, the highest first.
 #[tactic(auto, using(std::proofs::lemmas::Nat::be_bytes_4))]
-fn number_in(bytes: &[u8]) -> u32
-    requires { length bytes.now ≡ length_prefix }
-    ensures value { result ≡ from_be_bytes w32 bytes.now }
-    ensures written { bytes.now ≡ to_be_bytes w32 result }
+pub(crate) fn number_in(bytes: [u8; 4]) -> u32
+    ensures value { result ≡ from_be_bytes w32 bytes }
+    ensures written { bytes ≡ to_be_bytes w32 result }
 {
-    u32::from_be_bytes([bytes[0], bytes[1], bytes[2], bytes[3]])
+    u32::from_be_bytes(bytes)
 }

@@ -1,12 +1,13 @@
 //! Answers to frames, and back.
 //! Implements docs/FORMATS.md, "Answers".
 ghost use Rattle.std.specs.Prelude.{◌≡◌, ◌≢◌, ◌⊎◌, ℕ, ◌≤◌, [], ◌∷◌, ◌++◌, length, true, IfOk, IfErr, IfSome, OnOk, Ok, Some, None};
-ghost use Rattle.std.specs.Int.{w32, from_be_bytes, to_be_bytes};
+ghost use Rattle.std.specs.Int.{w32, to_be_bytes};
 ghost use Rattle.dsn_frame.specs.bodies.Spoken.{FitsAnswer, answer_body, answer_bytes, first_answer_fault, is_without_rest, is_without_value, reply_kind, reply_value, sealed_kind, serial_bytes, spoken_kind, spoken_serial, spoken_value};
 
 use crate::bodies::VERSION;
 use crate::bodies::answer_fault::AnswerFault;
 use crate::bodies::spoken::Spoken;
+use crate::frame::number_in;
 use dsn_outcome::{Replied, Reply, ShortText};
 
 /// How many bytes an answer's body has.
@@ -165,15 +166,6 @@ fn answer_from(kind: u8, value: u32, serial: Option<u64>) -> Option<Spoken>
         _ => Reply::NotClosed,
     };
     Some(Spoken::Reply(Replied { reply, serial }))
-}
-
-/// The number that four bytes are, the highest first.
-#[tactic(auto, using(std::proofs::lemmas::Nat::be_bytes_4))]
-fn number_in(bytes: [u8; 4]) -> u32
-    ensures value { result ≡ from_be_bytes w32 bytes }
-    ensures written { bytes ≡ to_be_bytes w32 result }
-{
-    u32::from_be_bytes(bytes)
 }
 
 /// The serial that eight bytes are, the highest first; none where there are no bytes.

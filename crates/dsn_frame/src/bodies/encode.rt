@@ -26,7 +26,8 @@ use std::alloc::Global;
 
 /// The whole frame of a request: its length, and a body that encodes this number and this request.
 /// A diagnostic and a reason are written as the outcome keeps them, clean. Memory for the frame is
-/// taken at once, so `NoMemory` comes before a byte is written.
+/// taken at once, so `NoMemory` comes before a byte is written. It is for
+/// embedders and tests.
 ///
 /// Its contract has both the bytes and that they encode the request. The bytes alone wouldn't fix
 /// the format's meaning. The meaning alone wouldn't fix the bytes: a diagnostic's unprintable bytes

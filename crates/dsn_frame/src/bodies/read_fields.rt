@@ -11,6 +11,7 @@ use crate::bodies::body_parts::{
     BodyParts, FlushParts, HeadParts, RecipientParts, RetryParts, TypeParts, WishParts,
 };
 use crate::bodies::{THIRD_VERSION, VERSION};
+use crate::frame::number_in;
 use dsn_outcome::Types;
 
 fn byte_of(bytes: &[u8]) -> Option<(u8, &[u8])>
@@ -41,8 +42,7 @@ fn u32_of(bytes: &[u8]) -> Option<(u32, &[u8])>
         return None;
     }
     let (front, rest) = bytes.split_at(4);
-    let number = u32::from_be_bytes([front[0], front[1], front[2], front[3]]);
-    Some((number, rest))
+    Some((number_in([front[0], front[1], front[2], front[3]]), rest))
 }
 
 #[tactic(auto, unfolding(crate::specs::bodies::Wire::number_at))]

@@ -11,7 +11,7 @@ use crate::ruled_out_boundaries::{first_free, numbers_ruled_out};
 use dsn_outcome::Letter;
 
 /// The number of the boundary of a letter's notice: the least that no returned line rules out. It
-/// takes no memory.
+/// takes no memory. It is for embedders and tests.
 pub fn boundary(letter: &Letter) -> u16
     ensures least { IsBoundaryNumber letter.now result }
     ensures number { result ≡ boundary_number letter.now }

@@ -9,8 +9,5 @@ mod turn;
 mod whole_batch;
 
 pub use batch_end::BatchEnd;
-pub use dsn_book::Limits;
-pub use dsn_frame::Spoken;
-pub use dsn_report::Site;
 pub use memory_run::{MemoryRun, batch_bytes};
 pub use whole_batch::batch;

@@ -20,10 +20,7 @@ mod watched_outbox;
 
 pub use journal_folder::JournalFolder;
 pub use journaled_end::JournaledEnd;
-pub use no_watch::NoWatch;
 pub use serve_end::ServeEnd;
-pub use serve_over_journal::serve_ports_over;
-pub use serve_over_ports::serve_ports;
 pub use serve_over_sockets::{serve, serve_journaled, serve_watched};
 pub use socket_watch::{SocketWatch, WatchOptions};
 pub use watch::Watch;

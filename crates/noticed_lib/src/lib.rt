@@ -9,12 +9,11 @@ mod listing;
 mod notes;
 
 pub use batch_run::{BatchEnd, MemoryRun, batch, batch_bytes};
-pub use client::{SendEnd, SendFault, send, sends_are_sessions_of_a_client};
+pub use client::{SendEnd, send, sends_are_sessions_of_a_client};
 pub use daemon::{
-    JournalFolder, JournaledEnd, NoWatch, ServeEnd, SocketWatch, Watch, WatchOptions,
-    WatchedOutbox, serve, serve_journaled, serve_ports, serve_ports_over, serve_watched,
+    JournalFolder, JournaledEnd, ServeEnd, SocketWatch, Watch, WatchOptions, WatchedOutbox, serve,
+    serve_journaled, serve_watched,
 };
 pub use dsn_book::Limits;
-pub use dsn_frame::Spoken;
 pub use dsn_report::Site;
 pub use listing::{ListingFault, list_journal};

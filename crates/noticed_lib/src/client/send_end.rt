@@ -5,7 +5,6 @@
 pub struct SendEnd {
     /// The exit status: 1 where there was a fault, else 0.
     pub status: u8,
-    /// The number of the fault that ended the send, as [`SendFault`](crate::client::SendFault) has them;
-    /// none where the input was answered to its end.
+    /// The number of the fault that ended the send; none if the input was answered to its end.
     pub fault: Option<u32>,
 }

@@ -4,7 +4,7 @@ use std::io;
 
 /// A watch under which a run goes on to its last connection, without time limits.
 #[derive(Clone, Copy)]
-pub struct NoWatch;
+pub(crate) struct NoWatch;
 
 impl Watch for NoWatch {
     ghost may_end = { λ _. ⊥ };

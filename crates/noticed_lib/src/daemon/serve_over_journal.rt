@@ -17,7 +17,7 @@ use std::sync::Wait;
 use std::thread::Threads;
 use std::time::Clock;
 
-/// Serves these ports as [`serve_ports`](crate::serve_ports) does, over a journal: each request is
+/// Serves these ports as `serve_ports` does, over a journal: each request is
 /// kept on its disk before it is carried out and answered, and each letter is marked once its notice
 /// was written to `outbox` and flushed. It begins with what the disk holds: the open logs and the
 /// closed keys, and the letters that no mark counts, which are posted first.
@@ -25,7 +25,7 @@ use std::time::Clock;
 /// A journal that gets full is put away for a shorter one within the run, once all letters that were
 /// sealed are marked; it is waited for that for some seconds.
 ///
-/// Beside what [`serve_ports`](crate::serve_ports) notes, the number of a fault comes for a request
+/// Beside what `serve_ports` notes, the number of a fault comes for a request
 /// that was not kept (45), which ends the run; and of a run that does not begin: for a disk that
 /// can't be opened (9, 71 to 77), and where one of the first letters could not be written or marked
 /// (31).
@@ -34,7 +34,7 @@ use std::time::Clock;
 /// this run, and the first of the requests that were taken, and no other. Each request is among them
 /// before its answer is sent. Of the marks a crash leaves, once they are opened, a count of the first
 /// letters, all of which are written to `outbox` and flushed by the end of the run.
-pub fn serve_ports_over<
+pub(crate) fn serve_ports_over<
     R: Threads + Wait + Clock + Sync,
     P: Port + Drop + Send,
     W: Drain + Drop + Send,

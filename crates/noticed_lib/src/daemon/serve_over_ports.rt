@@ -18,7 +18,7 @@ use std::thread::Threads;
 /// open, or that their list found no memory (9). Of a crew's fault (41, 42, 43) it writes the number
 /// and the letters alone. Nothing is written once a line could not be written. As the crew does it
 /// asks that each port may be asked, which is so of every port that doesn't say when it can be.
-pub fn serve_ports<
+pub(crate) fn serve_ports<
     R: Threads + Wait + Sync,
     P: Port + Drop + Send,
     W: Drain + Drop + Send,

@@ -30,7 +30,7 @@ use std::time::Clock;
 /// How many agents a crew has at most.
 const MOST_AGENTS: u32 = 16;
 
-/// Serves what connects to `listener` by a crew of `agents` agents, as [`serve_ports`] does. All of
+/// Serves what connects to `listener` by a crew of `agents` agents, as `serve_ports` does. All of
 /// them accept on the one listener, and each is done once it has served `max_use` connections; its
 /// port fails where an accept fails. Where there are not 1 to 16 agents that is noted (43) before
 /// any memory is taken; refused memory for the ports is noted as the crew's is (42).
@@ -76,7 +76,7 @@ pub fn serve_watched<R: Threads + Wait + Sync, H: Watch + Sync, W: Drain + Drop 
     )
 }
 
-/// Serves as [`serve_watched`] does, over the disks of a journal's folder, as [`serve_ports_over`] has
+/// Serves as [`serve_watched`] does, over the disks of a journal's folder, as `serve_ports_over` has
 /// it. Where there are not 1 to 16 agents that is noted (43) before a disk is touched.
 pub fn serve_journaled<
     R: Threads + Wait + Clock + Sync,

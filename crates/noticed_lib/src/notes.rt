@@ -3,6 +3,6 @@ mod last_lines;
 mod note_lines;
 
 pub use last_lines::write_last_lines;
-pub(crate) use last_lines::write_open_lines;
+pub(crate) use last_lines::{status_of, write_open_lines};
 pub(crate) use note_lines::push_key;
 pub use note_lines::{answer_line, fault_line, unsent_line};

@@ -1,5 +1,5 @@
 //! A whole run on one thread: frames in, an outbox and notes out.
-ghost use Rattle.std.specs.Prelude.{◌≡◌, ℕ, ◌≤◌, ◌||◌, not, List, [], is_some, if◌then◌else◌};
+ghost use Rattle.std.specs.Prelude.{◌≡◌, ℕ, ◌≤◌, List, [], if◌then◌else◌};
 ghost use Rattle.std.specs.Option.{option_map};
 ghost use Rattle.std.specs.Result.{result_ok};
 ghost use Rattle.dsn_book.specs.Book.{Represents};
@@ -14,7 +14,7 @@ use crate::batch_run::batch_end::BatchEnd;
 use crate::batch_run::reading::read_all;
 use crate::batch_run::reading_end::ReadingEnd;
 use crate::batch_run::run::Run;
-use crate::notes::write_last_lines;
+use crate::notes::{status_of, write_last_lines};
 use dsn_book::{Book, Limits, OpenLine};
 use dsn_device::{Drain, Source, UntilFailure};
 use dsn_outcome::NoMemory;
@@ -127,7 +127,7 @@ fn end<W: Drain, N: Drain>(harvest: Harvest<W>, notes: &mut N) -> BatchEnd<W>
     };
     let unsent = write_last_lines(notes, &mut writing, reading.code(), whole, unsent, &logs);
     let fault = fault_after(writing.failed, reading);
-    let status = status_of(fault, whole, logs.is_ok());
+    let status = status_of(false, fault, whole, logs.is_ok());
     BatchEnd {
         outbox,
         whole,
@@ -145,17 +145,5 @@ fn fault_after(lost: bool, reading: ReadingEnd) -> Option<u32>
         ReadingEnd::NotesLost.code()
     } else {
         reading.code()
-    }
-}
-
-/// The exit status.
-fn status_of(fault: Option<u32>, whole: bool, listed: bool) -> u8
-    ensures { result ≡ (if is_some fault || (not whole || not listed) then 1 else 0) }
-{
-    // A refused body is no fault: it was answered.
-    if fault.is_some() || !whole || !listed {
-        1
-    } else {
-        0
     }
 }

@@ -1,5 +1,5 @@
 //! The notes of a run, and its exit status.
-ghost use Rattle.std.specs.Prelude.{◌≡◌, ◌||◌, not, true, List, [], is_some, if◌then◌else◌};
+ghost use Rattle.std.specs.Prelude.{◌≡◌, true, List, []};
 ghost use Rattle.std.specs.List.{list_any};
 ghost use Rattle.dsn_book.specs.Book.{Represents};
 ghost use Rattle.dsn_device.specs.UntilFailure.{WritesUntilFailure};
@@ -12,7 +12,7 @@ ghost use Rattle.noticed_lib.specs.daemon.Serve.{WritesAccount, WritesNumber, Wr
 use crate::daemon::agent_lines::agent_line;
 use crate::daemon::journaled_end::JournaledEnd;
 use crate::daemon::serve_end::ServeEnd;
-use crate::notes::write_last_lines;
+use crate::notes::{status_of, write_last_lines};
 use dsn_book::Book;
 use dsn_crew::{Account, AgentLine};
 use dsn_device::{Drain, UntilFailure};
@@ -158,15 +158,4 @@ fn has_failed_port(agents: &[AgentLine]) -> bool
     ensures { result ≡ list_any (λ line. line.port_failed) agents.now }
 {
     agents.iter().any(|line| line.port_failed)
-}
-
-/// The exit status.
-fn status_of(lost: bool, fault: Option<u32>, whole: bool, listed: bool) -> u8
-    ensures { result ≡ (if lost || (is_some fault || (not whole || not listed)) then 1 else 0) }
-{
-    if lost || fault.is_some() || !whole || !listed {
-        1
-    } else {
-        0
-    }
 }

@@ -1,5 +1,5 @@
 //! The last lines of the notes.
-ghost use Rattle.std.specs.Prelude.{◌≡◌, ◌++◌};
+ghost use Rattle.std.specs.Prelude.{◌≡◌, ◌++◌, ◌||◌, not, is_some, if◌then◌else◌};
 ghost use Rattle.std.specs.Result.{result_ok};
 ghost use Rattle.std.specs.Option.{option_map};
 ghost use Rattle.std.specs.List.{flat_map};
@@ -33,6 +33,19 @@ pub fn write_last_lines<N: Drain>(
     let unsent = write_unsent(notes, writing, unsent);
     write_open(notes, writing, logs);
     unsent
+}
+
+/// The exit status: 1 if a line of the notes was lost, if there was a fault, if the outbox isn't whole,
+/// or if the open logs could not be listed.
+pub(crate) fn status_of(lost: bool, fault: Option<u32>, whole: bool, listed: bool) -> u8
+    ensures { result ≡ (if lost || (is_some fault || (not whole || not listed)) then 1 else 0) }
+{
+    // A refused body is no fault: it was answered.
+    if lost || fault.is_some() || !whole || !listed {
+        1
+    } else {
+        0
+    }
 }
 
 #[tactic(auto, unfolding(crate::specs::notes::Notes::fault_lines))]

@@ -18,14 +18,14 @@ use Rattle.dsn_postfix_service.specs.declared.requests.telling.Telling.{Telling}
 use Rattle.dsn_postfix_service.specs.declared.requests.telling.Telling.TheVariants.{Told, Unsayable, RefusedForGood, Failed, NoMemory as TellingNoMemory}
 use Rattle.dsn_postfix_service.specs.requests.AppendDeeds.{IsAppended, IsLogged, record_bytes}
 use Rattle.dsn_postfix_service.specs.requests.AppendDeeds as append
-use Rattle.dsn_postfix_service.specs.requests.CarriedOut.{Cleans, IsCarriedOut, IsDone, flags_of, must_clean, queue_id_of}
+use Rattle.dsn_postfix_service.specs.requests.CarriedOut.{Cleans, IsCarriedOut, IsDone, flags_of, must_clean, queue_id_of, task_of}
 use Rattle.dsn_postfix_service.specs.requests.Deed.{Answer, Appended, Deed, HandedIn, LogRead, LogReleased, LogRemoved, LogSought, MarkedDone, MessageRead, PassedOn}
 use Rattle.dsn_postfix_service.specs.requests.MailFound.{readings}
 use Rattle.dsn_postfix_service.specs.requests.NoticeDeeds.{EndsTelling, IsNotified}
 use Rattle.dsn_postfix_service.specs.requests.RequestLaws.{AreAllTold, AreHandedIn, AreToldFirst, HandsInOnce, IsLeftToPostfix, IsRemovedAfter, IsTellingDone, StandsOrIsPassedOn, hand_ins}
 use Rattle.dsn_postfix_service.specs.requests.RequestLetters.{AreLettersOf, message_said}
 use Rattle.dsn_postfix_service.specs.requests.RequestStatus.{RequestAnswer, carried_out, has_flag, is_carried_out, not_carried_out, status_after, status_passed_on}
-use Rattle.dsn_postfix_service.specs.requests.ServiceSettings.{SettingsSaid}
+use Rattle.dsn_postfix_service.specs.requests.Task.{Task, Terms}
 use Rattle.dsn_postfix_service.proofs.RequestLawLemmas.{Block, RemovesNone, hand_ins-append, is_removal}
 use Rattle.dsn_postfix_service.proofs.TellingParts.{IsRemovalPart, LeftOver, NotifiedParts, ToldSo, notified_parts, nothing_removed, removed_told}
 
@@ -37,14 +37,14 @@ some_is x y e = ap (λ (o : Option _). unwrap_or o x) e
 no_notice : (notice : NoticeRequest) → None ≡ Some notice → ⊥
 no_notice notice e = cc
 
-done_notified : (settings : SettingsSaid) (service : Service) (request : PostfixRequest) (notice : NoticeRequest) (bytes : List ℕ) (moment serial : ℕ) (answer : RequestAnswer) (gained : List Deed)
-    → notice_asked request ≡ Some notice → IsDone settings service request bytes moment serial answer gained → IsNotified settings service request notice bytes moment serial answer gained
-done_notified settings service (Append append) notice bytes moment serial answer gained e is = absurd (no_notice notice e)
-done_notified settings service (Flush own) notice bytes moment serial answer gained e is = subst (λ (n : NoticeRequest). IsNotified settings service (Flush own) n bytes moment serial answer gained) (some_is own notice e) is
-done_notified settings service (Warn own) notice bytes moment serial answer gained e is = subst (λ (n : NoticeRequest). IsNotified settings service (Warn own) n bytes moment serial answer gained) (some_is own notice e) is
-done_notified settings service (Verp own delimiters) notice bytes moment serial answer gained e is = subst (λ (n : NoticeRequest). IsNotified settings service (Verp own delimiters) n bytes moment serial answer gained) (some_is own notice e) is
-done_notified settings service (One own recipient report) notice bytes moment serial answer gained e is = subst (λ (n : NoticeRequest). IsNotified settings service (One own recipient report) n bytes moment serial answer gained) (some_is own notice e) is
-done_notified settings service (Trace own) notice bytes moment serial answer gained e is = subst (λ (n : NoticeRequest). IsNotified settings service (Trace own) n bytes moment serial answer gained) (some_is own notice e) is
+done_notified : (terms : Terms) (request : PostfixRequest) (notice : NoticeRequest) (bytes : List ℕ) (answer : RequestAnswer) (gained : List Deed)
+    → notice_asked request ≡ Some notice → IsDone terms request bytes answer gained → IsNotified (task_of terms request notice) bytes answer gained
+done_notified terms (Append append) notice bytes answer gained e is = absurd (no_notice notice e)
+done_notified terms (Flush own) notice bytes answer gained e is = subst (λ (n : NoticeRequest). IsNotified (task_of terms (Flush own) n) bytes answer gained) (some_is own notice e) is
+done_notified terms (Warn own) notice bytes answer gained e is = subst (λ (n : NoticeRequest). IsNotified (task_of terms (Warn own) n) bytes answer gained) (some_is own notice e) is
+done_notified terms (Verp own delimiters) notice bytes answer gained e is = subst (λ (n : NoticeRequest). IsNotified (task_of terms (Verp own delimiters) n) bytes answer gained) (some_is own notice e) is
+done_notified terms (One own recipient report) notice bytes answer gained e is = subst (λ (n : NoticeRequest). IsNotified (task_of terms (One own recipient report) n) bytes answer gained) (some_is own notice e) is
+done_notified terms (Trace own) notice bytes answer gained e is = subst (λ (n : NoticeRequest). IsNotified (task_of terms (Trace own) n) bytes answer gained) (some_is own notice e) is
 
 id_of : (request : PostfixRequest) (notice : NoticeRequest) → notice_asked request ≡ Some notice → queue_id_of request ≡ notice.queue_id
 id_of (Append append) notice e = absurd (no_notice notice e)
@@ -148,29 +148,29 @@ cleaned_last service other request named false cleaned more after given cleans e
 -- ---- a removal
 
 -- after the telling only CLEAN removes
-after_tail : (settings : SettingsSaid) (service other : Service) (request : PostfixRequest) (notice : NoticeRequest) (moment serial : ℕ) (answer : RequestAnswer) (tail cleaned before more after : List Deed) (named : List ℕ) (given : Answer)
-    → notice_asked request ≡ Some notice → Block tail [] → Cleans service request (must_clean request answer) cleaned
-    → tail ++ cleaned ≡ more ++ LogRemoved other named given ∷ after → IsRemovedAfter settings service request notice moment serial answer before after other named
-after_tail settings service other request notice moment serial answer tail cleaned before more after named given asked block cleans e =
+after_tail : (task : Task) (other : Service) (answer : RequestAnswer) (tail cleaned before more after : List Deed) (named : List ℕ) (given : Answer)
+    → notice_asked task.request ≡ Some task.notice → Block tail [] → Cleans task.terms.service task.request (must_clean task.request answer) cleaned
+    → tail ++ cleaned ≡ more ++ LogRemoved other named given ∷ after → IsRemovedAfter task answer before after other named
+after_tail task other answer tail cleaned before more after named given asked block cleans e =
     let past = past_block tail cleaned more after (LogRemoved other named given) block.keeps refl e in
-    let last = cleaned_last service other request named (must_clean request answer) cleaned past.more after given cleans past.rest_is in
-    record { of_service = last.of_service; of_message = last.of_message ∙ id_of request notice asked; told = inr (last.is_due, last.none_after) }
+    let last = cleaned_last task.terms.service other task.request named (must_clean task.request answer) cleaned past.more after given cleans past.rest_is in
+    record { of_service = last.of_service; of_message = last.of_message ∙ id_of task.request task.notice asked; told = inr (last.is_due, last.none_after) }
 
-at_removal : (settings : SettingsSaid) (service other : Service) (request : PostfixRequest) (notice : NoticeRequest) (moment serial : ℕ) (answer : RequestAnswer) (front removal tail cleaned before more after : List Deed) (named : List ℕ) (given : Answer)
-    → notice_asked request ≡ Some notice → IsRemovalPart settings service request notice moment serial front removal → Block tail [] → Cleans service request (must_clean request answer) cleaned
-    → before ≡ front ++ more → removal ++ (tail ++ cleaned) ≡ more ++ LogRemoved other named given ∷ after → IsRemovedAfter settings service request notice moment serial answer before after other named
-at_removal settings service other request notice moment serial answer front removal tail cleaned before more after named given asked (nothing_removed none) tail_block cleans before_is e =
-    after_tail settings service other request notice moment serial answer tail cleaned before more after named given asked tail_block cleans
+at_removal : (task : Task) (other : Service) (answer : RequestAnswer) (front removal tail cleaned before more after : List Deed) (named : List ℕ) (given : Answer)
+    → notice_asked task.request ≡ Some task.notice → IsRemovalPart task front removal → Block tail [] → Cleans task.terms.service task.request (must_clean task.request answer) cleaned
+    → before ≡ front ++ more → removal ++ (tail ++ cleaned) ≡ more ++ LogRemoved other named given ∷ after → IsRemovedAfter task answer before after other named
+at_removal task other answer front removal tail cleaned before more after named given asked (nothing_removed none) tail_block cleans before_is e =
+    after_tail task other answer tail cleaned before more after named given asked tail_block cleans
     (ap (λ (deeds : List Deed). deeds ++ (tail ++ cleaned)) (sym none) ∙ e)
-at_removal settings service other request notice moment serial answer front removal tail cleaned before [] after named given asked (removed_told came is told) tail_block cleans before_is e =
-    let same = same_removal service other notice.queue_id named came given (tail ++ cleaned) after (ap (λ (deeds : List Deed). deeds ++ (tail ++ cleaned)) (sym is) ∙ e) in
+at_removal task other answer front removal tail cleaned before [] after named given asked (removed_told came is told) tail_block cleans before_is e =
+    let same = same_removal task.terms.service other task.notice.queue_id named came given (tail ++ cleaned) after (ap (λ (deeds : List Deed). deeds ++ (tail ++ cleaned)) (sym is) ∙ e) in
     record {
       of_service = same.of_service;
       of_message = same.of_message;
-      told = inl (subst (λ (deeds : List Deed). AreAllTold settings service request notice moment serial deeds) (sym (before_is ∙ append-nil front)) told);
+      told = inl (subst (λ (deeds : List Deed). AreAllTold task deeds) (sym (before_is ∙ append-nil front)) told);
     }
-at_removal settings service other request notice moment serial answer front removal tail cleaned before (deed ∷ more) after named given asked (removed_told came is told) tail_block cleans before_is e =
-    after_tail settings service other request notice moment serial answer tail cleaned before more after named given asked tail_block cleans
+at_removal task other answer front removal tail cleaned before (deed ∷ more) after named given asked (removed_told came is told) tail_block cleans before_is e =
+    after_tail task other answer tail cleaned before more after named given asked tail_block cleans
     (ap later (ap (λ (deeds : List Deed). deeds ++ (tail ++ cleaned)) (sym is) ∙ e))
 
 -- the deeds of a telling, in one row
@@ -179,22 +179,22 @@ one_row front removal tail cleaned told done gained g d t =
     g ∙ ap (λ (deeds : List Deed). deeds ++ cleaned) d ∙ append_assoc told tail cleaned
     ∙ ap (λ (deeds : List Deed). deeds ++ (tail ++ cleaned)) t ∙ append_assoc front removal (tail ++ cleaned)
 
-pub removed_only_after : (settings : SettingsSaid) (service : Service) (request : PostfixRequest) (notice : NoticeRequest) (bytes : List ℕ) (moment serial : ℕ) (answer : RequestAnswer) (gained before after : List Deed) (other : Service) (named : List ℕ) (given : Answer)
-    → IsTellingDone settings service request notice bytes moment serial answer gained → gained ≡ before ++ LogRemoved other named given ∷ after
-    → IsRemovedAfter settings service request notice moment serial answer before after other named
-removed_only_after settings service request notice bytes moment serial answer gained before after other named given done e =
+pub removed_only_after : (task : Task) (bytes : List ℕ) (answer : RequestAnswer) (gained before after : List Deed) (other : Service) (named : List ℕ) (given : Answer)
+    → IsTellingDone task bytes answer gained → gained ≡ before ++ LogRemoved other named given ∷ after
+    → IsRemovedAfter task answer before after other named
+removed_only_after task bytes answer gained before after other named given done e =
     let out = done.carried_out in
-    let parts = notified_parts settings service request notice bytes moment serial answer out.done (done_notified settings service request notice bytes moment serial answer out.done done.asked out.is_done) in
+    let parts = notified_parts task bytes answer out.done (done_notified task.terms task.request task.notice bytes answer out.done done.asked out.is_done) in
     let row = one_row parts.telling.front parts.telling.removal parts.tail out.cleaned parts.told out.done gained out.gained_are parts.all parts.telling.parts in
     let past = past_block parts.telling.front (parts.telling.removal ++ (parts.tail ++ out.cleaned)) before after (LogRemoved other named given) parts.telling.keeps refl (sym row ∙ e) in
-    at_removal settings service other request notice moment serial answer parts.telling.front parts.telling.removal parts.tail out.cleaned before past.more after named given done.asked
+    at_removal task other answer parts.telling.front parts.telling.removal parts.tail out.cleaned before past.more after named given done.asked
     parts.telling.removal_is parts.tail_block out.clean past.before_is past.rest_is
 
 -- ---- what is handed in
 
-removal_hands_in_none : (settings : SettingsSaid) (service : Service) (request : PostfixRequest) (notice : NoticeRequest) (moment serial : ℕ) (front removal : List Deed) → IsRemovalPart settings service request notice moment serial front removal → hand_ins removal ≡ []
-removal_hands_in_none settings service request notice moment serial front removal (nothing_removed is) = ap hand_ins is
-removal_hands_in_none settings service request notice moment serial front removal (removed_told answer is told) = ap hand_ins is
+removal_hands_in_none : (task : Task) (front removal : List Deed) → IsRemovalPart task front removal → hand_ins removal ≡ []
+removal_hands_in_none task front removal (nothing_removed is) = ap hand_ins is
+removal_hands_in_none task front removal (removed_told answer is told) = ap hand_ins is
 
 cleaning_hands_in_none : (service : Service) (request : PostfixRequest) (due : Bool) (cleaned : List Deed) → Cleans service request due cleaned → hand_ins cleaned ≡ []
 cleaning_hands_in_none service request true cleaned cleans = ap hand_ins cleans.removed
@@ -207,60 +207,61 @@ none_after : (one two : List Deed) → hand_ins two ≡ [] → hand_ins (one ++ 
 none_after one two none = hand_ins-append one two ∙ ap (λ (deeds : List Deed). hand_ins one ++ deeds) none ∙ append-nil (hand_ins one)
 
 -- the deeds of a request: those that tell, and others that hand in nothing
-pub record RequestRow (settings : SettingsSaid) (service : Service) (request : PostfixRequest) (notice : NoticeRequest) (bytes : List ℕ) (moment serial : ℕ) (answer : RequestAnswer) (done gained : List Deed) : Type 0 where
-  pub parts : NotifiedParts settings service request notice bytes moment serial answer done
+pub record RequestRow (task : Task) (bytes : List ℕ) (answer : RequestAnswer) (done gained : List Deed) : Type 0 where
+  pub parts : NotifiedParts task bytes answer done
   pub others : List Deed
   pub gained_are : gained ≡ parts.telling.front ++ others
   pub none_handed : hand_ins others ≡ []
 
-row_of : (settings : SettingsSaid) (service : Service) (request : PostfixRequest) (notice : NoticeRequest) (bytes : List ℕ) (moment serial : ℕ) (answer : RequestAnswer) (gained : List Deed)
-    → (telling_done : IsTellingDone settings service request notice bytes moment serial answer gained) → RequestRow settings service request notice bytes moment serial answer telling_done.carried_out.done gained
-row_of settings service request notice bytes moment serial answer gained telling_done =
+row_of : (task : Task) (bytes : List ℕ) (answer : RequestAnswer) (gained : List Deed)
+    → (telling_done : IsTellingDone task bytes answer gained) → RequestRow task bytes answer telling_done.carried_out.done gained
+row_of task bytes answer gained telling_done =
     let out = telling_done.carried_out in
-    let parts = notified_parts settings service request notice bytes moment serial answer out.done (done_notified settings service request notice bytes moment serial answer out.done telling_done.asked out.is_done) in
+    let parts = notified_parts task bytes answer out.done (done_notified task.terms task.request task.notice bytes answer out.done telling_done.asked out.is_done) in
     let telling = parts.telling in
     record {
       parts = parts;
       others = telling.removal ++ (parts.tail ++ out.cleaned);
       gained_are = one_row telling.front telling.removal parts.tail out.cleaned parts.told out.done gained out.gained_are parts.all telling.parts;
       none_handed = none_of_both telling.removal (parts.tail ++ out.cleaned)
-          (removal_hands_in_none settings service request notice moment serial telling.front telling.removal telling.removal_is)
-          (none_of_both parts.tail out.cleaned parts.tail_block.handed_are (cleaning_hands_in_none service request (must_clean request answer) out.cleaned out.clean));
+          (removal_hands_in_none task telling.front telling.removal telling.removal_is)
+          (none_of_both parts.tail out.cleaned parts.tail_block.handed_are (cleaning_hands_in_none task.terms.service task.request (must_clean task.request answer) out.cleaned out.clean));
     }
 
 -- others after them hand in nothing
-once_longer : (settings : SettingsSaid) (service : Service) (request : PostfixRequest) (notice : NoticeRequest) (moment serial : ℕ) (front others : List Deed) → hand_ins others ≡ []
-    → HandsInOnce settings service request notice moment serial front → HandsInOnce settings service request notice moment serial (front ++ others)
-once_longer settings service request notice moment serial front others none once = record {
+once_longer : (task : Task) (front others : List Deed) → hand_ins others ≡ []
+    → HandsInOnce task front → HandsInOnce task (front ++ others)
+once_longer task front others none once = record {
   found = once.found;
   more = once.more ++ others;
-  gained_are = ap (λ (deeds : List Deed). deeds ++ others) once.gained_are ∙ append_assoc (readings service request notice once.found) once.more others;
+  gained_are = ap (λ (deeds : List Deed). deeds ++ others) once.gained_are ∙ append_assoc (readings task once.found) once.more others;
   letters = once.letters;
   asked = once.asked;
   front = once.front;
   rest = once.rest;
   letters_are = once.letters_are;
-  each = subst (λ (deeds : List Deed). AreHandedIn settings.host once.front deeds) (sym (none_after front others none)) once.each;
+  each = subst (λ (deeds : List Deed). AreHandedIn task.terms.settings.host once.front deeds) (sym (none_after front others none)) once.each;
 }
 
-once_or_none : (settings : SettingsSaid) (service : Service) (request : PostfixRequest) (notice : NoticeRequest) (moment serial : ℕ) (front others : List Deed) → hand_ins others ≡ []
-    → (hand_ins front ≡ []) ⊎ HandsInOnce settings service request notice moment serial front → (hand_ins (front ++ others) ≡ []) ⊎ HandsInOnce settings service request notice moment serial (front ++ others)
-once_or_none settings service request notice moment serial front others none (inl is) = inl (none_of_both front others is none)
-once_or_none settings service request notice moment serial front others none (inr once) = inr (once_longer settings service request notice moment serial front others none once)
+once_or_none : (task : Task) (front others : List Deed) → hand_ins others ≡ []
+    → (hand_ins front ≡ []) ⊎ HandsInOnce task front → (hand_ins (front ++ others) ≡ []) ⊎ HandsInOnce task (front ++ others)
+once_or_none task front others none (inl is) = inl (none_of_both front others is none)
+once_or_none task front others none (inr once) = inr (once_longer task front others none once)
 
-pub handed_in_once : (settings : SettingsSaid) (service : Service) (request : PostfixRequest) (notice : NoticeRequest) (bytes : List ℕ) (moment serial : ℕ) (answer : RequestAnswer) (gained : List Deed)
-    → IsTellingDone settings service request notice bytes moment serial answer gained → (hand_ins gained ≡ []) ⊎ HandsInOnce settings service request notice moment serial gained
-handed_in_once settings service request notice bytes moment serial answer gained done =
-    let row = row_of settings service request notice bytes moment serial answer gained done in
-    subst (λ (deeds : List Deed). (hand_ins deeds ≡ []) ⊎ HandsInOnce settings service request notice moment serial deeds) (sym row.gained_are)
-    (once_or_none settings service request notice moment serial row.parts.telling.front row.others row.none_handed row.parts.telling.once)
+pub handed_in_once : (task : Task) (bytes : List ℕ) (answer : RequestAnswer) (gained : List Deed)
+    → IsTellingDone task bytes answer gained → (hand_ins gained ≡ []) ⊎ HandsInOnce task gained
+handed_in_once task bytes answer gained done =
+    let row = row_of task bytes answer gained done in
+    subst (λ (deeds : List Deed). (hand_ins deeds ≡ []) ⊎ HandsInOnce task deeds) (sym row.gained_are)
+    (once_or_none task row.parts.telling.front row.others row.none_handed row.parts.telling.once)
 
 -- ---- nobody to be told
 
-no_sender_plan : (double_bounce : List ℕ) (service : Service) (request : PostfixRequest) (notice : NoticeRequest) (queued : List RecipientFacts) (log : Option (List ℕ))
-    → notice_asked request ≡ Some notice → is_no_sender double_bounce notice.sender ≡ true → notices_of double_bounce service request queued log ≡ Ok []
+no_sender_plan : (task : Task) (queued : List RecipientFacts) (log : Option (List ℕ))
+    → notice_asked task.request ≡ Some task.notice → is_no_sender task.terms.settings.double_bounce task.notice.sender ≡ true
+    → notices_of task.terms.settings.double_bounce task.terms.service task.request queued log ≡ Ok []
 unfolding notices_of
-no_sender_plan double_bounce service request notice queued log asked none = rw asked (rw none refl)
+no_sender_plan task queued log asked none = rw asked (rw none refl)
 
 abbrev notices_or : List NoticeFacts → Result (List NoticeFacts) CantSay → List NoticeFacts
 notices_or other (Ok notices) = notices
@@ -276,20 +277,20 @@ empty_front : (front rest : List Letter) → [] ≡ front ++ rest → front ≡ 
 empty_front [] rest e = refl
 empty_front (letter ∷ front) rest e = absurd (no_letter_more letter (front ++ rest) e)
 
-pub none_once : (settings : SettingsSaid) (service : Service) (request : PostfixRequest) (notice : NoticeRequest) (moment serial : ℕ) (gained : List Deed) → notice_asked request ≡ Some notice → is_no_sender settings.double_bounce notice.sender ≡ true
-    → (hand_ins gained ≡ []) ⊎ HandsInOnce settings service request notice moment serial gained → hand_ins gained ≡ []
-none_once settings service request notice moment serial gained asked none (inl is) = is
-none_once settings service request notice moment serial gained asked none (inr once) =
+pub none_once : (task : Task) (gained : List Deed) → notice_asked task.request ≡ Some task.notice → is_no_sender task.terms.settings.double_bounce task.notice.sender ≡ true
+    → (hand_ins gained ≡ []) ⊎ HandsInOnce task gained → hand_ins gained ≡ []
+none_once task gained asked none (inl is) = is
+none_once task gained asked none (inr once) =
     let letters = once.asked in
-    let no_notices : letters.notices ≡ [] = sym (same_notices [] letters.notices _ (no_sender_plan settings.double_bounce service request notice _ once.found.log asked none) letters.planned) in
-    let no_letters : once.letters ≡ [] = subst (λ (ns : List NoticeFacts). AreLettersOf (message_said settings notice letters.records) moment serial ns once.letters) no_notices letters.each in
+    let no_notices : letters.notices ≡ [] = sym (same_notices [] letters.notices _ (no_sender_plan task _ once.found.log asked none) letters.planned) in
+    let no_letters : once.letters ≡ [] = subst (λ (ns : List NoticeFacts). AreLettersOf (message_said task letters.records) task.terms.moment task.terms.serial ns once.letters) no_notices letters.each in
     let no_front : once.front ≡ [] = empty_front once.front once.rest (sym no_letters ∙ once.letters_are) in
-    subst (λ (ls : List Letter). AreHandedIn settings.host ls (hand_ins gained)) no_front once.each
+    subst (λ (ls : List Letter). AreHandedIn task.terms.settings.host ls (hand_ins gained)) no_front once.each
 
-pub nobody_is_told : (settings : SettingsSaid) (service : Service) (request : PostfixRequest) (notice : NoticeRequest) (bytes : List ℕ) (moment serial : ℕ) (answer : RequestAnswer) (gained : List Deed)
-    → IsTellingDone settings service request notice bytes moment serial answer gained → is_no_sender settings.double_bounce notice.sender ≡ true → hand_ins gained ≡ []
-nobody_is_told settings service request notice bytes moment serial answer gained done none =
-    none_once settings service request notice moment serial gained done.asked none (handed_in_once settings service request notice bytes moment serial answer gained done)
+pub nobody_is_told : (task : Task) (bytes : List ℕ) (answer : RequestAnswer) (gained : List Deed)
+    → IsTellingDone task bytes answer gained → is_no_sender task.terms.settings.double_bounce task.notice.sender ≡ true → hand_ins gained ≡ []
+nobody_is_told task bytes answer gained done none =
+    none_once task gained done.asked none (handed_in_once task bytes answer gained done)
 
 -- ---- appends
 
@@ -333,49 +334,49 @@ nothing_to_clean service request answer cleaned zero cleans =
     subst (λ (due : Bool). Cleans service request due cleaned)
     (ap (λ (a : RequestAnswer). has_flag 1 (flags_of request) && not (is_carried_out a)) zero ∙ and_false (has_flag 1 (flags_of request))) cleans
 
-pub answered_append_stands : (settings : SettingsSaid) (service : Service) (request : AppendRequest) (bytes : List ℕ) (moment serial : ℕ) (answer : RequestAnswer) (gained : List Deed)
-    → IsCarriedOut settings service (Append request) bytes moment serial answer gained → answer ≡ Ok 0 → StandsOrIsPassedOn service request bytes gained
-answered_append_stands settings service request bytes moment serial answer gained out zero =
-    subst (λ (deeds : List Deed). StandsOrIsPassedOn service request bytes deeds)
-    (sym (out.gained_are ∙ ap (λ (deeds : List Deed). out.done ++ deeds) (nothing_to_clean service (Append request) answer out.cleaned zero out.clean) ∙ append-nil out.done))
-    (append_stands service request bytes answer out.done out.is_done zero)
+pub answered_append_stands : (terms : Terms) (request : AppendRequest) (bytes : List ℕ) (answer : RequestAnswer) (gained : List Deed)
+    → IsCarriedOut terms (Append request) bytes answer gained → answer ≡ Ok 0 → StandsOrIsPassedOn terms.service request bytes gained
+answered_append_stands terms request bytes answer gained out zero =
+    subst (λ (deeds : List Deed). StandsOrIsPassedOn terms.service request bytes deeds)
+    (sym (out.gained_are ∙ ap (λ (deeds : List Deed). out.done ++ deeds) (nothing_to_clean terms.service (Append request) answer out.cleaned zero out.clean) ∙ append-nil out.done))
+    (append_stands terms.service request bytes answer out.done out.is_done zero)
 
 -- ---- requests for notices that are answered 0
 
-end_told : (settings : SettingsSaid) (service : Service) (request : PostfixRequest) (notice : NoticeRequest) (bytes : List ℕ) (moment serial : ℕ) (answer : RequestAnswer) (telling : Telling) (front told last : List Deed)
-    → ToldSo settings service request notice moment serial telling front told → EndsTelling service bytes telling answer last → answer ≡ Ok 0
-    → AreAllTold settings service request notice moment serial front ⊎ (LeftOver settings service request notice moment serial told × (last ≡ PassedOn service bytes (Ok 0) ∷ []))
-end_told settings service request notice bytes moment serial answer Told front told last so ends zero = inl so
-end_told settings service request notice bytes moment serial answer (Unsayable why) front told last so passes zero =
-    inr (so, passed_with_zero service bytes last passes.given passes.passed (status_is 0 (Ok (status_passed_on passes.given)) (sym passes.answer_is ∙ zero)))
-end_told settings service request notice bytes moment serial answer RefusedForGood front told last so passes zero =
-    inr (so, passed_with_zero service bytes last passes.given passes.passed (status_is 0 (Ok (status_passed_on passes.given)) (sym passes.answer_is ∙ zero)))
-end_told settings service request notice bytes moment serial answer Failed front told last so ends zero = absurd (not_zero (status_is 0 (Ok not_carried_out) (sym ends.1 ∙ zero)))
-end_told settings service request notice bytes moment serial answer TellingNoMemory front told last so ends zero = absurd (false_is_true (ap is_err (sym zero) ∙ ends.1))
+end_told : (task : Task) (bytes : List ℕ) (answer : RequestAnswer) (telling : Telling) (front told last : List Deed)
+    → ToldSo task telling front told → EndsTelling task.terms.service bytes telling answer last → answer ≡ Ok 0
+    → AreAllTold task front ⊎ (LeftOver task told × (last ≡ PassedOn task.terms.service bytes (Ok 0) ∷ []))
+end_told task bytes answer Told front told last so ends zero = inl so
+end_told task bytes answer (Unsayable why) front told last so passes zero =
+    inr (so, passed_with_zero task.terms.service bytes last passes.given passes.passed (status_is 0 (Ok (status_passed_on passes.given)) (sym passes.answer_is ∙ zero)))
+end_told task bytes answer RefusedForGood front told last so passes zero =
+    inr (so, passed_with_zero task.terms.service bytes last passes.given passes.passed (status_is 0 (Ok (status_passed_on passes.given)) (sym passes.answer_is ∙ zero)))
+end_told task bytes answer Failed front told last so ends zero = absurd (not_zero (status_is 0 (Ok not_carried_out) (sym ends.1 ∙ zero)))
+end_told task bytes answer TellingNoMemory front told last so ends zero = absurd (false_is_true (ap is_err (sym zero) ∙ ends.1))
 
-told_or_passed : (settings : SettingsSaid) (service : Service) (request : PostfixRequest) (notice : NoticeRequest) (bytes : List ℕ) (moment serial : ℕ) (told last front others gained : List Deed) → gained ≡ told ++ LogReleased ∷ last → gained ≡ front ++ others → hand_ins others ≡ []
-    → AreAllTold settings service request notice moment serial front ⊎ (LeftOver settings service request notice moment serial told × (last ≡ PassedOn service bytes (Ok 0) ∷ []))
-    → AreToldFirst settings service request notice moment serial gained ⊎ IsLeftToPostfix settings service request notice bytes moment serial gained
-told_or_passed settings service request notice bytes moment serial told last front others gained is row none (inl all) = inl (record { first = front; after = others; gained_are = row; told = all; none_handed = none })
-told_or_passed settings service request notice bytes moment serial told last front others gained is row none (inr passed) =
+told_or_passed : (task : Task) (bytes : List ℕ) (told last front others gained : List Deed) → gained ≡ told ++ LogReleased ∷ last → gained ≡ front ++ others → hand_ins others ≡ []
+    → AreAllTold task front ⊎ (LeftOver task told × (last ≡ PassedOn task.terms.service bytes (Ok 0) ∷ []))
+    → AreToldFirst task gained ⊎ IsLeftToPostfix task bytes gained
+told_or_passed task bytes told last front others gained is row none (inl all) = inl (record { first = front; after = others; gained_are = row; told = all; none_handed = none })
+told_or_passed task bytes told last front others gained is row none (inr passed) =
     let left = passed.0 in
     inr (record {
       found = left.found;
       tried = left.tried;
       gained_are = is ∙ (λ i. left.told_is i ++ LogReleased ∷ passed.1 i)
-          ∙ append_assoc (readings service request notice left.found) left.tried (LogReleased ∷ PassedOn service bytes (Ok 0) ∷ []);
+          ∙ append_assoc (readings task left.found) left.tried (LogReleased ∷ PassedOn task.terms.service bytes (Ok 0) ∷ []);
       why = left.why;
     })
 
-pub told_or_left : (settings : SettingsSaid) (service : Service) (request : PostfixRequest) (notice : NoticeRequest) (bytes : List ℕ) (moment serial : ℕ) (answer : RequestAnswer) (gained : List Deed)
-    → IsTellingDone settings service request notice bytes moment serial answer gained → answer ≡ Ok 0
-    → AreToldFirst settings service request notice moment serial gained ⊎ IsLeftToPostfix settings service request notice bytes moment serial gained
-told_or_left settings service request notice bytes moment serial answer gained done zero =
+pub told_or_left : (task : Task) (bytes : List ℕ) (answer : RequestAnswer) (gained : List Deed)
+    → IsTellingDone task bytes answer gained → answer ≡ Ok 0
+    → AreToldFirst task gained ⊎ IsLeftToPostfix task bytes gained
+told_or_left task bytes answer gained done zero =
     let out = done.carried_out in
-    let row = row_of settings service request notice bytes moment serial answer gained done in
+    let row = row_of task bytes answer gained done in
     let parts = row.parts in
-    let none_cleaned = nothing_to_clean service request answer out.cleaned zero out.clean in
-    told_or_passed settings service request notice bytes moment serial parts.told parts.last parts.telling.front row.others gained
+    let none_cleaned = nothing_to_clean task.terms.service task.request answer out.cleaned zero out.clean in
+    told_or_passed task bytes parts.told parts.last parts.telling.front row.others gained
     (out.gained_are ∙ ap (λ (deeds : List Deed). out.done ++ deeds) none_cleaned ∙ append-nil out.done ∙ parts.all ∙ ap (λ (deeds : List Deed). parts.told ++ deeds) parts.tail_is)
     row.gained_are row.none_handed
-    (end_told settings service request notice bytes moment serial answer parts.ended parts.telling.front parts.told parts.last parts.telling.so parts.ends zero)
+    (end_told task bytes answer parts.ended parts.telling.front parts.told parts.last parts.telling.so parts.ends zero)

@@ -23,7 +23,7 @@ use Rattle.dsn_postfix_service.specs.requests.HandingIn.{AreAccepted, IsNotAccep
 use Rattle.dsn_postfix_service.specs.requests.MailFound.{FailsToRead, ReadsLog, log_reading, log_unread, message_reading, message_unread}
 use Rattle.dsn_postfix_service.specs.requests.NoticeDeeds.{EndsTelling, IsNotified, Tells}
 use Rattle.dsn_postfix_service.specs.requests.RequestStatus.{RequestAnswer, carried_out, is_carried_out, status_after}
-use Rattle.dsn_postfix_service.specs.requests.ServiceSettings.{SettingsSaid}
+use Rattle.dsn_postfix_service.specs.requests.Task.{Task, Terms}
 use Rattle.dsn_postfix_service.specs.declared.requests.not_accepted.NotAccepted.{NotAccepted}
 use Rattle.dsn_postfix_service.specs.declared.requests.telling.Telling.{Telling}
 
@@ -103,21 +103,21 @@ appended deeds old new service request bytes status written given none is status
 
 -- ---- what is read
 
-pub unread_message : {S : Type 0} → (deeds : S → Option (List Deed)) (old between new : S) (service : Service) (request : PostfixRequest) (notice : NoticeRequest) (log : Option (List ℕ)) (why : DeedFault)
-    → Gains deeds old between (ReadsLog service request notice (Ok log)) → deeds new ≡ with_deeds (deeds between) (MessageRead notice.queue_name notice.queue_id (Err why) ∷ [])
-    → Gains deeds old new (FailsToRead service request notice)
-unread_message deeds old between new service request notice log why first second = record {
-  gained = first.gained ++ message_reading notice (Err why);
-  after = after_both deeds old between new first.gained (message_reading notice (Err why)) first.after second;
-  are = message_unread log why (ap (λ (read : List Deed). read ++ message_reading notice (Err why)) first.are.0);
+pub unread_message : {S : Type 0} → (deeds : S → Option (List Deed)) (old between new : S) (task : Task) (log : Option (List ℕ)) (why : DeedFault)
+    → Gains deeds old between (ReadsLog task (Ok log)) → deeds new ≡ with_deeds (deeds between) (MessageRead task.notice.queue_name task.notice.queue_id (Err why) ∷ [])
+    → Gains deeds old new (FailsToRead task)
+unread_message deeds old between new task log why first second = record {
+  gained = first.gained ++ message_reading task.notice (Err why);
+  after = after_both deeds old between new first.gained (message_reading task.notice (Err why)) first.after second;
+  are = message_unread log why (ap (λ (read : List Deed). read ++ message_reading task.notice (Err why)) first.are.0);
 }
 
-pub unread_log : {S : Type 0} → (deeds : S → Option (List Deed)) (old new : S) (service : Service) (request : PostfixRequest) (notice : NoticeRequest) (why : DeedFault)
-    → Gains deeds old new (ReadsLog service request notice (Err why)) → Gains deeds old new (FailsToRead service request notice)
-unread_log deeds old new service request notice why first = record {
+pub unread_log : {S : Type 0} → (deeds : S → Option (List Deed)) (old new : S) (task : Task) (why : DeedFault)
+    → Gains deeds old new (ReadsLog task (Err why)) → Gains deeds old new (FailsToRead task)
+unread_log deeds old new task why first = record {
   gained = first.gained;
   after = first.after;
-  are = log_unread why (first.are.1 refl) (first.are.0 ∙ ap (λ (tells : Bool). log_reading tells service notice (Err why)) (first.are.1 refl));
+  are = log_unread why (first.are.1 refl) (first.are.0 ∙ ap (λ (tells : Bool). log_reading tells task.terms.service task.notice (Err why)) (first.are.1 refl));
 }
 
 -- ---- letters
@@ -254,10 +254,10 @@ stopped_marking deeds old between new notice places rest after place so_far firs
 
 -- ---- a request for notices
 
-pub notified : {S : Type 0} → (deeds : S → Option (List Deed)) (old between released new : S) (settings : SettingsSaid) (service : Service) (request : PostfixRequest) (notice : NoticeRequest) (bytes : List ℕ) (moment serial : ℕ) (answer : RequestAnswer) (telling : Telling)
-    → Gains deeds old between (Tells settings service request notice moment serial telling) → deeds released ≡ with_deeds (deeds between) (LogReleased ∷ []) → Gains deeds released new (EndsTelling service bytes telling answer)
-    → Gains deeds old new (IsNotified settings service request notice bytes moment serial answer)
-notified deeds old between released new settings service request notice bytes moment serial answer telling first release last = record {
+pub notified : {S : Type 0} → (deeds : S → Option (List Deed)) (old between released new : S) (task : Task) (bytes : List ℕ) (answer : RequestAnswer) (telling : Telling)
+    → Gains deeds old between (Tells task telling) → deeds released ≡ with_deeds (deeds between) (LogReleased ∷ []) → Gains deeds released new (EndsTelling task.terms.service bytes telling answer)
+    → Gains deeds old new (IsNotified task bytes answer)
+notified deeds old between released new task bytes answer telling first release last = record {
   gained = first.gained ++ LogReleased ∷ last.gained;
   after = after_both deeds old between new first.gained (LogReleased ∷ last.gained) first.after (after_both deeds between released new (LogReleased ∷ []) last.gained release last.after);
   are = record { telling = telling; told = first.gained; last = last.gained; gained_are = refl; tells = first.are; ends = last.are };
@@ -265,10 +265,10 @@ notified deeds old between released new settings service request notice bytes mo
 
 -- ---- the bounce log, and then another
 
-pub bounce_log_told : {S : Type 0} → (deeds : S → Option (List Deed)) (old between new : S) (settings : SettingsSaid) (flush : PostfixRequest) (moment serial : ℕ) (answer : RequestAnswer) (id : List ℕ) (found : Bool)
-    → id ≡ queue_id_of flush → found ≡ true → deeds between ≡ with_deeds (deeds old) (LogSought Bounce id (Ok found) ∷ []) → Gains deeds between new (FlushesBounceLog settings flush moment serial answer)
-    → Gains deeds old new (IsBounceLogTold settings flush moment serial answer)
-bounce_log_told deeds old between new settings flush moment serial answer id found named is first last = record {
+pub bounce_log_told : {S : Type 0} → (deeds : S → Option (List Deed)) (old between new : S) (terms : Terms) (flush : PostfixRequest) (answer : RequestAnswer) (id : List ℕ) (found : Bool)
+    → id ≡ queue_id_of flush → found ≡ true → deeds between ≡ with_deeds (deeds old) (LogSought Bounce id (Ok found) ∷ []) → Gains deeds between new (FlushesBounceLog terms flush answer)
+    → Gains deeds old new (IsBounceLogTold terms flush answer)
+bounce_log_told deeds old between new terms flush answer id found named is first last = record {
   gained = LogSought Bounce (queue_id_of flush) (Ok true) ∷ last.gained;
   after = after_both deeds old between new (LogSought Bounce (queue_id_of flush) (Ok true) ∷ []) last.gained
       (first ∙ (λ i. with_deeds (deeds old) (LogSought Bounce (named i) (Ok (is i)) ∷ []))) last.after;
@@ -282,9 +282,9 @@ pub carried_out_is : (answer : RequestAnswer) → is_carried_out answer ≡ true
 carried_out_is (Ok status) e = ap (λ (n : ℕ). Ok n) (zero_is status e)
 carried_out_is (Err why) e = absurd (false_not_true e)
 
-pub flushed_in_turn : {S : Type 0} → (deeds : S → Option (List Deed)) (old between new : S) (settings : SettingsSaid) (service : Service) (flush request : PostfixRequest) (bytes : List ℕ) (moment serial : ℕ) (before answer : RequestAnswer)
-    → is_carried_out before ≡ true → Gains deeds old between (IsBounceLogTold settings flush moment (bounce_serial serial) before) → Gains deeds between new (IsCarriedOut settings service request bytes moment serial answer)
-    → Gains deeds old new (IsFlushedInTurn settings service flush request bytes moment serial answer)
-flushed_in_turn deeds old between new settings service flush request bytes moment serial before answer done first last =
+pub flushed_in_turn : {S : Type 0} → (deeds : S → Option (List Deed)) (old between new : S) (terms : Terms) (flush request : PostfixRequest) (bytes : List ℕ) (before answer : RequestAnswer)
+    → is_carried_out before ≡ true → Gains deeds old between (IsBounceLogTold terms flush before) → Gains deeds between new (IsCarriedOut terms request bytes answer)
+    → Gains deeds old new (IsFlushedInTurn terms flush request bytes answer)
+flushed_in_turn deeds old between new terms flush request bytes before answer done first last =
     gains_more deeds old between new _ _ _ first last
-    (λ one two told out. in_turn one two refl (subst (λ (a : RequestAnswer). IsBounceLogTold settings flush moment (bounce_serial serial) a one) (carried_out_is before done) told) out)
+    (λ one two told out. in_turn one two refl (subst (λ (a : RequestAnswer). IsBounceLogTold terms flush a one) (carried_out_is before done) told) out)

@@ -24,7 +24,7 @@ use Rattle.dsn_postfix_service.specs.declared.requests.telling.Telling.TheVarian
 use Rattle.dsn_postfix_service.specs.requests.AnsweredRequest.{IsAnswered, first_flush, without_flags}
 use Rattle.dsn_postfix_service.specs.requests.AnsweredRequest as answered
 use Rattle.dsn_postfix_service.specs.requests.AppendDeeds.{IsAppended, record_bytes, tried, unsayable}
-use Rattle.dsn_postfix_service.specs.requests.CarriedOut.{IsCarriedOut, must_clean}
+use Rattle.dsn_postfix_service.specs.requests.CarriedOut.{IsCarriedOut, must_clean, task_of}
 use Rattle.dsn_postfix_service.specs.requests.Deed.{Answer, Appended, Deed, HandedIn, LogRead, LogReleased, LogRemoved, LogSought, MessageRead, PassedOn}
 use Rattle.dsn_postfix_service.specs.requests.Finishing.{is_removal_due}
 use Rattle.dsn_postfix_service.specs.requests.HandingIn.{refusal_of}
@@ -33,7 +33,7 @@ use Rattle.dsn_postfix_service.specs.requests.NoticeDeeds.{EndsTelling, unread}
 use Rattle.dsn_postfix_service.specs.requests.RequestLaws.{hand_ins}
 use Rattle.dsn_postfix_service.specs.requests.RequestLetters.{message_said, next_serial, places_done}
 use Rattle.dsn_postfix_service.specs.requests.RequestStatus.{RequestAnswer, not_carried_out}
-use Rattle.dsn_postfix_service.specs.requests.ServiceSettings.{SettingsSaid}
+use Rattle.dsn_postfix_service.specs.requests.Task.{Task, Terms}
 
 abbrev id : List ℕ
 id = codes "6BB87A7E6A1"
@@ -81,8 +81,16 @@ append_with flags = record {
 
 -- ---- whole requests
 
-abbrev settings : SettingsSaid
-settings = record { host = codes "mx.example.net"; double_bounce = codes "double-bounce@mx.example.net"; lifetime = 432000; size_limit = 50000 }
+abbrev terms_at : Service → ℕ → Terms
+terms_at service serial = record {
+  settings = record { host = codes "mx.example.net"; double_bounce = codes "double-bounce@mx.example.net"; lifetime = 432000; size_limit = 50000 };
+  service = service;
+  moment = 0;
+  serial = serial;
+}
+
+abbrev task_of_one : ℕ → Task
+task_of_one flags = task_of (terms_at Bounce 0) (One (asked flags) bob refused) (asked flags)
 
 abbrev append_of_bob : Answer → Deed
 append_of_bob answer = Appended Bounce id (record_bytes Bounce (append_with 1)) answer
@@ -95,7 +103,7 @@ no_deed : (deed : Deed) → [] ≡ deed ∷ [] → ⊥
 no_deed deed e = cc
 
 -- an append that went well, of a request with CLEAN: one deed, and 0
-append_done : IsCarriedOut settings Bounce (Append (append_with 1)) [] 0 0 (Ok 0) (append_of_bob (Ok tt) ∷ [])
+append_done : IsCarriedOut (terms_at Bounce 0) (Append (append_with 1)) [] (Ok 0) (append_of_bob (Ok tt) ∷ [])
 append_done = record {
   done = append_of_bob (Ok tt) ∷ [];
   cleaned = [];
@@ -105,7 +113,7 @@ append_done = record {
 }
 
 -- one that failed: its log is removed after it
-append_failed : IsCarriedOut settings Bounce (Append (append_with 1)) [] 0 0 (Ok not_carried_out) (append_of_bob (Err fault.Failed) ∷ LogRemoved Bounce id (Ok tt) ∷ [])
+append_failed : IsCarriedOut (terms_at Bounce 0) (Append (append_with 1)) [] (Ok not_carried_out) (append_of_bob (Err fault.Failed) ∷ LogRemoved Bounce id (Ok tt) ∷ [])
 append_failed = record {
   done = append_of_bob (Err fault.Failed) ∷ [];
   cleaned = LogRemoved Bounce id (Ok tt) ∷ [];
@@ -115,7 +123,7 @@ append_failed = record {
 }
 
 -- one for whose record there was no memory: nothing was done but what CLEAN asks
-append_without_memory : (refused : NoMemory) → IsCarriedOut settings Bounce (Append (append_with 1)) [] 0 0 (Err refused) (LogRemoved Bounce id (Ok tt) ∷ [])
+append_without_memory : (refused : NoMemory) → IsCarriedOut (terms_at Bounce 0) (Append (append_with 1)) [] (Err refused) (LogRemoved Bounce id (Ok tt) ∷ [])
 append_without_memory why = record {
   done = [];
   cleaned = LogRemoved Bounce id (Ok tt) ∷ [];
@@ -178,7 +186,7 @@ unfolding digits postfix_request_bytes attribute_bytes
 first_as_bytes = refl
 
 -- a flush of a log that can't be read
-unread_at : (service : Service) (bytes : List ℕ) (serial : ℕ) → IsCarriedOut settings service (Flush (asked 0)) bytes 0 serial (Ok not_carried_out) (LogRead service id (Err fault.Failed) ∷ LogReleased ∷ [])
+unread_at : (service : Service) (bytes : List ℕ) (serial : ℕ) → IsCarriedOut (terms_at service serial) (Flush (asked 0)) bytes (Ok not_carried_out) (LogRead service id (Err fault.Failed) ∷ LogReleased ∷ [])
 unread_at service bytes serial = record {
   done = LogRead service id (Err fault.Failed) ∷ LogReleased ∷ [];
   cleaned = [];
@@ -195,24 +203,24 @@ unread_at service bytes serial = record {
 }
 
 -- it can't be known whether there is a bounce log: nothing else is done, also with CLEAN
-bounce_log_unknown : IsAnswered settings Defer (Flush (asked 1)) [] 0 0 (Ok not_carried_out) (LogSought Bounce id (Err fault.Failed) ∷ [])
+bounce_log_unknown : IsAnswered (terms_at Defer 0) (Flush (asked 1)) [] (Ok not_carried_out) (LogSought Bounce id (Err fault.Failed) ∷ [])
 bounce_log_unknown = answered.put_off refl (answered.unsought fault.Failed refl refl)
 
 -- there is one, which can't be read: neither log is touched, also with CLEAN
-bounce_log_unread : (bytes : List ℕ) → IsRequestIn bytes (Flush (asked 0)) → IsAnswered settings Defer (Flush (asked 3)) [] 0 0 (Ok not_carried_out) (LogSought Bounce id (Ok true) ∷ LogRead Bounce id (Err fault.Failed) ∷ LogReleased ∷ [])
+bounce_log_unread : (bytes : List ℕ) → IsRequestIn bytes (Flush (asked 0)) → IsAnswered (terms_at Defer 0) (Flush (asked 3)) [] (Ok not_carried_out) (LogSought Bounce id (Ok true) ∷ LogRead Bounce id (Err fault.Failed) ∷ LogReleased ∷ [])
 bounce_log_unread bytes are =
     answered.put_off refl (answered.told (LogRead Bounce id (Err fault.Failed) ∷ LogReleased ∷ []) refl (answered.flushed bytes are (unread_at Bounce bytes 500000)))
 
 -- there is one, and no memory for the bytes of its flush
-bounce_log_without_memory : (refused : NoMemory) → IsAnswered settings Defer (Flush (asked 3)) [] 0 0 (Err refused) (LogSought Bounce id (Ok true) ∷ [])
+bounce_log_without_memory : (refused : NoMemory) → IsAnswered (terms_at Defer 0) (Flush (asked 3)) [] (Err refused) (LogSought Bounce id (Ok true) ∷ [])
 bounce_log_without_memory why = answered.put_off refl (answered.told [] refl (answered.no_memory refl refl))
 
 -- there is none: the defer log is read
-defer_log_unread : IsAnswered settings Defer (Flush (asked 0)) [] 0 0 (Ok not_carried_out) (LogSought Bounce id (Ok false) ∷ LogRead Defer id (Err fault.Failed) ∷ LogReleased ∷ [])
+defer_log_unread : IsAnswered (terms_at Defer 0) (Flush (asked 0)) [] (Ok not_carried_out) (LogSought Bounce id (Ok false) ∷ LogRead Defer id (Err fault.Failed) ∷ LogReleased ∷ [])
 defer_log_unread = answered.in_turn (LogSought Bounce id (Ok false) ∷ []) (LogRead Defer id (Err fault.Failed) ∷ LogReleased ∷ []) refl (answered.no_log refl refl) (unread_at Defer [] 0)
 
 -- a flush of the bounce log asks for no other
-bounce_log_alone : IsAnswered settings Bounce (Flush (asked 0)) [] 0 0 (Ok not_carried_out) (LogRead Bounce id (Err fault.Failed) ∷ LogReleased ∷ [])
+bounce_log_alone : IsAnswered (terms_at Bounce 0) (Flush (asked 0)) [] (Ok not_carried_out) (LogRead Bounce id (Err fault.Failed) ∷ LogReleased ∷ [])
 bounce_log_alone = unread_at Bounce [] 0
 
 -- ---- parts
@@ -261,24 +269,24 @@ for_owner = record {
   returns = 0;
 }
 
-sender_of_file : (message_said settings for_owner from_ann).sender ≡ codes "ann@example.com"
+sender_of_file : (message_said (task_of (terms_at Bounce 0) (Flush for_owner) for_owner) from_ann).sender ≡ codes "ann@example.com"
 sender_of_file = refl
 
-sender_of_request : (message_said settings for_owner []).sender ≡ codes "owner-list@example.com"
+sender_of_request : (message_said (task_of (terms_at Bounce 0) (Flush for_owner) for_owner) []).sender ≡ codes "owner-list@example.com"
 sender_of_request = refl
 
 -- DELRCPT, of a request about one recipient
-one_marked : places_done Bounce (One (asked 2) bob refused) (asked 2) None ≡ 727 ∷ []
+one_marked : places_done (task_of_one 2) None ≡ 727 ∷ []
 one_marked = refl
 
-one_unmarked : places_done Bounce (One (asked 1) bob refused) (asked 1) None ≡ []
+one_unmarked : places_done (task_of_one 1) None ≡ []
 one_unmarked = refl
 
-log_read_first : readings Defer (Warn (asked 0)) (asked 0) (record { log = None; file = codes "E" })
+log_read_first : readings (task_of (terms_at Defer 0) (Warn (asked 0)) (asked 0)) (record { log = None; file = codes "E" })
     ≡ LogRead Defer id (Ok None) ∷ MessageRead (codes "active") id (Ok (codes "E")) ∷ []
 log_read_first = refl
 
-no_log_read : readings Bounce (One (asked 0) bob refused) (asked 0) (record { log = None; file = codes "E" })
+no_log_read : readings (task_of_one 0) (record { log = None; file = codes "E" })
     ≡ MessageRead (codes "active") id (Ok (codes "E")) ∷ []
 no_log_read = refl
 

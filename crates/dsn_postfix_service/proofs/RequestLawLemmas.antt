@@ -15,6 +15,7 @@ use Rattle.dsn_postfix_service.specs.requests.Finishing.{AreMarked, StopsAtPlace
 use Rattle.dsn_postfix_service.specs.requests.HandingIn.{AreAccepted, IsNotAccepted, StopsAtLetter, hand_in_of, is_first_after}
 use Rattle.dsn_postfix_service.specs.requests.HandingIn as handing
 use Rattle.dsn_postfix_service.specs.requests.MailFound.{FailsToRead, MailRead, log_reading, log_unread, message_reading, message_unread, readings, tells_of_log}
+use Rattle.dsn_postfix_service.specs.requests.Task.{Task}
 use Rattle.dsn_postfix_service.specs.requests.RequestLaws.{AreHandedIn, hand_ins, is_hand_in, onto_if}
 
 -- ---- deeds that remove no log
@@ -69,15 +70,15 @@ reading_block : (tells : Bool) (service : Service) (notice : NoticeRequest) (log
 reading_block true service notice log file = record { keeps = (refl, (refl, tt)); handed_are = refl }
 reading_block false service notice log file = record { keeps = (refl, tt); handed_are = refl }
 
-pub readings_block : (service : Service) (request : PostfixRequest) (notice : NoticeRequest) (found : MailRead) → Block (readings service request notice found) []
-readings_block service request notice found = reading_block (tells_of_log request) service notice (Ok found.log) (Ok found.file)
+pub readings_block : (task : Task) (found : MailRead) → Block (readings task found) []
+readings_block task found = reading_block (tells_of_log task.request) task.terms.service task.notice (Ok found.log) (Ok found.file)
 
 log_alone : (service : Service) (notice : NoticeRequest) (why : DeedFault) → Block (log_reading true service notice (Err why)) []
 log_alone service notice why = record { keeps = (refl, tt); handed_are = refl }
 
-pub unread_block : (service : Service) (request : PostfixRequest) (notice : NoticeRequest) (gained : List Deed) → FailsToRead service request notice gained → Block gained []
-unread_block service request notice gained (log_unread why tells is) = block_is gained _ [] is (log_alone service notice why)
-unread_block service request notice gained (message_unread log why is) = block_is gained _ [] is (reading_block (tells_of_log request) service notice (Ok log) (Err why))
+pub unread_block : (task : Task) (gained : List Deed) → FailsToRead task gained → Block gained []
+unread_block task gained (log_unread why tells is) = block_is gained _ [] is (log_alone task.terms.service task.notice why)
+unread_block task gained (message_unread log why is) = block_is gained _ [] is (reading_block (tells_of_log task.request) task.terms.service task.notice (Ok log) (Err why))
 
 -- ---- letters
 

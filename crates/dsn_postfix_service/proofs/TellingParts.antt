@@ -21,116 +21,116 @@ use Rattle.dsn_postfix_service.specs.requests.RequestLaws.{AreAllTold, AreHanded
 use Rattle.dsn_postfix_service.specs.requests.RequestLaws as laws
 use Rattle.dsn_postfix_service.specs.requests.RequestLetters.{AreLettersAsked, places_done}
 use Rattle.dsn_postfix_service.specs.requests.RequestStatus.{RequestAnswer}
-use Rattle.dsn_postfix_service.specs.requests.ServiceSettings.{SettingsSaid}
+use Rattle.dsn_postfix_service.specs.requests.Task.{Task}
 use Rattle.dsn_postfix_service.proofs.RequestLawLemmas.{Block, RemovesNone, accepted_block, accepted_handed, block_is, both, first_refused, marked_block, no_deeds, readings_block, stopped_front, stopped_marks, unread_block}
 
 -- ---- what is done after all are accepted
 
 -- no log was removed, or one was, after all were marked
-abbrev pub RemovesMarked : Service → NoticeRequest → List ℕ → List Deed → List Deed → Type 0
-RemovesMarked service notice places marks removal =
-    (removal ≡ []) ⊎ ((answer : Answer) × (removal ≡ LogRemoved service notice.queue_id answer ∷ []) × AreMarked notice places marks)
+abbrev pub RemovesMarked : Task → List ℕ → List Deed → List Deed → Type 0
+RemovesMarked task places marks removal =
+    (removal ≡ []) ⊎ ((answer : Answer) × (removal ≡ LogRemoved task.terms.service task.notice.queue_id answer ∷ []) × AreMarked task.notice places marks)
 
-pub record FinishParts (service : Service) (notice : NoticeRequest) (places : List ℕ) (done : Bool) (gained : List Deed) : Type 0 where
+pub record FinishParts (task : Task) (places : List ℕ) (done : Bool) (gained : List Deed) : Type 0 where
   pub marks : List Deed
   pub removal : List Deed
   pub parts : gained ≡ marks ++ removal
   pub block : Block marks []
-  pub removal_is : RemovesMarked service notice places marks removal
-  pub if_done : done ≡ true → AreMarked notice places marks
+  pub removal_is : RemovesMarked task places marks removal
+  pub if_done : done ≡ true → AreMarked task.notice places marks
 
-removal_of : (service : Service) (notice : NoticeRequest) (places : List ℕ) (due done : Bool) (marks gained : List Deed) → AreMarked notice places marks
-    → RemovesLog service notice.queue_id due done gained → RemovesMarked service notice places marks gained
-removal_of service notice places due done marks gained are (finishing.kept e d is) = inl is
-removal_of service notice places due done marks gained are (finishing.removed e d is) = inr (Ok tt, is, are)
-removal_of service notice places due done marks gained are (finishing.unremoved why e d is) = inr (Err why, is, are)
+removal_of : (task : Task) (places : List ℕ) (due done : Bool) (marks gained : List Deed) → AreMarked task.notice places marks
+    → RemovesLog task.terms.service task.notice.queue_id due done gained → RemovesMarked task places marks gained
+removal_of task places due done marks gained are (finishing.kept e d is) = inl is
+removal_of task places due done marks gained are (finishing.removed e d is) = inr (Ok tt, is, are)
+removal_of task places due done marks gained are (finishing.unremoved why e d is) = inr (Err why, is, are)
 
 false_is_true : false ≡ true → ⊥
 false_is_true e = cc
 
-finish_parts : (service : Service) (request : PostfixRequest) (notice : NoticeRequest) (log : Option (List ℕ)) (places : List ℕ) (done : Bool) (gained : List Deed)
-    → FinishesAt service request notice log places done gained → FinishParts service notice places done gained
-finish_parts service request notice log places done gained (finishing.unmarked d stops) = record {
+finish_parts : (task : Task) (log : Option (List ℕ)) (places : List ℕ) (done : Bool) (gained : List Deed)
+    → FinishesAt task log places done gained → FinishParts task places done gained
+finish_parts task log places done gained (finishing.unmarked d stops) = record {
   marks = gained;
   removal = [];
   parts = sym (append-nil gained);
-  block = stopped_marks notice places gained stops;
+  block = stopped_marks task.notice places gained stops;
   removal_is = inl refl;
   if_done = λ all. absurd (false_is_true (sym d ∙ all));
 }
-finish_parts service request notice log places done gained (finishing.marked marks removal is are removes) = record {
+finish_parts task log places done gained (finishing.marked marks removal is are removes) = record {
   marks = marks;
   removal = removal;
   parts = is;
-  block = marked_block notice places marks are;
-  removal_is = removal_of service notice places (finishing.is_removal_due request log) done marks removal are removes;
+  block = marked_block task.notice places marks are;
+  removal_is = removal_of task places (finishing.is_removal_due task.request log) done marks removal are removes;
   if_done = λ all. are;
 }
 
 -- ---- telling
 
 -- what was removed after these deeds
-pub data IsRemovalPart (settings : SettingsSaid) (service : Service) (request : PostfixRequest) (notice : NoticeRequest) (moment serial : ℕ) (front removal : List Deed) : Type 0 where
-  nothing_removed : removal ≡ [] → IsRemovalPart settings service request notice moment serial front removal
-  removed_told : (answer : Answer) → removal ≡ LogRemoved service notice.queue_id answer ∷ [] → AreAllTold settings service request notice moment serial front
-      → IsRemovalPart settings service request notice moment serial front removal
+pub data IsRemovalPart (task : Task) (front removal : List Deed) : Type 0 where
+  nothing_removed : removal ≡ [] → IsRemovalPart task front removal
+  removed_told : (answer : Answer) → removal ≡ LogRemoved task.terms.service task.notice.queue_id answer ∷ [] → AreAllTold task front
+      → IsRemovalPart task front removal
 
 -- what was read, and what was tried before it was left to Postfix's own service
-pub record LeftOver (settings : SettingsSaid) (service : Service) (request : PostfixRequest) (notice : NoticeRequest) (moment serial : ℕ) (told : List Deed) : Type 0 where
+pub record LeftOver (task : Task) (told : List Deed) : Type 0 where
   pub found : MailRead
   pub tried : List Deed
-  pub told_is : told ≡ readings service request notice found ++ tried
-  pub why : IsLeftOver settings service request notice moment serial found tried
+  pub told_is : told ≡ readings task found ++ tried
+  pub why : IsLeftOver task found tried
 
 -- what was told where telling ends so: of all deeds, which begin with a front that removes no log
-abbrev pub ToldSo : SettingsSaid → Service → PostfixRequest → NoticeRequest → ℕ → ℕ → Telling → List Deed → List Deed → Type 0
-ToldSo settings service request notice moment serial Told front told = AreAllTold settings service request notice moment serial front
-ToldSo settings service request notice moment serial (Unsayable why) front told = LeftOver settings service request notice moment serial told
-ToldSo settings service request notice moment serial RefusedForGood front told = LeftOver settings service request notice moment serial told
-ToldSo settings service request notice moment serial Failed front told = Unit {0}
-ToldSo settings service request notice moment serial NoMemory front told = Unit {0}
+abbrev pub ToldSo : Task → Telling → List Deed → List Deed → Type 0
+ToldSo task Told front told = AreAllTold task front
+ToldSo task (Unsayable why) front told = LeftOver task told
+ToldSo task RefusedForGood front told = LeftOver task told
+ToldSo task Failed front told = Unit {0}
+ToldSo task NoMemory front told = Unit {0}
 
-told_if_done : (settings : SettingsSaid) (service : Service) (request : PostfixRequest) (notice : NoticeRequest) (moment serial : ℕ) (done : Bool) (front told : List Deed) → (done ≡ true → AreAllTold settings service request notice moment serial front)
-    → ToldSo settings service request notice moment serial (end_of_telling done) front told
-told_if_done settings service request notice moment serial true front told all = all refl
-told_if_done settings service request notice moment serial false front told all = tt
+told_if_done : (task : Task) (done : Bool) (front told : List Deed) → (done ≡ true → AreAllTold task front)
+    → ToldSo task (end_of_telling done) front told
+told_if_done task true front told all = all refl
+told_if_done task false front told all = tt
 
-left_if_first : (settings : SettingsSaid) (service : Service) (request : PostfixRequest) (notice : NoticeRequest) (moment serial : ℕ) (found : MailRead) (made : List Letter) (gained : List Deed)
-    → AreLettersAsked settings service request notice moment serial found made → StopsAtLetter settings.host made not_accepted.RefusedForGood gained
-    → LeftOver settings service request notice moment serial (readings service request notice found ++ gained)
-left_if_first settings service request notice moment serial found made gained asked stops =
-    let first = first_refused settings.host made gained stops in
+left_if_first : (task : Task) (found : MailRead) (made : List Letter) (gained : List Deed)
+    → AreLettersAsked task found made → StopsAtLetter task.terms.settings.host made not_accepted.RefusedForGood gained
+    → LeftOver task (readings task found ++ gained)
+left_if_first task found made gained asked stops =
+    let first = first_refused task.terms.settings.host made gained stops in
     record {
       found = found;
       tried = gained;
       told_is = refl;
       why = laws.refused first.letter first.others first.fault
-          (subst (λ (letters : List Letter). AreLettersAsked settings service request notice moment serial found letters) first.letters_are asked) first.for_good first.tried;
+          (subst (λ (letters : List Letter). AreLettersAsked task found letters) first.letters_are asked) first.for_good first.tried;
     }
 
-told_if_stopped : (settings : SettingsSaid) (service : Service) (request : PostfixRequest) (notice : NoticeRequest) (moment serial : ℕ) (found : MailRead) (made : List Letter) (why : NotAccepted) (front gained : List Deed)
-    → AreLettersAsked settings service request notice moment serial found made → StopsAtLetter settings.host made why gained
-    → ToldSo settings service request notice moment serial (end_at_letter why) front (readings service request notice found ++ gained)
-told_if_stopped settings service request notice moment serial found made not_accepted.Refused front gained asked stops = tt
-told_if_stopped settings service request notice moment serial found made not_accepted.NoMemory front gained asked stops = tt
-told_if_stopped settings service request notice moment serial found made not_accepted.RefusedForGood front gained asked stops = left_if_first settings service request notice moment serial found made gained asked stops
+told_if_stopped : (task : Task) (found : MailRead) (made : List Letter) (why : NotAccepted) (front gained : List Deed)
+    → AreLettersAsked task found made → StopsAtLetter task.terms.settings.host made why gained
+    → ToldSo task (end_at_letter why) front (readings task found ++ gained)
+told_if_stopped task found made not_accepted.Refused front gained asked stops = tt
+told_if_stopped task found made not_accepted.NoMemory front gained asked stops = tt
+told_if_stopped task found made not_accepted.RefusedForGood front gained asked stops = left_if_first task found made gained asked stops
 
-told_as : (settings : SettingsSaid) (service : Service) (request : PostfixRequest) (notice : NoticeRequest) (moment serial : ℕ) (one two : Telling) (front told : List Deed) → one ≡ two
-    → ToldSo settings service request notice moment serial two front told → ToldSo settings service request notice moment serial one front told
-told_as settings service request notice moment serial one two front told is so = subst (λ (telling : Telling). ToldSo settings service request notice moment serial telling front told) (sym is) so
+told_as : (task : Task) (one two : Telling) (front told : List Deed) → one ≡ two
+    → ToldSo task two front told → ToldSo task one front told
+told_as task one two front told is so = subst (λ (telling : Telling). ToldSo task telling front told) (sym is) so
 
-pub record TellingParts (settings : SettingsSaid) (service : Service) (request : PostfixRequest) (notice : NoticeRequest) (moment serial : ℕ) (telling : Telling) (gained : List Deed) : Type 0 where
+pub record TellingParts (task : Task) (telling : Telling) (gained : List Deed) : Type 0 where
   pub front : List Deed
   pub removal : List Deed
   pub parts : gained ≡ front ++ removal
   pub keeps : RemovesNone front
-  pub once : (hand_ins front ≡ []) ⊎ HandsInOnce settings service request notice moment serial front
-  pub removal_is : IsRemovalPart settings service request notice moment serial front removal
-  pub so : ToldSo settings service request notice moment serial telling front gained
+  pub once : (hand_ins front ≡ []) ⊎ HandsInOnce task front
+  pub removal_is : IsRemovalPart task front removal
+  pub so : ToldSo task telling front gained
 
 -- nothing was handed in, and nothing removed
-quiet_parts : (settings : SettingsSaid) (service : Service) (request : PostfixRequest) (notice : NoticeRequest) (moment serial : ℕ) (telling : Telling) (gained : List Deed) → ToldSo settings service request notice moment serial telling gained gained → Block gained [] → TellingParts settings service request notice moment serial telling gained
-quiet_parts settings service request notice moment serial telling gained so block = record {
+quiet_parts : (task : Task) (telling : Telling) (gained : List Deed) → ToldSo task telling gained gained → Block gained [] → TellingParts task telling gained
+quiet_parts task telling gained so block = record {
   front = gained;
   removal = [];
   parts = sym (append-nil gained);
@@ -140,22 +140,22 @@ quiet_parts settings service request notice moment serial telling gained so bloc
   so = so;
 }
 
-removal_told : (settings : SettingsSaid) (service : Service) (request : PostfixRequest) (notice : NoticeRequest) (moment serial : ℕ) (places : List ℕ) (front marks removal : List Deed) → (AreMarked notice places marks → AreAllTold settings service request notice moment serial front)
-    → RemovesMarked service notice places marks removal → IsRemovalPart settings service request notice moment serial front removal
-removal_told settings service request notice moment serial places front marks removal told (inl none) = nothing_removed none
-removal_told settings service request notice moment serial places front marks removal told (inr some) = removed_told some.0 some.1 (told some.2)
+removal_told : (task : Task) (places : List ℕ) (front marks removal : List Deed) → (AreMarked task.notice places marks → AreAllTold task front)
+    → RemovesMarked task places marks removal → IsRemovalPart task front removal
+removal_told task places front marks removal told (inl none) = nothing_removed none
+removal_told task places front marks removal told (inr some) = removed_told some.0 some.1 (told some.2)
 
 -- what was read, and nothing after it
-read_alone : (service : Service) (request : PostfixRequest) (notice : NoticeRequest) (found : MailRead) (gained : List Deed) → gained ≡ [] → Block (readings service request notice found ++ gained) []
-read_alone service request notice found gained is = both (readings service request notice found) gained [] [] (readings_block service request notice found) (block_is gained [] [] is no_deeds)
+read_alone : (task : Task) (found : MailRead) (gained : List Deed) → gained ≡ [] → Block (readings task found ++ gained) []
+read_alone task found gained is = both (readings task found) gained [] [] (readings_block task found) (block_is gained [] [] is no_deeds)
 
-letters_parts : (settings : SettingsSaid) (service : Service) (request : PostfixRequest) (notice : NoticeRequest) (moment serial : ℕ) (found : MailRead) (made : List Letter) (telling : Telling) (gained : List Deed)
-    → AreLettersAsked settings service request notice moment serial found made → TellsLetters settings service request notice found made (places_done service request notice found.log) telling gained
-    → TellingParts settings service request notice moment serial telling (readings service request notice found ++ gained)
-letters_parts settings service request notice moment serial found made telling gained asked (notices.stopped why t stops) =
-    let tried = stopped_front settings.host made why gained stops in
-    let read = readings service request notice found in
-    let block = both read gained [] gained (readings_block service request notice found) tried.block in
+letters_parts : (task : Task) (found : MailRead) (made : List Letter) (telling : Telling) (gained : List Deed)
+    → AreLettersAsked task found made → TellsLetters task found made (places_done task found.log) telling gained
+    → TellingParts task telling (readings task found ++ gained)
+letters_parts task found made telling gained asked (notices.stopped why t stops) =
+    let tried = stopped_front task.terms.settings.host made why gained stops in
+    let read = readings task found in
+    let block = both read gained [] gained (readings_block task found) tried.block in
     record {
       front = read ++ gained;
       removal = [];
@@ -170,20 +170,20 @@ letters_parts settings service request notice moment serial found made telling g
         front = tried.front;
         rest = tried.rest;
         letters_are = tried.letters_are;
-        each = subst (λ (deeds : List Deed). AreHandedIn settings.host tried.front deeds) (sym block.handed_are) tried.each;
+        each = subst (λ (deeds : List Deed). AreHandedIn task.terms.settings.host tried.front deeds) (sym block.handed_are) tried.each;
       });
       removal_is = nothing_removed refl;
-      so = told_as settings service request notice moment serial telling (end_at_letter why) (read ++ gained) (read ++ gained) t (told_if_stopped settings service request notice moment serial found made why (read ++ gained) gained asked stops);
+      so = told_as task telling (end_at_letter why) (read ++ gained) (read ++ gained) t (told_if_stopped task found made why (read ++ gained) gained asked stops);
     }
-letters_parts settings service request notice moment serial found made telling gained asked (notices.accepted done taken rest t is accepted finishes) =
-    let places = places_done service request notice found.log in
-    let finish = finish_parts service request notice found.log places done rest finishes in
-    let read = readings service request notice found in
+letters_parts task found made telling gained asked (notices.accepted done taken rest t is accepted finishes) =
+    let places = places_done task found.log in
+    let finish = finish_parts task found.log places done rest finishes in
+    let read = readings task found in
     let front : List Deed = read ++ (taken ++ finish.marks) in
-    let block : Block front taken = both read (taken ++ finish.marks) [] taken (readings_block service request notice found)
+    let block : Block front taken = both read (taken ++ finish.marks) [] taken (readings_block task found)
     (subst (λ (handed : List Deed). Block (taken ++ finish.marks) handed) (append-nil taken)
-    (both taken finish.marks taken [] (accepted_block settings.host made taken accepted) finish.block)) in
-    let told : AreMarked notice places finish.marks → AreAllTold settings service request notice moment serial front =
+    (both taken finish.marks taken [] (accepted_block task.terms.settings.host made taken accepted) finish.block)) in
+    let told : AreMarked task.notice places finish.marks → AreAllTold task front =
     λ marked. record { found = found; letters = made; handed = taken; marks = finish.marks; gained_are = refl; asked = asked; accepted = accepted; marked = marked } in
     record {
       front = front;
@@ -200,30 +200,30 @@ letters_parts settings service request notice moment serial found made telling g
         front = made;
         rest = [];
         letters_are = sym (append-nil made);
-        each = subst (λ (deeds : List Deed). AreHandedIn settings.host made deeds) (sym block.handed_are) (accepted_handed settings.host made taken accepted);
+        each = subst (λ (deeds : List Deed). AreHandedIn task.terms.settings.host made deeds) (sym block.handed_are) (accepted_handed task.terms.settings.host made taken accepted);
       });
-      removal_is = removal_told settings service request notice moment serial places front finish.marks finish.removal told finish.removal_is;
-      so = told_as settings service request notice moment serial telling (end_of_telling done) front (read ++ gained) t (told_if_done settings service request notice moment serial done front (read ++ gained) (λ all. told (finish.if_done all)));
+      removal_is = removal_told task places front finish.marks finish.removal told finish.removal_is;
+      so = told_as task telling (end_of_telling done) front (read ++ gained) t (told_if_done task done front (read ++ gained) (λ all. told (finish.if_done all)));
     }
 
-mail_parts : (settings : SettingsSaid) (service : Service) (request : PostfixRequest) (notice : NoticeRequest) (moment serial : ℕ) (found : MailRead) (telling : Telling) (gained : List Deed)
-    → TellsOfMail settings service request notice moment serial found telling gained
-    → TellingParts settings service request notice moment serial telling (readings service request notice found ++ gained)
-mail_parts settings service request notice moment serial found telling gained (notices.no_memory t is) =
-    quiet_parts settings service request notice moment serial telling _ (told_as settings service request notice moment serial telling NoMemory _ _ t tt) (read_alone service request notice found gained is)
-mail_parts settings service request notice moment serial found telling gained (notices.unsayable why t is unsaid) =
-    quiet_parts settings service request notice moment serial telling _
-    (told_as settings service request notice moment serial telling (Unsayable why) _ _ t (record { found = found; tried = gained; told_is = refl; why = laws.unsayable unsaid is }))
-    (read_alone service request notice found gained is)
-mail_parts settings service request notice moment serial found telling gained (notices.letters made asked tells) =
-    letters_parts settings service request notice moment serial found made telling gained asked tells
+mail_parts : (task : Task) (found : MailRead) (telling : Telling) (gained : List Deed)
+    → TellsOfMail task found telling gained
+    → TellingParts task telling (readings task found ++ gained)
+mail_parts task found telling gained (notices.no_memory t is) =
+    quiet_parts task telling _ (told_as task telling NoMemory _ _ t tt) (read_alone task found gained is)
+mail_parts task found telling gained (notices.unsayable why t is unsaid) =
+    quiet_parts task telling _
+    (told_as task telling (Unsayable why) _ _ t (record { found = found; tried = gained; told_is = refl; why = laws.unsayable unsaid is }))
+    (read_alone task found gained is)
+mail_parts task found telling gained (notices.letters made asked tells) =
+    letters_parts task found made telling gained asked tells
 
-pub telling_parts : (settings : SettingsSaid) (service : Service) (request : PostfixRequest) (notice : NoticeRequest) (moment serial : ℕ) (telling : Telling) (gained : List Deed)
-    → Tells settings service request notice moment serial telling gained → TellingParts settings service request notice moment serial telling gained
-telling_parts settings service request notice moment serial telling gained (notices.unread t fails) =
-    quiet_parts settings service request notice moment serial telling gained (told_as settings service request notice moment serial telling Failed gained gained t tt) (unread_block service request notice gained fails)
-telling_parts settings service request notice moment serial telling gained (notices.read found told is tells) =
-    subst (λ (deeds : List Deed). TellingParts settings service request notice moment serial telling deeds) (sym is) (mail_parts settings service request notice moment serial found telling told tells)
+pub telling_parts : (task : Task) (telling : Telling) (gained : List Deed)
+    → Tells task telling gained → TellingParts task telling gained
+telling_parts task telling gained (notices.unread t fails) =
+    quiet_parts task telling gained (told_as task telling Failed gained gained t tt) (unread_block task gained fails)
+telling_parts task telling gained (notices.read found told is tells) =
+    subst (λ (deeds : List Deed). TellingParts task telling deeds) (sym is) (mail_parts task found telling told tells)
 
 -- ---- the end
 
@@ -240,27 +240,27 @@ ends_block service bytes RefusedForGood answer last ends = block_is last _ [] en
 released_block : (last : List Deed) → Block last [] → Block (LogReleased ∷ last) []
 released_block last block = record { keeps = (refl, block.keeps); handed_are = block.handed_are }
 
-pub record NotifiedParts (settings : SettingsSaid) (service : Service) (request : PostfixRequest) (notice : NoticeRequest) (bytes : List ℕ) (moment serial : ℕ) (answer : RequestAnswer) (gained : List Deed) : Type 0 where
+pub record NotifiedParts (task : Task) (bytes : List ℕ) (answer : RequestAnswer) (gained : List Deed) : Type 0 where
   pub told : List Deed
   pub last : List Deed
   pub tail : List Deed
   pub tail_is : tail ≡ LogReleased ∷ last
   pub all : gained ≡ told ++ tail
   pub ended : Telling
-  pub telling : TellingParts settings service request notice moment serial ended told
-  pub ends : EndsTelling service bytes ended answer last
+  pub telling : TellingParts task ended told
+  pub ends : EndsTelling task.terms.service bytes ended answer last
   pub tail_block : Block tail []
 
-pub notified_parts : (settings : SettingsSaid) (service : Service) (request : PostfixRequest) (notice : NoticeRequest) (bytes : List ℕ) (moment serial : ℕ) (answer : RequestAnswer) (gained : List Deed)
-    → IsNotified settings service request notice bytes moment serial answer gained → NotifiedParts settings service request notice bytes moment serial answer gained
-notified_parts settings service request notice bytes moment serial answer gained is = record {
+pub notified_parts : (task : Task) (bytes : List ℕ) (answer : RequestAnswer) (gained : List Deed)
+    → IsNotified task bytes answer gained → NotifiedParts task bytes answer gained
+notified_parts task bytes answer gained is = record {
   told = is.told;
   last = is.last;
   tail = LogReleased ∷ is.last;
   tail_is = refl;
   all = is.gained_are;
   ended = is.telling;
-  telling = telling_parts settings service request notice moment serial is.telling is.told is.tells;
+  telling = telling_parts task is.telling is.told is.tells;
   ends = is.ends;
-  tail_block = released_block is.last (ends_block service bytes is.telling answer is.last is.ends);
+  tail_block = released_block is.last (ends_block task.terms.service bytes is.telling answer is.last is.ends);
 }

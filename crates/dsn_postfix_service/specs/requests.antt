@@ -10,4 +10,4 @@ pub mod NoticeDeeds
 pub mod RequestLetters
 pub mod RequestLaws
 pub mod RequestStatus
-pub mod ServiceSettings
+pub mod Task

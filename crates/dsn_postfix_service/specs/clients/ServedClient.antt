@@ -12,7 +12,7 @@ use Rattle.dsn_postfix_service.specs.requests.AnsweredRequest.{IsAnswered}
 use Rattle.dsn_postfix_service.specs.requests.Deed.{Deed}
 use Rattle.dsn_postfix_service.specs.requests.Gains.{Gains}
 use Rattle.dsn_postfix_service.specs.requests.RequestStatus.{PassesOn, RequestAnswer, not_carried_out}
-use Rattle.dsn_postfix_service.specs.requests.ServiceSettings.{SettingsSaid}
+use Rattle.dsn_postfix_service.specs.requests.Task.{SettingsSaid, Terms}
 use Rattle.dsn_postfix_service.specs.declared.clients.client_fault.ClientFault.{ClientFault}
 use Rattle.dsn_postfix_service.specs.declared.clients.client_fault.ClientFault.TheVariants.{NoMoment, Unsaid}
 
@@ -22,20 +22,19 @@ status_said (Ok status) = status
 status_said (Err refused) = not_carried_out
 
 -- what a list asks is done: a request is answered, and a list that is none is passed on to Postfix's own service
-pub data DoesAsked (settings : SettingsSaid) (service : Service) (list : List ℕ)
-    (moment serial : ℕ) (answer : RequestAnswer) (gained : List Deed) : Type 0 where
+pub data DoesAsked (terms : Terms) (list : List ℕ) (answer : RequestAnswer) (gained : List Deed) : Type 0 where
   request : (asked : PostfixRequest) → IsRequestIn list asked
-      → IsAnswered settings service asked list moment serial answer gained
-      → DoesAsked settings service list moment serial answer gained
-  other : (fault : RequestFault) → postfix_request_at list ≡ Err fault → PassesOn service list answer gained
-      → DoesAsked settings service list moment serial answer gained
+      → IsAnswered terms asked list answer gained
+      → DoesAsked terms list answer gained
+  other : (fault : RequestFault) → postfix_request_at list ≡ Err fault → PassesOn terms.service list answer gained
+      → DoesAsked terms list answer gained
 
 -- what a list asks was done, at some moment; this is the status that answers it
 pub record IsDoneFor {M : Type 0} (deeds : M → Option (List Deed)) (settings : SettingsSaid) (service : Service)
     (list : List ℕ) (serial : ℕ) (before after : M) (status : ℕ) : Type 0 where
   pub moment : ℕ
   pub answer : RequestAnswer
-  pub does : Gains deeds before after (DoesAsked settings service list moment serial answer)
+  pub does : Gains deeds before after (DoesAsked (record { settings = settings; service = service; moment = moment; serial = serial }) list answer)
   pub status_is : status ≡ status_said answer
 
 -- a status couldn't be said

@@ -9,7 +9,7 @@ use Rattle.dsn_postfix.specs.declared.postfix_request.PostfixRequest.TheVariants
 use Rattle.dsn_postfix_service.specs.requests.CarriedOut.{IsCarriedOut, queue_id_of}
 use Rattle.dsn_postfix_service.specs.requests.Deed.{Deed, LogSought}
 use Rattle.dsn_postfix_service.specs.requests.RequestStatus.{RequestAnswer, carried_out, is_carried_out, not_carried_out}
-use Rattle.dsn_postfix_service.specs.requests.ServiceSettings.{SettingsSaid}
+use Rattle.dsn_postfix_service.specs.requests.Task.{Terms}
 use Rattle.dsn_postfix_service.specs.declared.requests.deed_fault.DeedFault.{DeedFault}
 
 -- CLEAN (1) and DELRCPT (2) are about the log of the service that is asked, and about no other
@@ -47,38 +47,45 @@ first_flush TraceLog request = None
 abbrev pub bounce_serial : ℕ → ℕ
 bounce_serial serial = (serial + 500000) % 2 ^ 64
 
+-- the terms of the flush of the bounce log
+abbrev pub bounce_terms : Terms → Terms
+bounce_terms terms = record {
+  settings = terms.settings;
+  service = Bounce;
+  moment = terms.moment;
+  serial = bounce_serial terms.serial;
+}
+
 -- The flush of a bounce log is carried out on it. Its own bytes are what is passed on; without memory for these nothing is
 -- done.
-pub data FlushesBounceLog (settings : SettingsSaid) (first : PostfixRequest) (moment serial : ℕ) (answer : RequestAnswer)
-    (gained : List Deed) : Type 0 where
-  no_memory : gained ≡ [] → IsErr answer → FlushesBounceLog settings first moment serial answer gained
-  flushed : (bytes : List ℕ) → IsRequestIn bytes first → IsCarriedOut settings Bounce first bytes moment serial answer gained
-      → FlushesBounceLog settings first moment serial answer gained
+pub data FlushesBounceLog (terms : Terms) (first : PostfixRequest) (answer : RequestAnswer) (gained : List Deed) : Type 0 where
+  no_memory : gained ≡ [] → IsErr answer → FlushesBounceLog terms first answer gained
+  flushed : (bytes : List ℕ) → IsRequestIn bytes first → IsCarriedOut (bounce_terms terms) first bytes answer gained
+      → FlushesBounceLog terms first answer gained
 
 -- it is asked whether the message has a bounce log, and if so, that log is flushed
-pub data IsBounceLogTold (settings : SettingsSaid) (first : PostfixRequest) (moment serial : ℕ) (answer : RequestAnswer)
-    (gained : List Deed) : Type 0 where
+pub data IsBounceLogTold (terms : Terms) (first : PostfixRequest) (answer : RequestAnswer) (gained : List Deed) : Type 0 where
   unsought : (fault : DeedFault) → gained ≡ LogSought Bounce (queue_id_of first) (Err fault) ∷ []
-      → answer ≡ Ok not_carried_out → IsBounceLogTold settings first moment serial answer gained
+      → answer ≡ Ok not_carried_out → IsBounceLogTold terms first answer gained
   no_log : gained ≡ LogSought Bounce (queue_id_of first) (Ok false) ∷ []
-      → answer ≡ Ok carried_out → IsBounceLogTold settings first moment serial answer gained
+      → answer ≡ Ok carried_out → IsBounceLogTold terms first answer gained
   told : (more : List Deed) → gained ≡ LogSought Bounce (queue_id_of first) (Ok true) ∷ more
-      → FlushesBounceLog settings first moment serial answer more
-      → IsBounceLogTold settings first moment serial answer gained
+      → FlushesBounceLog terms first answer more
+      → IsBounceLogTold terms first answer gained
 
 -- the bounce log is told first; unless that is answered 0 the log of the service is left as it is, also by CLEAN
-pub data IsFlushedInTurn (settings : SettingsSaid) (service : Service) (first request : PostfixRequest) (bytes : List ℕ)
-    (moment serial : ℕ) (answer : RequestAnswer) (gained : List Deed) : Type 0 where
-  put_off : is_carried_out answer ≡ false → IsBounceLogTold settings first moment (bounce_serial serial) answer gained
-      → IsFlushedInTurn settings service first request bytes moment serial answer gained
+pub data IsFlushedInTurn (terms : Terms) (first request : PostfixRequest) (bytes : List ℕ) (answer : RequestAnswer)
+    (gained : List Deed) : Type 0 where
+  put_off : is_carried_out answer ≡ false → IsBounceLogTold terms first answer gained
+      → IsFlushedInTurn terms first request bytes answer gained
   in_turn : (before rest : List Deed) → gained ≡ before ++ rest
-      → IsBounceLogTold settings first moment (bounce_serial serial) (Ok carried_out) before
-      → IsCarriedOut settings service request bytes moment serial answer rest
-      → IsFlushedInTurn settings service first request bytes moment serial answer gained
+      → IsBounceLogTold terms first (Ok carried_out) before
+      → IsCarriedOut terms request bytes answer rest
+      → IsFlushedInTurn terms first request bytes answer gained
 
 -- these deeds were done for a request, all of them and in this order, and this answers it
-abbrev pub IsAnswered : SettingsSaid → Service → PostfixRequest → List ℕ → ℕ → ℕ → RequestAnswer → List Deed → Type 0
-IsAnswered settings service request bytes moment serial answer gained =
-    MatchOption (first_flush service request)
-    (IsCarriedOut settings service request bytes moment serial answer gained)
-    (λ first. IsFlushedInTurn settings service first request bytes moment serial answer gained)
+abbrev pub IsAnswered : Terms → PostfixRequest → List ℕ → RequestAnswer → List Deed → Type 0
+IsAnswered terms request bytes answer gained =
+    MatchOption (first_flush terms.service request)
+    (IsCarriedOut terms request bytes answer gained)
+    (λ first. IsFlushedInTurn terms first request bytes answer gained)

@@ -1,13 +1,14 @@
 -- What is done for one request of Postfix's programs, in its order, and what answers it.
 use Rattle.std.specs.Prelude.{◌≡◌, ◌&&◌, not, ℕ, Bool, List, [], ◌∷◌, ◌++◌, MatchBool}
 use Rattle.dsn_text.specs.declared.service.Service.{Service}
+use Rattle.dsn_postfix.specs.declared.postfix_request.NoticeRequest.{NoticeRequest}
 use Rattle.dsn_postfix.specs.declared.postfix_request.PostfixRequest.{PostfixRequest}
 use Rattle.dsn_postfix.specs.declared.postfix_request.PostfixRequest.TheVariants.{Append, Flush, Warn, Verp, One, Trace}
 use Rattle.dsn_postfix_service.specs.requests.AppendDeeds.{IsAppended}
 use Rattle.dsn_postfix_service.specs.requests.Deed.{Answer, Deed, LogRemoved}
 use Rattle.dsn_postfix_service.specs.requests.NoticeDeeds.{IsNotified}
 use Rattle.dsn_postfix_service.specs.requests.RequestStatus.{RequestAnswer, has_flag, is_carried_out}
-use Rattle.dsn_postfix_service.specs.requests.ServiceSettings.{SettingsSaid}
+use Rattle.dsn_postfix_service.specs.requests.Task.{Task, Terms}
 
 abbrev pub flags_of : PostfixRequest → ℕ
 flags_of (Append append) = append.flags
@@ -25,19 +26,17 @@ queue_id_of (Verp notice delimiters) = notice.queue_id
 queue_id_of (One notice recipient report) = notice.queue_id
 queue_id_of (Trace notice) = notice.queue_id
 
+abbrev pub task_of : Terms → PostfixRequest → NoticeRequest → Task
+task_of terms request notice = record { terms = terms; request = request; notice = notice }
+
 -- what is done to carry it out
-abbrev pub IsDone : SettingsSaid → Service → PostfixRequest → List ℕ → ℕ → ℕ → RequestAnswer → List Deed → Type 0
-IsDone settings service (Append append) bytes moment serial answer gained = IsAppended service append bytes answer gained
-IsDone settings service (Flush notice) bytes moment serial answer gained =
-    IsNotified settings service (Flush notice) notice bytes moment serial answer gained
-IsDone settings service (Warn notice) bytes moment serial answer gained =
-    IsNotified settings service (Warn notice) notice bytes moment serial answer gained
-IsDone settings service (Verp notice delimiters) bytes moment serial answer gained =
-    IsNotified settings service (Verp notice delimiters) notice bytes moment serial answer gained
-IsDone settings service (One notice recipient report) bytes moment serial answer gained =
-    IsNotified settings service (One notice recipient report) notice bytes moment serial answer gained
-IsDone settings service (Trace notice) bytes moment serial answer gained =
-    IsNotified settings service (Trace notice) notice bytes moment serial answer gained
+abbrev pub IsDone : Terms → PostfixRequest → List ℕ → RequestAnswer → List Deed → Type 0
+IsDone terms (Append append) bytes answer gained = IsAppended terms.service append bytes answer gained
+IsDone terms (Flush notice) bytes answer gained = IsNotified (task_of terms (Flush notice) notice) bytes answer gained
+IsDone terms (Warn notice) bytes answer gained = IsNotified (task_of terms (Warn notice) notice) bytes answer gained
+IsDone terms (Verp notice delimiters) bytes answer gained = IsNotified (task_of terms (Verp notice delimiters) notice) bytes answer gained
+IsDone terms (One notice recipient report) bytes answer gained = IsNotified (task_of terms (One notice recipient report) notice) bytes answer gained
+IsDone terms (Trace notice) bytes answer gained = IsNotified (task_of terms (Trace notice) notice) bytes answer gained
 
 -- a request with CLEAN asks that its log be removed unless the answer is status 0, whatever it was that failed
 abbrev pub must_clean : PostfixRequest → RequestAnswer → Bool
@@ -51,10 +50,10 @@ abbrev pub Cleans : Service → PostfixRequest → Bool → List Deed → Type 0
 Cleans service request due gained = MatchBool due (RemovesOnce service request gained) (gained ≡ [])
 
 -- these deeds were done for a request, all of them and in this order, and this answers it
-pub record IsCarriedOut (settings : SettingsSaid) (service : Service) (request : PostfixRequest) (bytes : List ℕ)
-    (moment serial : ℕ) (answer : RequestAnswer) (gained : List Deed) : Type 0 where
+pub record IsCarriedOut (terms : Terms) (request : PostfixRequest) (bytes : List ℕ) (answer : RequestAnswer)
+    (gained : List Deed) : Type 0 where
   pub done : List Deed
   pub cleaned : List Deed
   pub gained_are : gained ≡ done ++ cleaned
-  pub is_done : IsDone settings service request bytes moment serial answer done
-  pub clean : Cleans service request (must_clean request answer) cleaned
+  pub is_done : IsDone terms request bytes answer done
+  pub clean : Cleans terms.service request (must_clean request answer) cleaned

@@ -6,6 +6,7 @@ use Rattle.dsn_postfix.specs.declared.postfix_request.NoticeRequest.{NoticeReque
 use Rattle.dsn_postfix.specs.declared.postfix_request.PostfixRequest.{PostfixRequest}
 use Rattle.dsn_postfix.specs.declared.postfix_request.PostfixRequest.TheVariants.{Append, Flush, Warn, Verp, One, Trace}
 use Rattle.dsn_postfix_service.specs.requests.Deed.{Deed, LogRemoved, MarkedDone}
+use Rattle.dsn_postfix_service.specs.requests.Task.{Task}
 use Rattle.dsn_postfix_service.specs.declared.requests.deed_fault.DeedFault.{DeedFault}
 
 -- ---- recipients
@@ -66,9 +67,8 @@ pub data RemovesLog (service : Service) (id : List ℕ) (due done : Bool) (gaine
 -- ---- both
 
 -- recipients are marked; once all of them are, the log is removed
-pub data FinishesAt (service : Service) (request : PostfixRequest) (notice : NoticeRequest) (log : Option (List ℕ))
-    (places : List ℕ) (done : Bool) (gained : List Deed) : Type 0 where
-  unmarked : done ≡ false → StopsAtPlace notice places gained → FinishesAt service request notice log places done gained
-  marked : (marks removal : List Deed) → gained ≡ marks ++ removal → AreMarked notice places marks
-      → RemovesLog service notice.queue_id (is_removal_due request log) done removal
-      → FinishesAt service request notice log places done gained
+pub data FinishesAt (task : Task) (log : Option (List ℕ)) (places : List ℕ) (done : Bool) (gained : List Deed) : Type 0 where
+  unmarked : done ≡ false → StopsAtPlace task.notice places gained → FinishesAt task log places done gained
+  marked : (marks removal : List Deed) → gained ≡ marks ++ removal → AreMarked task.notice places marks
+      → RemovesLog task.terms.service task.notice.queue_id (is_removal_due task.request log) done removal
+      → FinishesAt task log places done gained

@@ -6,6 +6,7 @@ use Rattle.dsn_postfix.specs.declared.postfix_request.NoticeRequest.{NoticeReque
 use Rattle.dsn_postfix.specs.declared.postfix_request.PostfixRequest.{PostfixRequest}
 use Rattle.dsn_postfix.specs.declared.postfix_request.PostfixRequest.TheVariants.{Append, Flush, Warn, Verp, One, Trace}
 use Rattle.dsn_postfix_service.specs.requests.Deed.{Deed, LogRead, MessageRead}
+use Rattle.dsn_postfix_service.specs.requests.Task.{Task}
 use Rattle.dsn_postfix_service.specs.declared.requests.deed_fault.DeedFault.{DeedFault}
 use Rattle.dsn_postfix_service.specs.declared.requests.mail_found.MailFound.{MailFound}
 
@@ -34,26 +35,29 @@ log_reading true service notice answer = LogRead service notice.queue_id answer 
 log_reading false service notice answer = []
 
 -- what comes of reading the log, if there is one to read
-abbrev pub ReadsLog : Service → PostfixRequest → NoticeRequest → Result (Option (List ℕ)) DeedFault → List Deed → Type 0
-ReadsLog service request notice answer gained =
-    (gained ≡ log_reading (tells_of_log request) service notice answer) × (is_err answer ≡ true → tells_of_log request ≡ true)
+abbrev pub ReadsLog : Task → Result (Option (List ℕ)) DeedFault → List Deed → Type 0
+ReadsLog task answer gained =
+    (gained ≡ log_reading (tells_of_log task.request) task.terms.service task.notice answer)
+    × (is_err answer ≡ true → tells_of_log task.request ≡ true)
 
 abbrev pub message_reading : NoticeRequest → Result (List ℕ) DeedFault → List Deed
 message_reading notice answer = MessageRead notice.queue_name notice.queue_id answer ∷ []
 
 -- the deeds that read all of it
-abbrev pub readings : Service → PostfixRequest → NoticeRequest → MailRead → List Deed
-readings service request notice found =
-    log_reading (tells_of_log request) service notice (Ok found.log) ++ message_reading notice (Ok found.file)
+abbrev pub readings : Task → MailRead → List Deed
+readings task found =
+    log_reading (tells_of_log task.request) task.terms.service task.notice (Ok found.log)
+    ++ message_reading task.notice (Ok found.file)
 
 -- one of the two couldn't be read
-pub data FailsToRead (service : Service) (request : PostfixRequest) (notice : NoticeRequest) (gained : List Deed) : Type 0 where
-  log_unread : (fault : DeedFault) → tells_of_log request ≡ true
-      → gained ≡ log_reading true service notice (Err fault) → FailsToRead service request notice gained
+pub data FailsToRead (task : Task) (gained : List Deed) : Type 0 where
+  log_unread : (fault : DeedFault) → tells_of_log task.request ≡ true
+      → gained ≡ log_reading true task.terms.service task.notice (Err fault) → FailsToRead task gained
   message_unread : (log : Option (List ℕ)) (fault : DeedFault)
-      → gained ≡ log_reading (tells_of_log request) service notice (Ok log) ++ message_reading notice (Err fault)
-      → FailsToRead service request notice gained
+      → gained ≡ log_reading (tells_of_log task.request) task.terms.service task.notice (Ok log)
+      ++ message_reading task.notice (Err fault)
+      → FailsToRead task gained
 
-abbrev pub Reads : Service → PostfixRequest → NoticeRequest → Result MailFound DeedFault → List Deed → Type 0
-Reads service request notice (Ok found) gained = gained ≡ readings service request notice (mail_read_in found)
-Reads service request notice (Err fault) gained = FailsToRead service request notice gained
+abbrev pub Reads : Task → Result MailFound DeedFault → List Deed → Type 0
+Reads task (Ok found) gained = gained ≡ readings task (mail_read_in found)
+Reads task (Err fault) gained = FailsToRead task gained

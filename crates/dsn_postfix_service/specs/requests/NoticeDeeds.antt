@@ -2,15 +2,13 @@
 use Rattle.std.specs.Prelude.{◌≡◌, ℕ, Bool, true, false, List, [], ◌∷◌, ◌++◌, Ok, IsErr}
 use Rattle.dsn_outcome.specs.Letter.{Letter}
 use Rattle.dsn_text.specs.declared.service.Service.{Service}
-use Rattle.dsn_postfix.specs.declared.postfix_request.NoticeRequest.{NoticeRequest}
-use Rattle.dsn_postfix.specs.declared.postfix_request.PostfixRequest.{PostfixRequest}
 use Rattle.dsn_postfix_service.specs.requests.Deed.{Deed, LogReleased}
 use Rattle.dsn_postfix_service.specs.requests.Finishing.{FinishesAt}
 use Rattle.dsn_postfix_service.specs.requests.HandingIn.{AreAccepted, StopsAtLetter}
 use Rattle.dsn_postfix_service.specs.requests.MailFound.{FailsToRead, MailRead, readings}
 use Rattle.dsn_postfix_service.specs.requests.RequestLetters.{AreLettersAsked, CantBeSaid, places_done}
 use Rattle.dsn_postfix_service.specs.requests.RequestStatus.{PassesOn, RequestAnswer, carried_out, not_carried_out}
-use Rattle.dsn_postfix_service.specs.requests.ServiceSettings.{SettingsSaid}
+use Rattle.dsn_postfix_service.specs.requests.Task.{Task}
 use Rattle.dsn_postfix_service.specs.declared.requests.not_accepted.NotAccepted.{NotAccepted}
 use Rattle.dsn_postfix_service.specs.declared.requests.not_accepted.NotAccepted.TheVariants as not_accepted
 use Rattle.dsn_postfix_service.specs.declared.requests.pass_reason.PassReason.{PassReason}
@@ -27,35 +25,33 @@ end_at_letter not_accepted.RefusedForGood = RefusedForGood
 end_at_letter not_accepted.NoMemory = NoMemory
 
 -- letters are handed in; once all are accepted, the rest follows
-pub data TellsLetters (settings : SettingsSaid) (service : Service) (request : PostfixRequest) (notice : NoticeRequest)
-    (found : MailRead) (letters : List Letter) (places : List ℕ) (telling : Telling) (gained : List Deed) : Type 0 where
-  stopped : (why : NotAccepted) → telling ≡ end_at_letter why → StopsAtLetter settings.host letters why gained
-      → TellsLetters settings service request notice found letters places telling gained
+pub data TellsLetters (task : Task) (found : MailRead) (letters : List Letter) (places : List ℕ) (telling : Telling)
+    (gained : List Deed) : Type 0 where
+  stopped : (why : NotAccepted) → telling ≡ end_at_letter why → StopsAtLetter task.terms.settings.host letters why gained
+      → TellsLetters task found letters places telling gained
   accepted : (done : Bool) (taken rest : List Deed) → telling ≡ end_of_telling done
-      → gained ≡ taken ++ rest → AreAccepted settings.host letters taken
-      → FinishesAt service request notice found.log places done rest
-      → TellsLetters settings service request notice found letters places telling gained
+      → gained ≡ taken ++ rest → AreAccepted task.terms.settings.host letters taken
+      → FinishesAt task found.log places done rest
+      → TellsLetters task found letters places telling gained
 
 -- Nothing is handed in before each notice is a letter; where one can't be said, or there is no memory for one, nothing is at
 -- all.
-pub data TellsOfMail (settings : SettingsSaid) (service : Service) (request : PostfixRequest) (notice : NoticeRequest)
-    (moment serial : ℕ) (found : MailRead) (telling : Telling) (gained : List Deed) : Type 0 where
+pub data TellsOfMail (task : Task) (found : MailRead) (telling : Telling) (gained : List Deed) : Type 0 where
   no_memory : telling ≡ NoMemory → gained ≡ []
-      → TellsOfMail settings service request notice moment serial found telling gained
-  unsayable : (why : PassReason) → telling ≡ Unsayable why → gained ≡ [] → CantBeSaid settings service request notice found
-      → TellsOfMail settings service request notice moment serial found telling gained
-  letters : (made : List Letter) → AreLettersAsked settings service request notice moment serial found made
-      → TellsLetters settings service request notice found made (places_done service request notice found.log) telling gained
-      → TellsOfMail settings service request notice moment serial found telling gained
+      → TellsOfMail task found telling gained
+  unsayable : (why : PassReason) → telling ≡ Unsayable why → gained ≡ [] → CantBeSaid task found
+      → TellsOfMail task found telling gained
+  letters : (made : List Letter) → AreLettersAsked task found made
+      → TellsLetters task found made (places_done task found.log) telling gained
+      → TellsOfMail task found telling gained
 
 -- the log and the message are read, and then their sender is told
-pub data Tells (settings : SettingsSaid) (service : Service) (request : PostfixRequest) (notice : NoticeRequest)
-    (moment serial : ℕ) (telling : Telling) (gained : List Deed) : Type 0 where
-  unread : telling ≡ Failed → FailsToRead service request notice gained
-      → Tells settings service request notice moment serial telling gained
-  read : (found : MailRead) (told : List Deed) → gained ≡ readings service request notice found ++ told
-      → TellsOfMail settings service request notice moment serial found telling told
-      → Tells settings service request notice moment serial telling gained
+pub data Tells (task : Task) (telling : Telling) (gained : List Deed) : Type 0 where
+  unread : telling ≡ Failed → FailsToRead task gained
+      → Tells task telling gained
+  read : (found : MailRead) (told : List Deed) → gained ≡ readings task found ++ told
+      → TellsOfMail task found telling told
+      → Tells task telling gained
 
 -- a request is passed on whole where its notices can't be said, and where the first of them is refused for good
 abbrev pub EndsTelling : Service → List ℕ → Telling → RequestAnswer → List Deed → Type 0
@@ -66,11 +62,10 @@ EndsTelling service bytes RefusedForGood answer gained = PassesOn service bytes 
 EndsTelling service bytes NoMemory answer gained = (gained ≡ []) × IsErr answer
 
 -- the log is released before Postfix's own service may want it
-pub record IsNotified (settings : SettingsSaid) (service : Service) (request : PostfixRequest) (notice : NoticeRequest)
-    (bytes : List ℕ) (moment serial : ℕ) (answer : RequestAnswer) (gained : List Deed) : Type 0 where
+pub record IsNotified (task : Task) (bytes : List ℕ) (answer : RequestAnswer) (gained : List Deed) : Type 0 where
   pub telling : Telling
   pub told : List Deed
   pub last : List Deed
   pub gained_are : gained ≡ told ++ LogReleased ∷ last
-  pub tells : Tells settings service request notice moment serial telling told
-  pub ends : EndsTelling service bytes telling answer last
+  pub tells : Tells task telling told
+  pub ends : EndsTelling task.terms.service bytes telling answer last

@@ -24,7 +24,7 @@ use Rattle.dsn_postfix_service.specs.letters.NoticeLetter.{IsLetterOf, first_let
 use Rattle.dsn_postfix_service.specs.letters.ReportedMessage.{MessageSaid}
 use Rattle.dsn_postfix_service.specs.requests.MailFound.{MailRead, tells_of_log}
 use Rattle.dsn_postfix_service.specs.requests.RequestStatus.{has_flag}
-use Rattle.dsn_postfix_service.specs.requests.ServiceSettings.{SettingsSaid}
+use Rattle.dsn_postfix_service.specs.requests.Task.{Task}
 use Rattle.dsn_postfix_service.specs.declared.requests.no_letters.NoLetters.{NoLetters}
 use Rattle.dsn_postfix_service.specs.declared.requests.no_letters.NoLetters.TheVariants.{NoMemory, Unsayable}
 use Rattle.dsn_postfix_service.specs.declared.requests.pass_reason.PassReason.TheVariants.{NoLetter}
@@ -33,15 +33,15 @@ use Rattle.dsn_postfix_service.specs.declared.requests.pass_reason.PassReason.Th
 
 -- When it came, its sender and its text are the file's to say. Its envelope id is the request's, as is a sender that the
 -- file doesn't say.
-abbrev pub message_said : SettingsSaid → NoticeRequest → List PlacedBytes → MessageSaid
-message_said settings notice records = record {
-  queue_id = notice.queue_id;
+abbrev pub message_said : Task → List PlacedBytes → MessageSaid
+message_said task records = record {
+  queue_id = task.notice.queue_id;
   arrival = (said_of_message records).arrival;
-  sender = unwrap_or (said_of_message records).sender notice.sender;
-  envelope_id = notice.envelope_id;
+  sender = unwrap_or (said_of_message records).sender task.notice.sender;
+  envelope_id = task.notice.envelope_id;
   text = message_text records;
-  lifetime = settings.lifetime;
-  size_limit = settings.size_limit;
+  lifetime = task.terms.settings.lifetime;
+  size_limit = task.terms.settings.size_limit;
 }
 
 -- ---- letters
@@ -64,14 +64,14 @@ AreLettersOf message moment serial (notice ∷ notices) (letter ∷ letters) =
     IsSaidLetter message moment serial notice letter × AreLettersOf message moment (next_serial serial) notices letters
 
 -- the letters of all notices that a request has of a log and a message's file
-pub record AreLettersAsked (settings : SettingsSaid) (service : Service) (request : PostfixRequest) (notice : NoticeRequest)
-    (moment serial : ℕ) (found : MailRead) (letters : List Letter) : Type 0 where
+pub record AreLettersAsked (task : Task) (found : MailRead) (letters : List Letter) : Type 0 where
   pub records : List PlacedBytes
   pub ending : QueueEnding
   pub listed : RecordsFrom found.file (first_place found.file) records ending
   pub notices : List NoticeFacts
-  pub planned : notices_of settings.double_bounce service request (recipients_of records) found.log ≡ Ok notices
-  pub each : AreLettersOf (message_said settings notice records) moment serial notices letters
+  pub planned : notices_of task.terms.settings.double_bounce task.terms.service task.request (recipients_of records)
+      found.log ≡ Ok notices
+  pub each : AreLettersOf (message_said task records) task.terms.moment task.terms.serial notices letters
 
 -- some letters, and then that of a notice
 pub record GainsLetter (message : MessageSaid) (moment serial : ℕ) (notice : NoticeFacts) (old new : List Letter) : Type 0 where
@@ -89,13 +89,12 @@ abbrev pub IsUnsaid : MessageSaid → Result (List NoticeFacts) CantSay → Type
 IsUnsaid message (Ok notices) = list_any (has_fault message) notices ≡ true
 IsUnsaid message (Err reason) = Unit {0}
 
-pub record CantBeSaid (settings : SettingsSaid) (service : Service) (request : PostfixRequest) (notice : NoticeRequest)
-    (found : MailRead) : Type 0 where
+pub record CantBeSaid (task : Task) (found : MailRead) : Type 0 where
   pub records : List PlacedBytes
   pub ending : QueueEnding
   pub listed : RecordsFrom found.file (first_place found.file) records ending
-  pub unsaid : IsUnsaid (message_said settings notice records)
-      (notices_of settings.double_bounce service request (recipients_of records) found.log)
+  pub unsaid : IsUnsaid (message_said task records)
+      (notices_of task.terms.settings.double_bounce task.terms.service task.request (recipients_of records) found.log)
 
 -- what a notice that is no letter comes to
 abbrev pub reason_of : LetterFault → NoLetters
@@ -137,8 +136,8 @@ is_bounce_log Defer = false
 is_bounce_log TraceLog = false
 
 -- they are marked as done where the request asks for that by DELRCPT
-abbrev pub marks_done : Service → PostfixRequest → NoticeRequest → Bool
-marks_done service request notice = has_flag 2 notice.flags && not (is_bounce_log service && tells_of_log request)
+abbrev pub marks_done : Task → Bool
+marks_done task = has_flag 2 task.notice.flags && not (is_bounce_log task.terms.service && tells_of_log task.request)
 
-abbrev pub places_done : Service → PostfixRequest → NoticeRequest → Option (List ℕ) → List ℕ
-places_done service request notice log = if marks_done service request notice then places_named service request log else []
+abbrev pub places_done : Task → Option (List ℕ) → List ℕ
+places_done task log = if marks_done task then places_named task.terms.service task.request log else []

@@ -6,7 +6,6 @@ ghost use Rattle.dsn_postfix_service.specs.clients.ServedClient.{AnswersClient, 
 ghost use Rattle.dsn_postfix_service.specs.hand_in.Dialogue.{Says};
 ghost use Rattle.dsn_postfix_service.specs.requests.Gains.{Gains};
 ghost use Rattle.dsn_postfix_service.specs.requests.RequestStatus.{not_carried_out};
-ghost use Rattle.dsn_postfix_service.specs.requests.ServiceSettings.{settings_said_in};
 
 use crate::clients::client_fault::ClientFault;
 use crate::clients::heard_client::HeardClient;
@@ -34,7 +33,7 @@ pub fn answer_client<R: Clock, S: Stream, M: MailSystem>(
     first_serial: u64,
     system: &mut M,
 ) -> Result<u32, ClientFault>
-    ensures answered { AnswersClient S.Drain M.deeds (settings_said_in settings.now) service
+    ensures answered { AnswersClient S.Drain M.deeds settings.now service
         first_serial client.old.list.items client.old.stream client.new.stream system.old system.new
         result }
     ensures kept { client.new.list ≡ client.old.list }
@@ -71,8 +70,7 @@ fn answer_list<M: MailSystem>(
     system: &mut M,
 ) -> Result<u32, NoMemory>
     ensures { Gains M.deeds system.old system.new
-        (DoesAsked (settings_said_in terms.now.settings.now) terms.now.service list.now
-        terms.now.moment terms.now.first_serial result) }
+        (DoesAsked terms.now list.now result) }
 {
     match decode_postfix_request(list) {
         Ok(request) => {

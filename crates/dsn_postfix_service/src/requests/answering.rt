@@ -2,9 +2,8 @@
 //! defer log.
 //! Implements docs/FORMATS.md, "A connection".
 ghost use Rattle.std.specs.Prelude.{◌≡◌};
-ghost use Rattle.dsn_postfix_service.specs.requests.AnsweredRequest.{FlushesBounceLog, IsAnswered, IsBounceLogTold, IsFlushedInTurn, bounce_flush, bounce_serial, first_flush, without_flags};
+ghost use Rattle.dsn_postfix_service.specs.requests.AnsweredRequest.{FlushesBounceLog, IsAnswered, IsBounceLogTold, IsFlushedInTurn, bounce_flush, bounce_terms, first_flush, without_flags};
 ghost use Rattle.dsn_postfix_service.specs.requests.Gains.{Gains};
-ghost use Rattle.dsn_postfix_service.specs.requests.ServiceSettings.{settings_said_in};
 
 use crate::requests::carrying_out::{carry_out, is_carried_out, queue_id_of};
 use crate::requests::mail_system::MailSystem;
@@ -52,21 +51,29 @@ fn bounce_flush<'a>(request: &PostfixRequest<'a>) -> Option<PostfixRequest<'a>>
     }
 }
 
-/// The flush that comes before a request to a service, if one does.
-fn first_flush<'a>(service: Service, request: &PostfixRequest<'a>) -> Option<PostfixRequest<'a>>
-    ensures { result ≡ first_flush service request.now }
+/// The flush that comes before a request, if one does.
+fn first_flush<'a>(
+    terms: &RequestTerms<'_>,
+    request: &PostfixRequest<'a>,
+) -> Option<PostfixRequest<'a>>
+    ensures { result ≡ first_flush terms.now.service request.now }
 {
-    match service {
+    match terms.service {
         Service::Defer => bounce_flush(request),
         Service::Bounce | Service::Trace => None,
     }
 }
 
-/// The first serial of a bounce log's letters, where those of another log begin with this one.
-fn bounce_serial(first_serial: u64) -> u64
-    ensures { result ≡ bounce_serial first_serial }
+/// The terms of the flush of a bounce log that comes before a request on these.
+fn bounce_terms<'a>(terms: &RequestTerms<'a>) -> RequestTerms<'a>
+    ensures { result ≡ bounce_terms terms.now }
 {
-    first_serial.wrapping_add(SERIALS_OF_LOG)
+    RequestTerms {
+        settings: terms.settings,
+        service: Service::Bounce,
+        moment: terms.moment,
+        first_serial: terms.first_serial.wrapping_add(SERIALS_OF_LOG),
+    }
 }
 
 /// Carries out the flush of a bounce log that was found, by the bytes of that flush.
@@ -77,19 +84,10 @@ fn flush_bounce_log<M: MailSystem>(
     system: &mut M,
 ) -> Result<u32, NoMemory>
     ensures { Gains M.deeds system.old system.new
-        (FlushesBounceLog (settings_said_in terms.now.settings.now) first.now terms.now.moment
-        (bounce_serial terms.now.first_serial) result) }
+        (FlushesBounceLog terms.now first.now result) }
 {
-    let bounce_terms = RequestTerms {
-        settings: terms.settings,
-        service: Service::Bounce,
-        // With the same serials two notices would have one Message-ID, and some mailboxes would
-        // drop the second.
-        moment: terms.moment,
-        first_serial: bounce_serial(terms.first_serial),
-    };
     match encode_postfix_request(alloc, first) {
-        Ok(bytes) => carry_out(alloc, &bounce_terms, first, &bytes, system),
+        Ok(bytes) => carry_out(alloc, &bounce_terms(terms), first, &bytes, system),
         Err(refused) => Err(refused),
     }
 }
@@ -102,8 +100,7 @@ fn tell_bounce_log<M: MailSystem>(
     system: &mut M,
 ) -> Result<u32, NoMemory>
     ensures { Gains M.deeds system.old system.new
-        (IsBounceLogTold (settings_said_in terms.now.settings.now) first.now terms.now.moment
-        (bounce_serial terms.now.first_serial) result) }
+        (IsBounceLogTold terms.now first.now result) }
 {
     match system.has_log(Service::Bounce, queue_id_of(first)) {
         Ok(true) => flush_bounce_log(alloc, terms, first, system),
@@ -122,8 +119,7 @@ fn flush_in_turn<M: MailSystem>(
     system: &mut M,
 ) -> Result<u32, NoMemory>
     ensures { Gains M.deeds system.old system.new
-        (IsFlushedInTurn (settings_said_in terms.now.settings.now) terms.now.service first.now
-        request.now bytes.now terms.now.moment terms.now.first_serial result) }
+        (IsFlushedInTurn terms.now first.now request.now bytes.now result) }
 {
     let told = tell_bounce_log(alloc, terms, first, system);
     if !is_carried_out(&told) {
@@ -161,10 +157,9 @@ pub fn answer_request<M: MailSystem>(
     system: &mut M,
 ) -> Result<u32, NoMemory>
     ensures { Gains M.deeds system.old system.new
-        (IsAnswered (settings_said_in terms.now.settings.now) terms.now.service request.now bytes.now
-        terms.now.moment terms.now.first_serial result) }
+        (IsAnswered terms.now request.now bytes.now result) }
 {
-    match first_flush(terms.service, request) {
+    match first_flush(terms, request) {
         Some(first) => flush_in_turn(alloc, terms, &first, request, bytes, system),
         None => carry_out(alloc, terms, request, bytes, system),
     }

@@ -4,7 +4,6 @@ ghost use Rattle.std.specs.Prelude.{◌≡◌};
 ghost use Rattle.dsn_postfix_service.specs.requests.CarriedOut.{Cleans, IsCarriedOut, IsDone, flags_of, must_clean, queue_id_of};
 ghost use Rattle.dsn_postfix_service.specs.requests.Gains.{Gains};
 ghost use Rattle.dsn_postfix_service.specs.requests.RequestStatus.{is_carried_out};
-ghost use Rattle.dsn_postfix_service.specs.requests.ServiceSettings.{settings_said_in};
 
 use crate::requests::append::append;
 use crate::requests::mail_system::MailSystem;
@@ -13,7 +12,7 @@ use crate::requests::notify::notify;
 use crate::requests::pass_on::CARRIED_OUT;
 use crate::requests::request_terms::RequestTerms;
 use dsn_postfix::PostfixRequest;
-use dsn_text::{NoMemory, QueueId, Service};
+use dsn_text::{NoMemory, QueueId};
 use std::alloc::Global;
 
 /// The flags of a request.
@@ -62,13 +61,16 @@ fn must_clean(request: &PostfixRequest<'_>, answer: &Result<u32, NoMemory>) -> b
 }
 
 /// Removes a request's log if that is due.
-fn clean<M: MailSystem>(service: Service, request: &PostfixRequest<'_>, due: bool, system: &mut M)
-    ensures { Gains M.deeds system.old system.new (Cleans service request.now due) }
+fn clean<M: MailSystem>(
+    terms: &RequestTerms<'_>,
+    request: &PostfixRequest<'_>,
+    due: bool,
+    system: &mut M,
+)
+    ensures { Gains M.deeds system.old system.new (Cleans terms.now.service request.now due) }
 {
     if due {
-        // Postfix's own service will have removed it by now; a log that isn't there counts as
-        // removed.
-        let _ = system.remove_log(service, queue_id_of(request));
+        let _ = system.remove_log(terms.service, queue_id_of(request));
     }
 }
 
@@ -81,8 +83,7 @@ fn do_asked<M: MailSystem>(
     system: &mut M,
 ) -> Result<u32, NoMemory>
     ensures { Gains M.deeds system.old system.new
-        (IsDone (settings_said_in terms.now.settings.now) terms.now.service request.now bytes.now
-        terms.now.moment terms.now.first_serial result) }
+        (IsDone terms.now request.now bytes.now result) }
 {
     match request {
         PostfixRequest::Append(asked) => append(alloc, terms.service, asked, bytes, system),
@@ -113,11 +114,10 @@ pub(super) fn carry_out<M: MailSystem>(
     system: &mut M,
 ) -> Result<u32, NoMemory>
     ensures { Gains M.deeds system.old system.new
-        (IsCarriedOut (settings_said_in terms.now.settings.now) terms.now.service request.now
-        bytes.now terms.now.moment terms.now.first_serial result) }
+        (IsCarriedOut terms.now request.now bytes.now result) }
 {
     let answer = do_asked(alloc, terms, request, bytes, system);
     let due = must_clean(request, &answer);
-    clean(terms.service, request, due, system);
+    clean(terms, request, due, system);
     answer
 }

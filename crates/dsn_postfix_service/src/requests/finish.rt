@@ -7,7 +7,6 @@ ghost use Rattle.dsn_postfix_service.specs.requests.Gains.{Gains};
 
 use crate::requests::mail_system::MailSystem;
 use crate::requests::notice_task::NoticeTask;
-use crate::requests::request_terms::RequestTerms;
 use dsn_postfix::{NoticeRequest, PostfixRequest};
 use dsn_text::{QueueId, Service};
 
@@ -74,17 +73,13 @@ pub(super) fn finish<M: MailSystem>(
     system: &mut M,
 ) -> bool
     ensures { Gains M.deeds system.old system.new
-        (FinishesAt task.now.terms.now.service task.now.request.now task.now.notice.now
-        (option_map (λ log. log.now) log.entry) places.now result) }
+        (FinishesAt task.now (option_map (λ log. log.now) log.entry) places.now result) }
 {
-    let terms: &RequestTerms<'_> = task.terms;
-    // The log stays and the request is asked again: then its sender is notified twice. The other
-    // order could lose a notice.
     if !mark_all(task.notice, places, system) {
         return false;
     }
     remove_if_due(
-        terms.service,
+        task.service(),
         task.notice.queue_id,
         is_removal_due(task.request, log),
         system,

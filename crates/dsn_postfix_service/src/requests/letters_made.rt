@@ -2,14 +2,12 @@
 ghost use Rattle.std.specs.Prelude.{◌≡◌, IfErr, IfOk};
 ghost use Rattle.dsn_postfix_service.specs.requests.MailFound.{mail_read_in};
 ghost use Rattle.dsn_postfix_service.specs.requests.RequestLetters.{AreLettersAsked, CantBeSaid, IsReason, places_done};
-ghost use Rattle.dsn_postfix_service.specs.requests.ServiceSettings.{settings_said_in};
 
 use crate::requests::mail_found::MailFound;
 use crate::requests::no_letters::NoLetters;
 use crate::requests::notice_task::NoticeTask;
 use crate::requests::places_done::places_done;
 use crate::requests::request_letters::letters_asked;
-use crate::requests::request_terms::RequestTerms;
 use dsn_outcome::Letter;
 use std::alloc::Global;
 
@@ -28,14 +26,10 @@ pub(super) fn make_letters(
     task: &NoticeTask<'_>,
     found: &MailFound,
 ) -> Result<LettersMade, NoLetters>
-    ensures made { IfOk result (λ made. AreLettersAsked (settings_said_in task.now.terms.now.settings.now)
-        task.now.terms.now.service task.now.request.now task.now.notice.now task.now.terms.now.moment
-        task.now.terms.now.first_serial (mail_read_in found.now) made.letters.items) }
+    ensures made { IfOk result (λ made. AreLettersAsked task.now (mail_read_in found.now) made.letters.items) }
     ensures places { IfOk result (λ made. made.places.items
-        ≡ places_done task.now.terms.now.service task.now.request.now task.now.notice.now
-        (mail_read_in found.now).log) }
-    ensures none { IfErr result (IsReason (CantBeSaid (settings_said_in task.now.terms.now.settings.now)
-        task.now.terms.now.service task.now.request.now task.now.notice.now (mail_read_in found.now))) }
+        ≡ places_done task.now (mail_read_in found.now).log) }
+    ensures none { IfErr result (IsReason (CantBeSaid task.now (mail_read_in found.now))) }
 {
     let letters = match letters_asked(alloc, task, found) {
         Ok(letters) => letters,

@@ -7,8 +7,8 @@ ghost use Rattle.dsn_postfix_service.specs.requests.MailFound.{Reads, ReadsLog, 
 
 use crate::requests::deed_fault::DeedFault;
 use crate::requests::mail_system::MailSystem;
+use crate::requests::notice_task::NoticeTask;
 use dsn_postfix::{NoticeRequest, PostfixRequest};
-use dsn_text::Service;
 use std::alloc::Global;
 
 /// What was read for a request for notices.
@@ -42,32 +42,29 @@ pub(super) fn tells_of_log(request: &PostfixRequest<'_>) -> bool
 /// Reads the log that a request tells of; a request about one recipient alone has none.
 fn read_log<M: MailSystem>(
     alloc: Global,
-    service: Service,
-    request: &PostfixRequest<'_>,
-    notice: &NoticeRequest<'_>,
+    task: &NoticeTask<'_>,
     system: &mut M,
 ) -> Result<Option<Vec<u8>>, DeedFault>
     ensures { Gains M.deeds system.old system.new
-        (ReadsLog service request.now notice.now
-        (answer_as (option_map (λ log. log.items)) result)) }
+        (ReadsLog task.now (answer_as (option_map (λ log. log.items)) result)) }
 {
-    if !tells_of_log(request) {
+    if !tells_of_log(task.request) {
         return Ok(None);
     }
-    system.read_log(alloc, service, notice.queue_id)
+    let notice: &NoticeRequest<'_> = task.notice;
+    system.read_log(alloc, task.service(), notice.queue_id)
 }
 
 /// Reads the log that a request tells of, and then its message's file.
 pub(super) fn read_mail<M: MailSystem>(
     alloc: Global,
-    service: Service,
-    request: &PostfixRequest<'_>,
-    notice: &NoticeRequest<'_>,
+    task: &NoticeTask<'_>,
     system: &mut M,
 ) -> Result<MailFound, DeedFault>
-    ensures { Gains M.deeds system.old system.new (Reads service request.now notice.now result) }
+    ensures { Gains M.deeds system.old system.new (Reads task.now result) }
 {
-    match read_log(alloc, service, request, notice, system) {
+    let notice: &NoticeRequest<'_> = task.notice;
+    match read_log(alloc, task, system) {
         Ok(log) => match system.read_message(alloc, &notice.queue_name, notice.queue_id) {
             Ok(file) => Ok(MailFound { log, file }),
             Err(fault) => Err(fault),

@@ -4,7 +4,6 @@ ghost use Rattle.std.specs.Prelude.{◌≡◌};
 ghost use Rattle.dsn_postfix_service.specs.requests.Gains.{Gains};
 ghost use Rattle.dsn_postfix_service.specs.requests.MailFound.{mail_read_in};
 ghost use Rattle.dsn_postfix_service.specs.requests.NoticeDeeds.{EndsTelling, IsNotified, Tells, TellsLetters, TellsOfMail, end_at_letter, end_of_telling};
-ghost use Rattle.dsn_postfix_service.specs.requests.ServiceSettings.{settings_said_in};
 
 use crate::requests::finish::finish;
 use crate::requests::hand_in_letters::hand_in_letters;
@@ -16,8 +15,6 @@ use crate::requests::not_accepted::NotAccepted;
 use crate::requests::notice_task::NoticeTask;
 use crate::requests::pass_on::{CARRIED_OUT, NOT_CARRIED_OUT, pass_on};
 use crate::requests::pass_reason::PassReason;
-use crate::requests::request_terms::RequestTerms;
-use crate::requests::service_settings::ServiceSettings;
 use crate::requests::telling::Telling;
 use dsn_text::{NoMemory, Service};
 use std::alloc::Global;
@@ -50,13 +47,10 @@ fn tell_letters<M: MailSystem>(
     system: &mut M,
 ) -> Telling
     ensures { Gains M.deeds system.old system.new
-        (TellsLetters (settings_said_in task.now.terms.now.settings.now) task.now.terms.now.service
-        task.now.request.now task.now.notice.now (mail_read_in found.now) made.now.letters.items
-        made.now.places.items result) }
+        (TellsLetters task.now (mail_read_in found.now) made.now.letters.items made.now.places.items
+        result) }
 {
-    let terms: &RequestTerms<'_> = task.terms;
-    let settings: &ServiceSettings<'_> = terms.settings;
-    match hand_in_letters(alloc, settings.site, &made.letters, system) {
+    match hand_in_letters(alloc, task.site(), &made.letters, system) {
         Ok(()) => end_of_telling(finish(task, found.log(), &made.places, system)),
         Err(why) => end_at_letter(why),
     }
@@ -70,9 +64,7 @@ fn tell_of_mail<M: MailSystem>(
     system: &mut M,
 ) -> Telling
     ensures { Gains M.deeds system.old system.new
-        (TellsOfMail (settings_said_in task.now.terms.now.settings.now) task.now.terms.now.service
-        task.now.request.now task.now.notice.now task.now.terms.now.moment
-        task.now.terms.now.first_serial (mail_read_in found.now) result) }
+        (TellsOfMail task.now (mail_read_in found.now) result) }
 {
     // All of them, and the list of who is marked: what can't be said, or has no memory, shows while
     // nobody was notified. A letter's text is made in its turn.
@@ -86,12 +78,9 @@ fn tell_of_mail<M: MailSystem>(
 /// Reads what a request tells of, and tells the message's sender.
 fn tell<M: MailSystem>(alloc: Global, task: &NoticeTask<'_>, system: &mut M) -> Telling
     ensures { Gains M.deeds system.old system.new
-        (Tells (settings_said_in task.now.terms.now.settings.now) task.now.terms.now.service
-        task.now.request.now task.now.notice.now task.now.terms.now.moment
-        task.now.terms.now.first_serial result) }
+        (Tells task.now result) }
 {
-    let terms: &RequestTerms<'_> = task.terms;
-    match read_mail(alloc, terms.service, task.request, task.notice, system) {
+    match read_mail(alloc, task, system) {
         Ok(found) => tell_of_mail(alloc, task, &found, system),
         Err(_) => Telling::Failed,
     }
@@ -130,13 +119,10 @@ pub(super) fn notify<M: MailSystem>(
     system: &mut M,
 ) -> Result<u32, NoMemory>
     ensures { Gains M.deeds system.old system.new
-        (IsNotified (settings_said_in task.now.terms.now.settings.now) task.now.terms.now.service
-        task.now.request.now task.now.notice.now bytes.now task.now.terms.now.moment
-        task.now.terms.now.first_serial result) }
+        (IsNotified task.now bytes.now result) }
 {
-    let terms: &RequestTerms<'_> = task.terms;
     let telling = tell(alloc, task, system);
     // First, since an append of Postfix's own service takes this lock.
     system.release_log();
-    end_telling(terms.service, bytes, telling, system)
+    end_telling(task.service(), bytes, telling, system)
 }

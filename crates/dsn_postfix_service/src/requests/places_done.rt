@@ -9,7 +9,6 @@ ghost use Rattle.dsn_postfix_service.specs.requests.RequestLetters.{marks_done, 
 
 use crate::requests::mail_found::tells_of_log;
 use crate::requests::notice_task::NoticeTask;
-use crate::requests::request_terms::RequestTerms;
 use dsn_postfix::{LogEntry, LogReader, NoticeRequest, PostfixRequest};
 use dsn_text::Service;
 use std::alloc::{AllocError, Global};
@@ -96,10 +95,11 @@ fn places_named(
 
 /// Whether recipients are marked as done after a request's notices. Those of a bounce log are done
 /// already, and another recipient of an alias may have the same record.
-fn marks_done(service: Service, request: &PostfixRequest<'_>, notice: &NoticeRequest<'_>) -> bool
-    ensures { result ≡ marks_done service request.now notice.now }
+fn marks_done(task: &NoticeTask<'_>) -> bool
+    ensures { result ≡ marks_done task.now }
 {
-    notice.flags / 2 % 2 == 1 && !(service == Service::Bounce && tells_of_log(request))
+    let notice: &NoticeRequest<'_> = task.notice;
+    notice.flags / 2 % 2 == 1 && !(task.service() == Service::Bounce && tells_of_log(task.request))
 }
 
 /// The places of the recipients that are to be marked as done.
@@ -109,12 +109,10 @@ pub(super) fn places_done(
     log: Option<&[u8]>,
 ) -> Result<Vec<u64>, AllocError>
     ensures { IfOk result (λ places. places.items
-        ≡ places_done task.now.terms.now.service task.now.request.now task.now.notice.now
-        (option_map (λ log. log.now) log.entry)) }
+        ≡ places_done task.now (option_map (λ log. log.now) log.entry)) }
 {
-    let terms: &RequestTerms<'_> = task.terms;
-    if !marks_done(terms.service, task.request, task.notice) {
+    if !marks_done(task) {
         return Ok(Vec::new(alloc));
     }
-    places_named(alloc, terms.service, task.request, log)
+    places_named(alloc, task.service(), task.request, log)
 }

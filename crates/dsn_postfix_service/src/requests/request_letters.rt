@@ -12,7 +12,6 @@ ghost use Rattle.dsn_postfix.specs.files.QueueWalk.{first_place, steps_left};
 ghost use Rattle.dsn_postfix_service.specs.letters.ReportedMessage.{message_said_in};
 ghost use Rattle.dsn_postfix_service.specs.requests.MailFound.{mail_read_in};
 ghost use Rattle.dsn_postfix_service.specs.requests.RequestLetters.{AreLettersAsked, AreLettersOf, CantBeSaid, GainsLetter, IsReason, has_fault, reason_of};
-ghost use Rattle.dsn_postfix_service.specs.requests.ServiceSettings.{settings_said_in};
 
 use crate::letters::{LetterFault, ReportedMessage, letter_of_notice};
 use crate::requests::mail_found::MailFound;
@@ -159,13 +158,8 @@ pub(super) fn letters_asked(
     task: &NoticeTask<'_>,
     found: &MailFound,
 ) -> Result<Vec<Letter>, NoLetters>
-    ensures letters { IfOk result (λ letters. AreLettersAsked
-        (settings_said_in task.now.terms.now.settings.now) task.now.terms.now.service
-        task.now.request.now task.now.notice.now task.now.terms.now.moment
-        task.now.terms.now.first_serial (mail_read_in found.now) letters.items) }
-    ensures none { IfErr result (IsReason (CantBeSaid
-        (settings_said_in task.now.terms.now.settings.now) task.now.terms.now.service
-        task.now.request.now task.now.notice.now (mail_read_in found.now))) }
+    ensures letters { IfOk result (λ letters. AreLettersAsked task.now (mail_read_in found.now) letters.items) }
+    ensures none { IfErr result (IsReason (CantBeSaid task.now (mail_read_in found.now))) }
 {
     let terms: &RequestTerms<'_> = task.terms;
     let settings: &ServiceSettings<'_> = terms.settings;

@@ -2,7 +2,6 @@ use Rattle.std.proofs.Common.{refl, subst}
 use Rattle.dsn_postfix_service.specs.clients.ServedClient.{DoesAsked}
 use Rattle.dsn_postfix_service.specs.clients.ServedClient.AnswersClient.{done}
 use Rattle.dsn_postfix_service.specs.requests.Gains.{Gains}
-use Rattle.dsn_postfix_service.specs.requests.ServiceSettings.{settings_said_in}
 use Rattle.dsn_postfix_service.proofs.clients.serving.answer_client.Goals as goal
 
 -- it was answered
@@ -14,8 +13,8 @@ returns-clause-answered g c =
       answer = c.answer_list-answer.result;
       does = subst
           (λ list. Gains g.M.MailSystem.deeds c.args.system.now c.answer_list-answer.new.system
-          (DoesAsked (settings_said_in c.args.settings.now) c.args.service list c.in-Some.moment c.args.first_serial
-          c.answer_list-answer.result))
+          (DoesAsked (record { settings = c.args.settings.now; service = c.args.service; moment = c.in-Some.moment; serial = c.args.first_serial })
+          list c.answer_list-answer.result))
           c.deref.ensures.value c.answer_list-answer.ensures;
       status_is = c.status_said.ensures;
     })

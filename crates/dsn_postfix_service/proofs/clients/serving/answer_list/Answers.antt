@@ -1,3 +1,6 @@
+use Rattle.std.proofs.Common.{Ok, subst}
+use Rattle.dsn_postfix_service.specs.requests.RequestStatus.{PassesOn}
+use Rattle.dsn_postfix_service.specs.requests.Task.{Terms}
 use Rattle.dsn_postfix_service.specs.clients.ServedClient.DoesAsked.{other, request}
 use Rattle.dsn_postfix_service.proofs.DeedLemmas.{gains_as}
 use Rattle.dsn_postfix_service.proofs.ServedLemmas.{gains_after}
@@ -11,4 +14,5 @@ returns-in-Ok g c =
 -- it is none
 pub returns-in-Err : goal.returns-in-Err
 returns-in-Err g c =
-    gains_as g.M.MailSystem.deeds _ _ _ _ c.pass_on.ensures (λ gained passes. other c.in-Err.fault c.in-Err.ensures.refused passes)
+    gains_as g.M.MailSystem.deeds _ _ _ _ c.pass_on.ensures (λ gained passes. other c.in-Err.fault c.in-Err.ensures.refused
+    (subst (λ (terms : Terms). PassesOn terms.service c.args.list.now (Ok c.pass_on.result) gained) c.terms.view_is passes))

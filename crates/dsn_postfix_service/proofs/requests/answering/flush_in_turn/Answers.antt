@@ -13,5 +13,5 @@ returns-then-not-is_carried_out g c =
 pub returns : goal.returns
 returns g c =
     let done : c.is_carried_out.result ≡ true = grind (arith, c.if-not-is_carried_out.false) in
-    flushed_in_turn g.M.MailSystem.deeds _ _ _ _ c.args.terms.now.service c.args.first.now c.args.request.now c.args.bytes.now c.args.terms.now.moment c.args.terms.now.first_serial c.tell_bounce_log-told.result c.carry_out.result
+    flushed_in_turn g.M.MailSystem.deeds _ _ _ c.args.terms.now c.args.first.now c.args.request.now c.args.bytes.now c.tell_bounce_log-told.result c.carry_out.result
     (sym c.is_carried_out.ensures ∙ done) c.tell_bounce_log-told.ensures c.carry_out.ensures

@@ -1,15 +1,14 @@
 use Rattle.std.proofs.Common.{List, ℕ, Err, [], ◌∷◌, ap, refl}
 use Rattle.dsn_text.specs.declared.service.Service.TheVariants.{Bounce}
-use Rattle.dsn_postfix_service.specs.requests.AnsweredRequest.{bounce_serial, unsought}
+use Rattle.dsn_postfix_service.specs.requests.AnsweredRequest.{unsought}
 use Rattle.dsn_postfix_service.specs.requests.Deed.{LogSought}
-use Rattle.dsn_postfix_service.specs.requests.ServiceSettings.{settings_said_in}
 use Rattle.dsn_postfix_service.proofs.DeedLemmas.{bounce_log_told, gains_one}
 use Rattle.dsn_postfix_service.proofs.requests.answering.tell_bounce_log.Goals as goal
 
 -- there is one
 pub returns-in-Ok-true : goal.returns-in-Ok-true
 returns-in-Ok-true g c =
-    bounce_log_told g.M.MailSystem.deeds _ _ _ (settings_said_in c.args.terms.now.settings.now) c.args.first.now c.args.terms.now.moment (bounce_serial c.args.terms.now.first_serial) c.flush_bounce_log.result
+    bounce_log_told g.M.MailSystem.deeds _ _ _ c.args.terms.now c.args.first.now c.flush_bounce_log.result
     c.queue_id_of.result c.in-Ok-true.field-0 c.queue_id_of.ensures c.in-Ok-true.field-0-test c.in-Ok-true.ensures c.flush_bounce_log.ensures
 
 -- it isn't known whether there is one

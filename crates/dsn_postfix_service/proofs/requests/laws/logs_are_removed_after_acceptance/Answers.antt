@@ -3,9 +3,9 @@ use Rattle.dsn_postfix_service.proofs.CarriedOutLaws.{removed_only_after}
 use Rattle.dsn_postfix_service.proofs.requests.laws.logs_are_removed_after_acceptance.Goals as goal
 
 pub returns-clause-carried_out : goal.returns-clause-carried_out
-returns-clause-carried_out c settings service request notice bytes moment serial answer gained before after other named given done e =
-    removed_only_after settings service request notice bytes moment serial answer gained before after other named given done e
+returns-clause-carried_out c task bytes answer gained before after other named given done e =
+    removed_only_after task bytes answer gained before after other named given done e
 
 pub returns-clause-answered : goal.returns-clause-answered
-returns-clause-answered c settings service request notice bytes moment serial answer gained before after log named given asked is e =
-    answered_removal settings service request notice bytes moment serial answer gained before after log named given asked is e
+returns-clause-answered c task bytes answer gained before after log named given asked is e =
+    answered_removal task bytes answer gained before after log named given asked is e

@@ -3,9 +3,9 @@ use Rattle.dsn_postfix_service.proofs.CarriedOutLaws.{nobody_is_told}
 use Rattle.dsn_postfix_service.proofs.requests.laws.no_notice_causes_another.Goals as goal
 
 pub returns-clause-carried_out : goal.returns-clause-carried_out
-returns-clause-carried_out c settings service request notice bytes moment serial answer gained done none =
-    nobody_is_told settings service request notice bytes moment serial answer gained done none
+returns-clause-carried_out c task bytes answer gained done none =
+    nobody_is_told task bytes answer gained done none
 
 pub returns-clause-answered : goal.returns-clause-answered
-returns-clause-answered c settings service request notice bytes moment serial answer gained asked is none =
-    answered_to_nobody settings service request notice bytes moment serial answer gained asked is none
+returns-clause-answered c task bytes answer gained asked is none =
+    answered_to_nobody task bytes answer gained asked is none

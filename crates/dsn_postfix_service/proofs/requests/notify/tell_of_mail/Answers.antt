@@ -2,7 +2,6 @@ use Rattle.std.proofs.Common.{List, ℕ, refl, subst}
 use Rattle.dsn_postfix_service.specs.requests.MailFound.{mail_read_in}
 use Rattle.dsn_postfix_service.specs.requests.NoticeDeeds.{TellsLetters, letters, unsayable}
 use Rattle.dsn_postfix_service.specs.requests.RequestLetters.{CantBeSaid, IsReason}
-use Rattle.dsn_postfix_service.specs.requests.ServiceSettings.{settings_said_in}
 use Rattle.dsn_postfix_service.specs.declared.requests.no_letters.NoLetters.{NoLetters}
 use Rattle.dsn_postfix_service.proofs.DeedLemmas.{gains_as, gains_none}
 use Rattle.dsn_postfix_service.proofs.requests.notify.tell_of_mail.Goals as goal
@@ -10,21 +9,15 @@ use Rattle.dsn_postfix_service.proofs.requests.notify.tell_of_mail.Goals as goal
 -- all letters were made
 pub returns-in-Ok : goal.returns-in-Ok
 returns-in-Ok g c =
-    let terms = c.args.task.now.terms.now in
-    let request = c.args.task.now.request.now in
-    let notice = c.args.task.now.notice.now in
     let found = mail_read_in c.args.found.now in
     gains_as g.M.MailSystem.deeds _ _ _ _ c.tell_letters.ensures (λ gained tells.
     letters c.in-Ok.made.letters.items c.in-Ok.ensures.made
-    (subst (λ (places : List ℕ). TellsLetters (settings_said_in terms.settings.now) terms.service request notice found c.in-Ok.made.letters.items places c.tell_letters.result gained) c.in-Ok.ensures.places tells))
+    (subst (λ (places : List ℕ). TellsLetters c.args.task.now found c.in-Ok.made.letters.items places c.tell_letters.result gained) c.in-Ok.ensures.places tells))
 
 -- a notice can't be said
 pub returns-in-Err-Unsayable : goal.returns-in-Err-Unsayable
 returns-in-Err-Unsayable g c =
-    let terms = c.args.task.now.terms.now in
-    let request = c.args.task.now.request.now in
-    let notice = c.args.task.now.notice.now in
     let found = mail_read_in c.args.found.now in
     gains_none g.M.MailSystem.deeds _ _ (unsayable _ refl refl
-    (subst (λ (none : NoLetters). IsReason (CantBeSaid (settings_said_in terms.settings.now) terms.service request notice found) none)
+    (subst (λ (none : NoLetters). IsReason (CantBeSaid c.args.task.now found) none)
     c.in-Err-Unsayable.field-0-is c.in-Err-Unsayable.ensures.none))

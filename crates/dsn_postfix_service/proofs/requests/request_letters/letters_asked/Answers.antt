@@ -1,6 +1,7 @@
 use Rattle.std.proofs.Common.{◌≡◌, ◌∙◌, List, ℕ, Result, Ok, Err, true, ap, map, subst, sym, take}
 use Rattle.std.specs.List.{list_any}
 use Rattle.std.specs.Option.{option_map, unwrap_or}
+use Rattle.std.specs.Prelude.{IfErr, IfOk}
 use Rattle.dsn_postfix.specs.NoticePlan.{IsPlanFault, notices_of}
 use Rattle.dsn_postfix.specs.PlannedNotice.{NoticeFacts, notice_facts_in}
 use Rattle.dsn_postfix.specs.declared.cant_say.CantSay.{CantSay}
@@ -14,8 +15,8 @@ use Rattle.dsn_postfix.specs.files.QueueRecipients.{recipient_facts_in, recipien
 use Rattle.dsn_postfix.specs.files.QueueWalk.{first_place}
 use Rattle.dsn_postfix_service.specs.letters.ReportedMessage.{MessageSaid}
 use Rattle.dsn_postfix_service.specs.requests.MailFound.{mail_read_in}
-use Rattle.dsn_postfix_service.specs.requests.RequestLetters.{AreLettersOf, IsUnsaid, has_fault, message_said}
-use Rattle.dsn_postfix_service.specs.requests.ServiceSettings.{settings_said_in}
+use Rattle.dsn_postfix_service.specs.requests.RequestLetters.{AreLettersAsked, AreLettersOf, CantBeSaid, IsReason, IsUnsaid, has_fault, message_said}
+use Rattle.dsn_postfix_service.specs.requests.Task.{Task}
 use Rattle.dsn_text.specs.Text.{longest_header}
 use Rattle.dsn_postfix_service.proofs.FrontLemmas.{any_fault_of_front, letters_of_front, with_front}
 use Rattle.dsn_postfix_service.proofs.RequestLetterLemmas.{err_as, ok_as, reason_as}
@@ -23,6 +24,29 @@ use Rattle.dsn_postfix_service.proofs.requests.request_letters.letters_asked.Goa
 
 pub returns-in-Ok-plan_notices-clause-letters : goal.returns-in-Ok-plan_notices-clause-letters
 returns-in-Ok-plan_notices-clause-letters c =
+    let task : Task = record {
+      terms = record {
+        settings = record {
+          host = c.settings.inside.site.now;
+          double_bounce = c.settings.inside.double_bounce.now;
+          lifetime = c.settings.inside.lifetime;
+          size_limit = c.settings.inside.size_limit;
+        };
+        service = c.terms.inside.service;
+        moment = c.terms.inside.moment;
+        serial = c.terms.inside.first_serial;
+      };
+      request = c.task.inside.request.now;
+      notice = c.task.inside.notice.now;
+    } in
+    let task_is : task ≡ c.args.task.now =
+    (λ i. record {
+      terms = record { settings = c.settings.view_is i; service = c.terms.inside.service; moment = c.terms.inside.moment; serial = c.terms.inside.first_serial };
+      request = c.task.inside.request.now;
+      notice = c.task.inside.notice.now;
+    })
+    ∙ (λ i. record { terms = c.terms.view_is i; request = c.task.inside.request.now; notice = c.task.inside.notice.now })
+    ∙ c.task.view_is in
     let file : List ℕ = c.args.found.now.file.items in
     let listing = c.queue_files_have_one_list.ensures file in
     let records = listing.records in
@@ -34,34 +58,58 @@ returns-in-Ok-plan_notices-clause-letters c =
     let text : c.deref-4.result.now ≡ take (front_size longest_header) (message_text records) =
     c.deref-4.ensures.value ∙ c.in-Ok-text_of_message.ensures records ending (come_from _ c.deref-2.ensures.value) in
     let facts : message_facts_in c.facts_said-facts.result ≡ said_of_message records = c.facts_said-facts.ensures records ending (come_from _ c.deref-3.ensures.value) in
-    let notice = c.args.task.now.notice.now in
+    let notice = task.notice in
     let sender : c.sender_said.result.now ≡ unwrap_or (said_of_message records).sender notice.sender =
     c.sender_said.ensures ∙ (λ i. unwrap_or (facts i).sender (c.bytes.ensures.same i)) in
     let notices : List PlannedNotice = c.in-Ok-plan_notices.notices.items in
-    let planned : notices_of c.args.task.now.terms.now.settings.now.double_bounce.now c.args.task.now.terms.now.service c.args.task.now.request.now (recipients_of records) (mail_read_in c.args.found.now).log ≡ Ok (map notice_facts_in notices) =
-    (λ i. notices_of c.args.task.now.terms.now.settings.now.double_bounce.now c.args.task.now.terms.now.service c.args.task.now.request.now (sym queued i) (sym c.log.ensures i)) ∙ c.in-Ok-plan_notices.ensures in
-    ok_as c.letters_of.result _ _ c.letters_of.ensures.letters (λ letters are. record {
+    let planned : notices_of task.terms.settings.double_bounce task.terms.service task.request (recipients_of records) (mail_read_in c.args.found.now).log ≡ Ok (map notice_facts_in notices) =
+    (λ i. notices_of task.terms.settings.double_bounce task.terms.service task.request (sym queued i) (sym c.log.ensures i)) ∙ c.in-Ok-plan_notices.ensures in
+    subst (λ (asked : Task). IfOk c.letters_of.result (λ letters. AreLettersAsked asked (mail_read_in c.args.found.now) letters.items)) task_is
+    (ok_as c.letters_of.result _ _ c.letters_of.ensures.letters (λ letters are. record {
       records = records;
       ending = ending;
       listed = listing.lists;
       notices = map notice_facts_in notices;
       planned = planned;
-      each = letters_of_front c.fronts_show_headers.ensures (message_said (settings_said_in c.args.task.now.terms.now.settings.now) notice records) c.args.task.now.terms.now.moment c.args.task.now.terms.now.first_serial (map notice_facts_in notices) letters.items
-          (subst (λ (ns : List PlannedNotice). AreLettersOf (with_front (message_said (settings_said_in c.args.task.now.terms.now.settings.now) notice records)) c.args.task.now.terms.now.moment c.args.task.now.terms.now.first_serial (map notice_facts_in ns) letters.items) c.deref-in-Ok-plan_notices.ensures.value
-          (subst (λ (message : MessageSaid). AreLettersOf message c.args.task.now.terms.now.moment c.args.task.now.terms.now.first_serial (map notice_facts_in c.deref-in-Ok-plan_notices.result.now) letters.items)
+      each = letters_of_front c.fronts_show_headers.ensures (message_said task records) task.terms.moment task.terms.serial (map notice_facts_in notices) letters.items
+          (subst (λ (ns : List PlannedNotice). AreLettersOf (with_front (message_said task records)) task.terms.moment task.terms.serial (map notice_facts_in ns) letters.items) c.deref-in-Ok-plan_notices.ensures.value
+          (subst (λ (message : MessageSaid). AreLettersOf message task.terms.moment task.terms.serial (map notice_facts_in c.deref-in-Ok-plan_notices.result.now) letters.items)
           (λ i. record {
             queue_id = notice.queue_id;
             arrival = (facts i).arrival;
             sender = sender i;
             envelope_id = c.bytes-2.ensures.same i;
             text = text i;
-            lifetime = c.args.task.now.terms.now.settings.now.lifetime;
-            size_limit = c.args.task.now.terms.now.settings.now.size_limit;
+            lifetime = task.terms.settings.lifetime;
+            size_limit = task.terms.settings.size_limit;
           }) are));
-    })
+    }))
 
 pub returns-in-Ok-plan_notices-clause-none : goal.returns-in-Ok-plan_notices-clause-none
 returns-in-Ok-plan_notices-clause-none c =
+    let task : Task = record {
+      terms = record {
+        settings = record {
+          host = c.settings.inside.site.now;
+          double_bounce = c.settings.inside.double_bounce.now;
+          lifetime = c.settings.inside.lifetime;
+          size_limit = c.settings.inside.size_limit;
+        };
+        service = c.terms.inside.service;
+        moment = c.terms.inside.moment;
+        serial = c.terms.inside.first_serial;
+      };
+      request = c.task.inside.request.now;
+      notice = c.task.inside.notice.now;
+    } in
+    let task_is : task ≡ c.args.task.now =
+    (λ i. record {
+      terms = record { settings = c.settings.view_is i; service = c.terms.inside.service; moment = c.terms.inside.moment; serial = c.terms.inside.first_serial };
+      request = c.task.inside.request.now;
+      notice = c.task.inside.notice.now;
+    })
+    ∙ (λ i. record { terms = c.terms.view_is i; request = c.task.inside.request.now; notice = c.task.inside.notice.now })
+    ∙ c.task.view_is in
     let file : List ℕ = c.args.found.now.file.items in
     let listing = c.queue_files_have_one_list.ensures file in
     let records = listing.records in
@@ -73,14 +121,15 @@ returns-in-Ok-plan_notices-clause-none c =
     let text : c.deref-4.result.now ≡ take (front_size longest_header) (message_text records) =
     c.deref-4.ensures.value ∙ c.in-Ok-text_of_message.ensures records ending (come_from _ c.deref-2.ensures.value) in
     let facts : message_facts_in c.facts_said-facts.result ≡ said_of_message records = c.facts_said-facts.ensures records ending (come_from _ c.deref-3.ensures.value) in
-    let notice = c.args.task.now.notice.now in
+    let notice = task.notice in
     let sender : c.sender_said.result.now ≡ unwrap_or (said_of_message records).sender notice.sender =
     c.sender_said.ensures ∙ (λ i. unwrap_or (facts i).sender (c.bytes.ensures.same i)) in
     let notices : List PlannedNotice = c.in-Ok-plan_notices.notices.items in
-    let said : MessageSaid = message_said (settings_said_in c.args.task.now.terms.now.settings.now) notice records in
-    let planned : notices_of c.args.task.now.terms.now.settings.now.double_bounce.now c.args.task.now.terms.now.service c.args.task.now.request.now (recipients_of records) (mail_read_in c.args.found.now).log ≡ Ok (map notice_facts_in notices) =
-    (λ i. notices_of c.args.task.now.terms.now.settings.now.double_bounce.now c.args.task.now.terms.now.service c.args.task.now.request.now (sym queued i) (sym c.log.ensures i)) ∙ c.in-Ok-plan_notices.ensures in
-    err_as c.letters_of.result _ _ c.letters_of.ensures.none (λ why reason.
+    let said : MessageSaid = message_said task records in
+    let planned : notices_of task.terms.settings.double_bounce task.terms.service task.request (recipients_of records) (mail_read_in c.args.found.now).log ≡ Ok (map notice_facts_in notices) =
+    (λ i. notices_of task.terms.settings.double_bounce task.terms.service task.request (sym queued i) (sym c.log.ensures i)) ∙ c.in-Ok-plan_notices.ensures in
+    subst (λ (asked : Task). IfErr c.letters_of.result (IsReason (CantBeSaid asked (mail_read_in c.args.found.now)))) task_is
+    (err_as c.letters_of.result _ _ c.letters_of.ensures.none (λ why reason.
     reason_as _ _ why reason (λ fault. record {
       records = records;
       ending = ending;
@@ -95,13 +144,36 @@ returns-in-Ok-plan_notices-clause-none c =
             sender = sender i;
             envelope_id = c.bytes-2.ensures.same i;
             text = text i;
-            lifetime = c.args.task.now.terms.now.settings.now.lifetime;
-            size_limit = c.args.task.now.terms.now.settings.now.size_limit;
+            lifetime = task.terms.settings.lifetime;
+            size_limit = task.terms.settings.size_limit;
           }) fault)));
-    }))
+    })))
 
 pub returns-clause-none : goal.returns-clause-none
 returns-clause-none c =
+    let task : Task = record {
+      terms = record {
+        settings = record {
+          host = c.settings.inside.site.now;
+          double_bounce = c.settings.inside.double_bounce.now;
+          lifetime = c.settings.inside.lifetime;
+          size_limit = c.settings.inside.size_limit;
+        };
+        service = c.terms.inside.service;
+        moment = c.terms.inside.moment;
+        serial = c.terms.inside.first_serial;
+      };
+      request = c.task.inside.request.now;
+      notice = c.task.inside.notice.now;
+    } in
+    let task_is : task ≡ c.args.task.now =
+    (λ i. record {
+      terms = record { settings = c.settings.view_is i; service = c.terms.inside.service; moment = c.terms.inside.moment; serial = c.terms.inside.first_serial };
+      request = c.task.inside.request.now;
+      notice = c.task.inside.notice.now;
+    })
+    ∙ (λ i. record { terms = c.terms.view_is i; request = c.task.inside.request.now; notice = c.task.inside.notice.now })
+    ∙ c.task.view_is in
     let file : List ℕ = c.args.found.now.file.items in
     let listing = c.queue_files_have_one_list.ensures file in
     let records = listing.records in
@@ -110,12 +182,12 @@ returns-clause-none c =
     λ other is. subst (λ (f : List ℕ). RecordsFrom f (first_place f) records ending) (sym is) listing.lists in
     let queued : map recipient_facts_in c.deref-5.result.now ≡ recipients_of records =
     ap (map recipient_facts_in) c.deref-5.ensures.value ∙ c.in-Ok.ensures records ending (come_from _ c.deref.ensures.value) in
-    let planned : notices_of c.args.task.now.terms.now.settings.now.double_bounce.now c.args.task.now.terms.now.service c.args.task.now.request.now (recipients_of records) (mail_read_in c.args.found.now).log ≡ Err c.in-Err-Unsaid.why =
-    (λ i. notices_of c.args.task.now.terms.now.settings.now.double_bounce.now c.args.task.now.terms.now.service c.args.task.now.request.now (sym queued i) (sym c.log.ensures i))
-    ∙ subst (λ (why : PlanFault). IsPlanFault (notices_of c.args.task.now.terms.now.settings.now.double_bounce.now c.args.task.now.terms.now.service c.args.task.now.request.now (map recipient_facts_in c.deref-5.result.now) (option_map (λ log. log.now) c.log.result)) why) c.in-Err-Unsaid.field-0-is c.in-Err-Unsaid.ensures in
-    record {
+    let planned : notices_of task.terms.settings.double_bounce task.terms.service task.request (recipients_of records) (mail_read_in c.args.found.now).log ≡ Err c.in-Err-Unsaid.why =
+    (λ i. notices_of task.terms.settings.double_bounce task.terms.service task.request (sym queued i) (sym c.log.ensures i))
+    ∙ subst (λ (why : PlanFault). IsPlanFault (notices_of task.terms.settings.double_bounce task.terms.service task.request (map recipient_facts_in c.deref-5.result.now) (option_map (λ log. log.now) c.log.result)) why) c.in-Err-Unsaid.field-0-is c.in-Err-Unsaid.ensures in
+    subst (λ (asked : Task). CantBeSaid asked (mail_read_in c.args.found.now)) task_is (record {
       records = records;
       ending = ending;
       listed = listing.lists;
-      unsaid = subst (λ (plan : Result (List NoticeFacts) CantSay). IsUnsaid (message_said (settings_said_in c.args.task.now.terms.now.settings.now) c.args.task.now.notice.now records) plan) (sym planned) tt;
-    }
+      unsaid = subst (λ (plan : Result (List NoticeFacts) CantSay). IsUnsaid (message_said task records) plan) (sym planned) tt;
+    })

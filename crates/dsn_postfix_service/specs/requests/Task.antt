@@ -1,0 +1,25 @@
+-- What a request is answered on: the terms of a call, and a request for notices with them.
+use Rattle.std.specs.Prelude.{ℕ, List}
+use Rattle.dsn_text.specs.declared.service.Service.{Service}
+use Rattle.dsn_postfix.specs.declared.postfix_request.NoticeRequest.{NoticeRequest}
+use Rattle.dsn_postfix.specs.declared.postfix_request.PostfixRequest.{PostfixRequest}
+
+-- what notices say of the mail system that they come from
+pub record SettingsSaid : Type 0 where
+  pub host : List ℕ
+  pub double_bounce : List ℕ
+  pub lifetime : ℕ
+  pub size_limit : ℕ
+
+-- `serial` is that of the first letter
+pub record Terms : Type 0 where
+  pub settings : SettingsSaid
+  pub service : Service
+  pub moment : ℕ
+  pub serial : ℕ
+
+-- `notice` is the part of the request that says what the notices are about
+pub record Task : Type 0 where
+  pub terms : Terms
+  pub request : PostfixRequest
+  pub notice : NoticeRequest

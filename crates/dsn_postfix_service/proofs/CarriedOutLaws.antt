@@ -14,8 +14,8 @@ use Rattle.dsn_postfix.specs.declared.postfix_request.PostfixRequest.{PostfixReq
 use Rattle.dsn_postfix.specs.declared.postfix_request.PostfixRequest.TheVariants.{Append, Flush, Warn, Verp, One, Trace}
 use Rattle.dsn_postfix.specs.files.QueueRecipients.{RecipientFacts}
 use Rattle.dsn_postfix_service.specs.declared.requests.deed_fault.DeedFault.{DeedFault}
-use Rattle.dsn_postfix_service.specs.declared.requests.telling.Telling.{Telling}
-use Rattle.dsn_postfix_service.specs.declared.requests.telling.Telling.TheVariants.{Told, Unsayable, RefusedForGood, Failed, NoMemory as TellingNoMemory}
+use Rattle.dsn_postfix_service.specs.declared.requests.untold.Untold.{Untold}
+use Rattle.dsn_postfix_service.specs.declared.requests.untold.Untold.TheVariants.{Failed, NoMemory as UntoldNoMemory, PassedOn}
 use Rattle.dsn_postfix_service.specs.requests.AppendDeeds.{IsAppended, IsLogged, record_bytes}
 use Rattle.dsn_postfix_service.specs.requests.AppendDeeds as append
 use Rattle.dsn_postfix_service.specs.requests.CarriedOut.{Cleans, IsCarriedOut, IsDone, flags_of, must_clean, queue_id_of, task_of}
@@ -343,16 +343,14 @@ answered_append_stands terms request bytes answer gained out zero =
 
 -- ---- requests for notices that are answered 0
 
-end_told : (task : Task) (bytes : List ℕ) (answer : RequestAnswer) (telling : Telling) (front told last : List Deed)
+end_told : (task : Task) (bytes : List ℕ) (answer : RequestAnswer) (telling : Result (Unit {0}) Untold) (front told last : List Deed)
     → ToldSo task telling front told → EndsTelling task.terms.service bytes telling answer last → answer ≡ Ok 0
     → AreAllTold task front ⊎ (LeftOver task told × (last ≡ PassedOn task.terms.service bytes (Ok 0) ∷ []))
-end_told task bytes answer Told front told last so ends zero = inl so
-end_told task bytes answer (Unsayable why) front told last so passes zero =
+end_told task bytes answer (Ok done) front told last so ends zero = inl so
+end_told task bytes answer (Err (PassedOn why)) front told last so passes zero =
     inr (so, passed_with_zero task.terms.service bytes last passes.given passes.passed (status_is 0 (Ok (status_passed_on passes.given)) (sym passes.answer_is ∙ zero)))
-end_told task bytes answer RefusedForGood front told last so passes zero =
-    inr (so, passed_with_zero task.terms.service bytes last passes.given passes.passed (status_is 0 (Ok (status_passed_on passes.given)) (sym passes.answer_is ∙ zero)))
-end_told task bytes answer Failed front told last so ends zero = absurd (not_zero (status_is 0 (Ok not_carried_out) (sym ends.1 ∙ zero)))
-end_told task bytes answer TellingNoMemory front told last so ends zero = absurd (false_is_true (ap is_err (sym zero) ∙ ends.1))
+end_told task bytes answer (Err Failed) front told last so ends zero = absurd (not_zero (status_is 0 (Ok not_carried_out) (sym ends.1 ∙ zero)))
+end_told task bytes answer (Err UntoldNoMemory) front told last so ends zero = absurd (false_is_true (ap is_err (sym zero) ∙ ends.1))
 
 told_or_passed : (task : Task) (bytes : List ℕ) (told last front others gained : List Deed) → gained ≡ told ++ LogReleased ∷ last → gained ≡ front ++ others → hand_ins others ≡ []
     → AreAllTold task front ⊎ (LeftOver task told × (last ≡ PassedOn task.terms.service bytes (Ok 0) ∷ []))

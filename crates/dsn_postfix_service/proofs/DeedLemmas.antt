@@ -1,5 +1,5 @@
 -- The deeds of a request, put together from those of its steps.
-use Rattle.std.proofs.Common.{◌≡◌, ℕ, Bool, true, false, List, [], ◌∷◌, ◌++◌, Option, Some, None, Ok, Err, refl, sym, ap, subst, ◌∙◌, append_assoc, append-nil, map, drop, drop-cons, get_or, length, suc, ◌<◌, ◌+◌, ◌≤◌, arith}
+use Rattle.std.proofs.Common.{◌≡◌, ℕ, Bool, true, false, List, [], ◌∷◌, ◌++◌, Option, Some, None, Result, Ok, Err, refl, sym, ap, subst, ◌∙◌, append_assoc, append-nil, map, drop, drop-cons, get_or, length, suc, ◌<◌, ◌+◌, ◌≤◌, arith}
 use Rattle.std.proofs.lemmas.List.{drop_all}
 use Rattle.std.specs.Prelude.{◌==◌, unwrap_or}
 use Rattle.dsn_outcome.specs.Letter.{Letter}
@@ -17,15 +17,16 @@ use Rattle.dsn_postfix_service.specs.requests.AnsweredRequest.{bounce_serial, Fl
 use Rattle.dsn_postfix_service.specs.requests.AppendDeeds.{IsAppended, record_bytes, tried}
 use Rattle.dsn_postfix_service.specs.requests.CarriedOut.{IsCarriedOut, queue_id_of}
 use Rattle.dsn_postfix_service.specs.requests.Deed.{Answer, Appended, Deed, HandedIn, LogReleased, LogSought, MessageRead}
-use Rattle.dsn_postfix_service.specs.requests.Finishing.{AreMarked, FailsToMark, StopsAtPlace, marking}
+use Rattle.dsn_postfix_service.specs.requests.Finishing.{AreMarked, FailsToMark, FinishesAt, StopsAtPlace, marking}
 use Rattle.dsn_postfix_service.specs.requests.Gains.{Gains, with_deeds}
 use Rattle.dsn_postfix_service.specs.requests.HandingIn.{AreAccepted, IsNotAccepted, StopsAtLetter, hand_in_of, is_first_after, refusal_of, refused}
-use Rattle.dsn_postfix_service.specs.requests.MailFound.{FailsToRead, ReadsLog, log_reading, log_unread, message_reading, message_unread}
-use Rattle.dsn_postfix_service.specs.requests.NoticeDeeds.{EndsTelling, IsNotified, Tells}
+use Rattle.dsn_postfix_service.specs.requests.MailFound.{FailsToRead, MailRead, ReadsLog, log_reading, log_unread, message_reading, message_unread, readings}
+use Rattle.dsn_postfix_service.specs.requests.NoticeDeeds.{EndsTelling, IsNotified, Tells, accepted, no_memory, unsayable}
+use Rattle.dsn_postfix_service.specs.requests.RequestLetters.{AreLettersAsked, CantBeSaid, IsReason, places_done}
 use Rattle.dsn_postfix_service.specs.requests.RequestStatus.{RequestAnswer, carried_out, is_carried_out, status_after}
 use Rattle.dsn_postfix_service.specs.requests.Task.{Task, Terms}
-use Rattle.dsn_postfix_service.specs.declared.requests.not_accepted.NotAccepted.{NotAccepted}
-use Rattle.dsn_postfix_service.specs.declared.requests.telling.Telling.{Telling}
+use Rattle.dsn_postfix_service.specs.declared.requests.untold.Untold.{Untold}
+use Rattle.dsn_postfix_service.specs.declared.requests.untold.Untold.TheVariants.{Failed, NoMemory as no_memory_left, PassedOn}
 
 false_not_true : false ≡ true → ⊥
 false_not_true e = cc
@@ -131,7 +132,7 @@ one_accepted deeds old new host letter path data' reply to is after = record {
   are = (record { reply = reply; deed_is = refl }, refl);
 }
 
-pub one_refused : {S : Type 0} → (deeds : S → Option (List Deed)) (old new : S) (host : List ℕ) (first : Bool) (letter : Letter) (path data' : List ℕ) (fault : HandInFault) (why : NotAccepted)
+pub one_refused : {S : Type 0} → (deeds : S → Option (List Deed)) (old new : S) (host : List ℕ) (first : Bool) (letter : Letter) (path data' : List ℕ) (fault : HandInFault) (why : Untold)
     → letter.draft.return_path ≡ Some path → data' ≡ mail_data host letter → why ≡ refusal_of first fault → deeds new ≡ with_deeds (deeds old) (HandedIn path data' (Err fault) ∷ [])
     → Gains deeds old new (IsNotAccepted host first letter why)
 one_refused deeds old new host first letter path data' fault why to is why_is after = record {
@@ -188,7 +189,7 @@ all_accepted deeds old new host letters rest first so_far none = record {
   are = subst (λ (xs : List Letter). AreAccepted host xs so_far.taken) (sym (at_end letters so_far.front rest so_far.split none)) so_far.accepted;
 }
 
-pub stopped_at : {S : Type 0} → (deeds : S → Option (List Deed)) (old between new : S) (host : List ℕ) (letters rest after : List Letter) (first : Bool) (letter : Letter) (why : NotAccepted)
+pub stopped_at : {S : Type 0} → (deeds : S → Option (List Deed)) (old between new : S) (host : List ℕ) (letters rest after : List Letter) (first : Bool) (letter : Letter) (why : Untold)
     → AcceptedSoFar deeds old between host letters rest first → rest ≡ letter ∷ after → Gains deeds between new (IsNotAccepted host first letter why) → Gains deeds old new (StopsAtLetter host letters why)
 stopped_at deeds old between new host letters rest after first letter why so_far next one = record {
   gained = so_far.taken ++ one.gained;
@@ -254,7 +255,23 @@ stopped_marking deeds old between new notice places rest after place so_far firs
 
 -- ---- a request for notices
 
-pub notified : {S : Type 0} → (deeds : S → Option (List Deed)) (old between released new : S) (task : Task) (bytes : List ℕ) (answer : RequestAnswer) (telling : Telling)
+-- there are no letters
+pub none_made : (task : Task) (found : MailRead) (why : Untold) (gained : List Deed) → gained ≡ readings task found → IsReason (CantBeSaid task found) why → Tells task (Err why) gained
+none_made task found (PassedOn reason) gained is unsaid = unsayable found reason refl is unsaid
+none_made task found Failed gained is none = absurd none
+none_made task found no_memory_left gained is none = no_memory found refl is
+
+pub all_told : {S : Type 0} → (deeds : S → Option (List Deed)) (old read handed new : S) (task : Task) (found : MailRead) (made : List Letter) (telling : Result (Unit {0}) Untold)
+    → AreLettersAsked task found made → Gains deeds old read (λ gained. gained ≡ readings task found) → Gains deeds read handed (AreAccepted task.terms.settings.host made)
+    → Gains deeds handed new (FinishesAt task found.log (places_done task found.log) telling) → Gains deeds old new (Tells task telling)
+all_told deeds old read handed new task found made telling asked reads accepts finishes = record {
+  gained = reads.gained ++ (accepts.gained ++ finishes.gained);
+  after = after_both deeds old read new reads.gained (accepts.gained ++ finishes.gained) reads.after
+      (after_both deeds read handed new accepts.gained finishes.gained accepts.after finishes.after);
+  are = accepted found made accepts.gained finishes.gained (ap (λ (deeds : List Deed). deeds ++ (accepts.gained ++ finishes.gained)) reads.are) asked accepts.are finishes.are;
+}
+
+pub notified : {S : Type 0} → (deeds : S → Option (List Deed)) (old between released new : S) (task : Task) (bytes : List ℕ) (answer : RequestAnswer) (telling : Result (Unit {0}) Untold)
     → Gains deeds old between (Tells task telling) → deeds released ≡ with_deeds (deeds between) (LogReleased ∷ []) → Gains deeds released new (EndsTelling task.terms.service bytes telling answer)
     → Gains deeds old new (IsNotified task bytes answer)
 notified deeds old between released new task bytes answer telling first release last = record {

@@ -18,9 +18,9 @@ use Rattle.dsn_postfix.specs.files.QueueRecord.{PlacedBytes}
 use Rattle.dsn_postfix_service.specs.declared.requests.deed_fault.DeedFault.TheVariants as fault
 use Rattle.dsn_postfix_service.specs.declared.hand_in.hand_in_fault.HandInFault.TheVariants.{Refused}
 use Rattle.dsn_postfix_service.specs.declared.hand_in.hand_in_step.HandInStep.TheVariants.{Recipient}
-use Rattle.dsn_postfix_service.specs.declared.requests.not_accepted.NotAccepted.TheVariants as not_accepted
 use Rattle.dsn_postfix_service.specs.declared.requests.pass_reason.PassReason.{PassReason}
-use Rattle.dsn_postfix_service.specs.declared.requests.telling.Telling.TheVariants as telling
+use Rattle.dsn_postfix_service.specs.declared.requests.pass_reason.PassReason.TheVariants as reason
+use Rattle.dsn_postfix_service.specs.declared.requests.untold.Untold.TheVariants as untold
 use Rattle.dsn_postfix_service.specs.requests.AnsweredRequest.{IsAnswered, first_flush, without_flags}
 use Rattle.dsn_postfix_service.specs.requests.AnsweredRequest as answered
 use Rattle.dsn_postfix_service.specs.requests.AppendDeeds.{IsAppended, record_bytes, tried, unsayable}
@@ -137,23 +137,19 @@ status_needs_a_deed : (status : ℕ) → IsAppended Bounce (append_with 1) [] (O
 status_needs_a_deed status (tried none given is comes) = absurd (no_deed (append_of_bob given) is)
 status_needs_a_deed status (unsayable field some passes) = absurd (no_deed (PassedOn Bounce [] passes.given) passes.passed)
 
--- nor to a request for notices that ends with nobody told, unless what can't be said is passed on
-unsayable_needs_a_deed : (why : PassReason) (answer : RequestAnswer) → EndsTelling Bounce [] (telling.Unsayable why) answer [] → ⊥
-unsayable_needs_a_deed why answer passes = no_deed (PassedOn Bounce [] passes.given) passes.passed
-
--- nor to one whose first notice is refused for good
-refused_needs_a_deed : (answer : RequestAnswer) → EndsTelling Bounce [] telling.RefusedForGood answer [] → ⊥
-refused_needs_a_deed answer passes = no_deed (PassedOn Bounce [] passes.given) passes.passed
+-- nor to a request for notices that is left to Postfix's own service
+passing_needs_a_deed : (why : PassReason) (answer : RequestAnswer) → EndsTelling Bounce [] (Err (untold.PassedOn why)) answer [] → ⊥
+passing_needs_a_deed why answer passes = no_deed (PassedOn Bounce [] passes.given) passes.passed
 
 -- ---- letters that are refused
 
-first_refused_for_good : refusal_of true (Refused Recipient (codes "550")) ≡ not_accepted.RefusedForGood
+first_refused_for_good : refusal_of true (Refused Recipient (codes "550")) ≡ untold.PassedOn reason.Refused
 first_refused_for_good = refl
 
-later_refused_for_good : refusal_of false (Refused Recipient (codes "550")) ≡ not_accepted.Refused
+later_refused_for_good : refusal_of false (Refused Recipient (codes "550")) ≡ untold.Failed
 later_refused_for_good = refl
 
-first_refused_for_now : refusal_of true (Refused Recipient (codes "450")) ≡ not_accepted.Refused
+first_refused_for_now : refusal_of true (Refused Recipient (codes "450")) ≡ untold.Failed
 first_refused_for_now = refl
 
 -- ---- the bounce log first
@@ -192,7 +188,7 @@ unread_at service bytes serial = record {
   cleaned = [];
   gained_are = refl;
   is_done = record {
-    telling = telling.Failed;
+    telling = Err untold.Failed;
     told = LogRead service id (Err fault.Failed) ∷ [];
     last = [];
     gained_are = refl;

@@ -7,8 +7,10 @@ use Rattle.dsn_postfix.specs.declared.postfix_request.NoticeRequest.{NoticeReque
 use Rattle.dsn_postfix.specs.declared.postfix_request.PostfixRequest.{PostfixRequest}
 use Rattle.dsn_postfix_service.specs.declared.hand_in.hand_in_fault.HandInFault.{HandInFault}
 use Rattle.dsn_postfix_service.specs.declared.requests.deed_fault.DeedFault.{DeedFault}
-use Rattle.dsn_postfix_service.specs.declared.requests.not_accepted.NotAccepted.{NotAccepted}
-use Rattle.dsn_postfix_service.specs.declared.requests.not_accepted.NotAccepted.TheVariants.{NoMemory, Refused, RefusedForGood}
+use Rattle.dsn_postfix_service.specs.declared.requests.pass_reason.PassReason.{PassReason}
+use Rattle.dsn_postfix_service.specs.declared.requests.pass_reason.PassReason.TheVariants.{Refused}
+use Rattle.dsn_postfix_service.specs.declared.requests.untold.Untold.{Untold}
+use Rattle.dsn_postfix_service.specs.declared.requests.untold.Untold.TheVariants.{Failed, NoMemory, PassedOn}
 use Rattle.dsn_postfix_service.specs.hand_in.HandIn.{is_refused_for_good}
 use Rattle.dsn_postfix_service.specs.requests.Deed.{Appended, Deed, HandedIn, LogRead, LogReleased, LogRemoved, LogSought, MarkedDone, MessageRead, PassedOn}
 use Rattle.dsn_postfix_service.specs.requests.Finishing.{AreMarked, StopsAtPlace, marking}
@@ -117,7 +119,7 @@ pub record FrontHanded (host : List ℕ) (letters : List Letter) (gained : List 
 one_tried : (host : List ℕ) (letter : Letter) (why : _) → Block (hand_in_of host letter (Err why) ∷ []) (hand_in_of host letter (Err why) ∷ [])
 one_tried host letter why = record { keeps = (refl, tt); handed_are = refl }
 
-last_handed : (host : List ℕ) (first : Bool) (before after : List Letter) (stopped : Letter) (why : NotAccepted) (taken last : List Deed) → AreAccepted host before taken → IsNotAccepted host first stopped why last
+last_handed : (host : List ℕ) (first : Bool) (before after : List Letter) (stopped : Letter) (why : Untold) (taken last : List Deed) → AreAccepted host before taken → IsNotAccepted host first stopped why last
     → FrontHanded host (before ++ stopped ∷ after) (taken ++ last)
 last_handed host first before after stopped why taken last accepted (handing.refused fault why_is is) =
     let tried : List Deed = hand_in_of host stopped (Err fault) ∷ [] in
@@ -138,7 +140,7 @@ last_handed host first before after stopped why taken last accepted (handing.no_
       each = accepted_handed host before taken accepted;
     }))
 
-pub stopped_front : (host : List ℕ) (letters : List Letter) (why : NotAccepted) (gained : List Deed) → StopsAtLetter host letters why gained → FrontHanded host letters gained
+pub stopped_front : (host : List ℕ) (letters : List Letter) (why : Untold) (gained : List Deed) → StopsAtLetter host letters why gained → FrontHanded host letters gained
 stopped_front host letters why gained stops =
     subst (λ (deeds : List Deed). FrontHanded host letters deeds) (sym stops.gained_are)
     (subst (λ (ls : List Letter). FrontHanded host ls (stops.taken ++ stops.last)) (sym stops.letters_are)
@@ -153,33 +155,33 @@ pub record FirstRefused (host : List ℕ) (letters : List Letter) (gained : List
   pub for_good : is_refused_for_good fault ≡ true
   pub tried : gained ≡ hand_in_of host letter (Err fault) ∷ []
 
-refused_now : RefusedForGood ≡ Refused → ⊥
-refused_now e = cc
+refused_now : (reason : PassReason) → PassedOn reason ≡ Failed → ⊥
+refused_now reason e = cc
 
-without_memory : RefusedForGood ≡ NoMemory → ⊥
-without_memory e = cc
+without_memory : (reason : PassReason) → PassedOn reason ≡ NoMemory → ⊥
+without_memory reason e = cc
 
-for_good_if : (b : Bool) → RefusedForGood ≡ (if b then RefusedForGood else Refused) → b ≡ true
-for_good_if true e = refl
-for_good_if false e = absurd (refused_now e)
+for_good_if : (reason : PassReason) (b : Bool) → PassedOn reason ≡ (if b then PassedOn Refused else Failed) → b ≡ true
+for_good_if reason true e = refl
+for_good_if reason false e = absurd (refused_now reason e)
 
-first_of : (host : List ℕ) (letters before after : List Letter) (stopped : Letter) (gained taken last : List Deed) → letters ≡ before ++ stopped ∷ after → gained ≡ taken ++ last → AreAccepted host before taken
-    → IsNotAccepted host (is_first_after before) stopped RefusedForGood last → FirstRefused host letters gained
-first_of host letters [] after stopped gained taken last letters_are is accepted (handing.refused fault why_is tried) = record {
+first_of : (host : List ℕ) (letters before after : List Letter) (stopped : Letter) (reason : PassReason) (gained taken last : List Deed) → letters ≡ before ++ stopped ∷ after → gained ≡ taken ++ last → AreAccepted host before taken
+    → IsNotAccepted host (is_first_after before) stopped (PassedOn reason) last → FirstRefused host letters gained
+first_of host letters [] after stopped reason gained taken last letters_are is accepted (handing.refused fault why_is tried) = record {
   letter = stopped;
   others = after;
   fault = fault;
   letters_are = letters_are;
-  for_good = for_good_if (is_refused_for_good fault) why_is;
+  for_good = for_good_if reason (is_refused_for_good fault) why_is;
   tried = is ∙ ap (λ (deeds : List Deed). deeds ++ last) accepted ∙ tried;
 }
-first_of host letters (other ∷ before) after stopped gained taken last letters_are is accepted (handing.refused fault why_is tried) = absurd (refused_now why_is)
-first_of host letters [] after stopped gained taken last letters_are is accepted (handing.no_memory why_is none) = absurd (without_memory why_is)
-first_of host letters (other ∷ before) after stopped gained taken last letters_are is accepted (handing.no_memory why_is none) = absurd (without_memory why_is)
+first_of host letters (other ∷ before) after stopped reason gained taken last letters_are is accepted (handing.refused fault why_is tried) = absurd (refused_now reason why_is)
+first_of host letters [] after stopped reason gained taken last letters_are is accepted (handing.no_memory why_is none) = absurd (without_memory reason why_is)
+first_of host letters (other ∷ before) after stopped reason gained taken last letters_are is accepted (handing.no_memory why_is none) = absurd (without_memory reason why_is)
 
-pub first_refused : (host : List ℕ) (letters : List Letter) (gained : List Deed) → StopsAtLetter host letters RefusedForGood gained → FirstRefused host letters gained
-first_refused host letters gained stops =
-    first_of host letters stops.before stops.after stops.stopped gained stops.taken stops.last stops.letters_are stops.gained_are stops.accepted stops.not_accepted
+pub first_refused : (host : List ℕ) (letters : List Letter) (reason : PassReason) (gained : List Deed) → StopsAtLetter host letters (PassedOn reason) gained → FirstRefused host letters gained
+first_refused host letters reason gained stops =
+    first_of host letters stops.before stops.after stops.stopped reason gained stops.taken stops.last stops.letters_are stops.gained_are stops.accepted stops.not_accepted
 
 -- ---- recipients
 

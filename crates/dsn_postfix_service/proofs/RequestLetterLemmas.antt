@@ -3,14 +3,18 @@ use Rattle.std.proofs.Common.{◌≡◌, ℕ, true, List, [], ◌∷◌, ◌++�
 use Rattle.std.specs.List.{list_any}
 use Rattle.std.specs.Prelude.{IfOk, IfErr, MatchOption}
 use Rattle.dsn_outcome.specs.Letter.{Letter}
+use Rattle.dsn_postfix.specs.NoticePlan.{IsPlanFault}
+use Rattle.dsn_postfix.specs.declared.cant_say.CantSay.{CantSay}
+use Rattle.dsn_postfix.specs.declared.plan_fault.PlanFault.{PlanFault}
+use Rattle.dsn_postfix.specs.declared.plan_fault.PlanFault.TheVariants.{NoMemory as NoPlanMemory, Unsaid}
 use Rattle.dsn_postfix.specs.PlannedNotice.{NoticeFacts}
 use Rattle.dsn_postfix.specs.files.QueueListing.{QueueEnding}
 use Rattle.dsn_postfix.specs.files.QueueRecipients.{BeginsRecipients, RecipientFacts, RecipientsLeft, nothing_before}
 use Rattle.dsn_postfix.specs.files.QueueWalk.{QueueReading}
-use Rattle.dsn_postfix_service.specs.declared.requests.no_letters.NoLetters.{NoLetters}
-use Rattle.dsn_postfix_service.specs.declared.requests.no_letters.NoLetters.TheVariants.{NoMemory, Unsayable}
+use Rattle.dsn_postfix_service.specs.declared.requests.untold.Untold.{Untold}
+use Rattle.dsn_postfix_service.specs.declared.requests.untold.Untold.TheVariants.{Failed, NoMemory, PassedOn}
 use Rattle.dsn_postfix_service.specs.letters.ReportedMessage.{MessageSaid}
-use Rattle.dsn_postfix_service.specs.requests.RequestLetters.{AreLettersOf, IsReason, has_fault}
+use Rattle.dsn_postfix_service.specs.requests.RequestLetters.{AreLettersOf, IsReason, has_fault, of_plan}
 
 -- ---- results
 
@@ -28,9 +32,14 @@ first_if_none (Some x) P E Q is = is
 
 -- ---- why a notice is no letter
 
-pub reason_as : (P Q : Type 0) (why : NoLetters) → IsReason P why → (P → Q) → IsReason Q why
-reason_as P Q (Unsayable why) is follows = follows is
+pub reason_as : (P Q : Type 0) (why : Untold) → IsReason P why → (P → Q) → IsReason Q why
+reason_as P Q (PassedOn why) is follows = follows is
+reason_as P Q Failed is follows = absurd is
 reason_as P Q NoMemory is follows = tt
+
+pub plan_reason : {X P : Type 0} → (planned : Result X CantSay) (fault : PlanFault) → IsPlanFault planned fault → ((why : CantSay) → planned ≡ Err why → P) → IsReason P (of_plan fault)
+plan_reason planned NoPlanMemory is follows = tt
+plan_reason planned (Unsaid why) is follows = follows why is
 
 -- ---- letters
 

@@ -6,16 +6,14 @@ use Rattle.dsn_text.specs.declared.service.Service.{Service}
 use Rattle.dsn_postfix.specs.declared.postfix_request.NoticeRequest.{NoticeRequest}
 use Rattle.dsn_postfix.specs.declared.postfix_request.PostfixRequest.{PostfixRequest}
 use Rattle.dsn_postfix_service.specs.declared.requests.deed_fault.DeedFault.{DeedFault}
-use Rattle.dsn_postfix_service.specs.declared.requests.not_accepted.NotAccepted.{NotAccepted}
-use Rattle.dsn_postfix_service.specs.declared.requests.not_accepted.NotAccepted.TheVariants as not_accepted
-use Rattle.dsn_postfix_service.specs.declared.requests.telling.Telling.{Telling}
-use Rattle.dsn_postfix_service.specs.declared.requests.telling.Telling.TheVariants.{Told, Unsayable, RefusedForGood, Failed, NoMemory}
+use Rattle.dsn_postfix_service.specs.declared.requests.untold.Untold.{Untold}
+use Rattle.dsn_postfix_service.specs.declared.requests.untold.Untold.TheVariants.{Failed, NoMemory, PassedOn}
 use Rattle.dsn_postfix_service.specs.requests.Deed.{Answer, Deed, LogReleased, LogRemoved, PassedOn}
 use Rattle.dsn_postfix_service.specs.requests.Finishing.{AreMarked, FinishesAt, RemovesLog}
 use Rattle.dsn_postfix_service.specs.requests.Finishing as finishing
-use Rattle.dsn_postfix_service.specs.requests.HandingIn.{StopsAtLetter}
+use Rattle.dsn_postfix_service.specs.requests.HandingIn.{AreAccepted, StopsAtLetter}
 use Rattle.dsn_postfix_service.specs.requests.MailFound.{MailRead, readings}
-use Rattle.dsn_postfix_service.specs.requests.NoticeDeeds.{EndsTelling, IsNotified, Tells, TellsLetters, TellsOfMail, end_at_letter, end_of_telling}
+use Rattle.dsn_postfix_service.specs.requests.NoticeDeeds.{EndsTelling, IsNotified, Tells}
 use Rattle.dsn_postfix_service.specs.requests.NoticeDeeds as notices
 use Rattle.dsn_postfix_service.specs.requests.RequestLaws.{AreAllTold, AreHandedIn, HandsInOnce, IsLeftOver, hand_ins}
 use Rattle.dsn_postfix_service.specs.requests.RequestLaws as laws
@@ -31,40 +29,43 @@ abbrev pub RemovesMarked : Task → List ℕ → List Deed → List Deed → Typ
 RemovesMarked task places marks removal =
     (removal ≡ []) ⊎ ((answer : Answer) × (removal ≡ LogRemoved task.terms.service task.notice.queue_id answer ∷ []) × AreMarked task.notice places marks)
 
-pub record FinishParts (task : Task) (places : List ℕ) (done : Bool) (gained : List Deed) : Type 0 where
+pub record FinishParts (task : Task) (places : List ℕ) (telling : Result (Unit {0}) Untold) (gained : List Deed) : Type 0 where
   pub marks : List Deed
   pub removal : List Deed
   pub parts : gained ≡ marks ++ removal
   pub block : Block marks []
   pub removal_is : RemovesMarked task places marks removal
-  pub if_done : done ≡ true → AreMarked task.notice places marks
+  pub ends : ((telling ≡ Ok tt) × AreMarked task.notice places marks) ⊎ (telling ≡ Err Failed)
 
-removal_of : (task : Task) (places : List ℕ) (due done : Bool) (marks gained : List Deed) → AreMarked task.notice places marks
-    → RemovesLog task.terms.service task.notice.queue_id due done gained → RemovesMarked task places marks gained
-removal_of task places due done marks gained are (finishing.kept e d is) = inl is
-removal_of task places due done marks gained are (finishing.removed e d is) = inr (Ok tt, is, are)
-removal_of task places due done marks gained are (finishing.unremoved why e d is) = inr (Err why, is, are)
+removal_of : (task : Task) (places : List ℕ) (due : Bool) (telling : Result (Unit {0}) Untold) (marks gained : List Deed) → AreMarked task.notice places marks
+    → RemovesLog task.terms.service task.notice.queue_id due telling gained → RemovesMarked task places marks gained
+removal_of task places due telling marks gained are (finishing.kept e d is) = inl is
+removal_of task places due telling marks gained are (finishing.removed e d is) = inr (Ok tt, is, are)
+removal_of task places due telling marks gained are (finishing.unremoved why e d is) = inr (Err why, is, are)
 
-false_is_true : false ≡ true → ⊥
-false_is_true e = cc
+end_of : (task : Task) (places : List ℕ) (due : Bool) (telling : Result (Unit {0}) Untold) (marks gained : List Deed) → AreMarked task.notice places marks
+    → RemovesLog task.terms.service task.notice.queue_id due telling gained → ((telling ≡ Ok tt) × AreMarked task.notice places marks) ⊎ (telling ≡ Err Failed)
+end_of task places due telling marks gained are (finishing.kept e d is) = inl (d, are)
+end_of task places due telling marks gained are (finishing.removed e d is) = inl (d, are)
+end_of task places due telling marks gained are (finishing.unremoved why e d is) = inr d
 
-finish_parts : (task : Task) (log : Option (List ℕ)) (places : List ℕ) (done : Bool) (gained : List Deed)
-    → FinishesAt task log places done gained → FinishParts task places done gained
-finish_parts task log places done gained (finishing.unmarked d stops) = record {
+finish_parts : (task : Task) (log : Option (List ℕ)) (places : List ℕ) (telling : Result (Unit {0}) Untold) (gained : List Deed)
+    → FinishesAt task log places telling gained → FinishParts task places telling gained
+finish_parts task log places telling gained (finishing.unmarked d stops) = record {
   marks = gained;
   removal = [];
   parts = sym (append-nil gained);
   block = stopped_marks task.notice places gained stops;
   removal_is = inl refl;
-  if_done = λ all. absurd (false_is_true (sym d ∙ all));
+  ends = inr d;
 }
-finish_parts task log places done gained (finishing.marked marks removal is are removes) = record {
+finish_parts task log places telling gained (finishing.marked marks removal is are removes) = record {
   marks = marks;
   removal = removal;
   parts = is;
   block = marked_block task.notice places marks are;
-  removal_is = removal_of task places (finishing.is_removal_due task.request log) done marks removal are removes;
-  if_done = λ all. are;
+  removal_is = removal_of task places (finishing.is_removal_due task.request log) telling marks removal are removes;
+  ends = end_of task places (finishing.is_removal_due task.request log) telling marks removal are removes;
 }
 
 -- ---- telling
@@ -83,23 +84,26 @@ pub record LeftOver (task : Task) (told : List Deed) : Type 0 where
   pub why : IsLeftOver task found tried
 
 -- what was told where telling ends so: of all deeds, which begin with a front that removes no log
-abbrev pub ToldSo : Task → Telling → List Deed → List Deed → Type 0
-ToldSo task Told front told = AreAllTold task front
-ToldSo task (Unsayable why) front told = LeftOver task told
-ToldSo task RefusedForGood front told = LeftOver task told
-ToldSo task Failed front told = Unit {0}
-ToldSo task NoMemory front told = Unit {0}
+abbrev pub ToldSo : Task → Result (Unit {0}) Untold → List Deed → List Deed → Type 0
+ToldSo task (Ok done) front told = AreAllTold task front
+ToldSo task (Err (PassedOn why)) front told = LeftOver task told
+ToldSo task (Err Failed) front told = Unit {0}
+ToldSo task (Err NoMemory) front told = Unit {0}
 
-told_if_done : (task : Task) (done : Bool) (front told : List Deed) → (done ≡ true → AreAllTold task front)
-    → ToldSo task (end_of_telling done) front told
-told_if_done task true front told all = all refl
-told_if_done task false front told all = tt
+told_as : (task : Task) (one two : Result (Unit {0}) Untold) (front told : List Deed) → one ≡ two → ToldSo task two front told → ToldSo task one front told
+told_as task one two front told is so = subst (λ (telling : Result (Unit {0}) Untold). ToldSo task telling front told) (sym is) so
 
-left_if_first : (task : Task) (found : MailRead) (made : List Letter) (gained : List Deed)
-    → AreLettersAsked task found made → StopsAtLetter task.terms.settings.host made not_accepted.RefusedForGood gained
-    → LeftOver task (readings task found ++ gained)
-left_if_first task found made gained asked stops =
-    let first = first_refused task.terms.settings.host made gained stops in
+told_if_done : (task : Task) (telling : Result (Unit {0}) Untold) (Marked : Type 0) (front told : List Deed) → (Marked → AreAllTold task front)
+    → ((telling ≡ Ok tt) × Marked) ⊎ (telling ≡ Err Failed) → ToldSo task telling front told
+told_if_done task telling Marked front told all (inl done) = told_as task telling (Ok tt) front told done.0 (all done.1)
+told_if_done task telling Marked front told all (inr failed) = told_as task telling (Err Failed) front told failed tt
+
+told_if_stopped : (task : Task) (found : MailRead) (made : List Letter) (why : Untold) (front gained : List Deed)
+    → AreLettersAsked task found made → StopsAtLetter task.terms.settings.host made why gained → ToldSo task (Err why) front (readings task found ++ gained)
+told_if_stopped task found made Failed front gained asked stops = tt
+told_if_stopped task found made NoMemory front gained asked stops = tt
+told_if_stopped task found made (PassedOn reason) front gained asked stops =
+    let first = first_refused task.terms.settings.host made reason gained stops in
     record {
       found = found;
       tried = gained;
@@ -108,18 +112,7 @@ left_if_first task found made gained asked stops =
           (subst (λ (letters : List Letter). AreLettersAsked task found letters) first.letters_are asked) first.for_good first.tried;
     }
 
-told_if_stopped : (task : Task) (found : MailRead) (made : List Letter) (why : NotAccepted) (front gained : List Deed)
-    → AreLettersAsked task found made → StopsAtLetter task.terms.settings.host made why gained
-    → ToldSo task (end_at_letter why) front (readings task found ++ gained)
-told_if_stopped task found made not_accepted.Refused front gained asked stops = tt
-told_if_stopped task found made not_accepted.NoMemory front gained asked stops = tt
-told_if_stopped task found made not_accepted.RefusedForGood front gained asked stops = left_if_first task found made gained asked stops
-
-told_as : (task : Task) (one two : Telling) (front told : List Deed) → one ≡ two
-    → ToldSo task two front told → ToldSo task one front told
-told_as task one two front told is so = subst (λ (telling : Telling). ToldSo task telling front told) (sym is) so
-
-pub record TellingParts (task : Task) (telling : Telling) (gained : List Deed) : Type 0 where
+pub record TellingParts (task : Task) (telling : Result (Unit {0}) Untold) (gained : List Deed) : Type 0 where
   pub front : List Deed
   pub removal : List Deed
   pub parts : gained ≡ front ++ removal
@@ -129,7 +122,7 @@ pub record TellingParts (task : Task) (telling : Telling) (gained : List Deed) :
   pub so : ToldSo task telling front gained
 
 -- nothing was handed in, and nothing removed
-quiet_parts : (task : Task) (telling : Telling) (gained : List Deed) → ToldSo task telling gained gained → Block gained [] → TellingParts task telling gained
+quiet_parts : (task : Task) (telling : Result (Unit {0}) Untold) (gained : List Deed) → ToldSo task telling gained gained → Block gained [] → TellingParts task telling gained
 quiet_parts task telling gained so block = record {
   front = gained;
   removal = [];
@@ -145,14 +138,9 @@ removal_told : (task : Task) (places : List ℕ) (front marks removal : List Dee
 removal_told task places front marks removal told (inl none) = nothing_removed none
 removal_told task places front marks removal told (inr some) = removed_told some.0 some.1 (told some.2)
 
--- what was read, and nothing after it
-read_alone : (task : Task) (found : MailRead) (gained : List Deed) → gained ≡ [] → Block (readings task found ++ gained) []
-read_alone task found gained is = both (readings task found) gained [] [] (readings_block task found) (block_is gained [] [] is no_deeds)
-
-letters_parts : (task : Task) (found : MailRead) (made : List Letter) (telling : Telling) (gained : List Deed)
-    → AreLettersAsked task found made → TellsLetters task found made (places_done task found.log) telling gained
-    → TellingParts task telling (readings task found ++ gained)
-letters_parts task found made telling gained asked (notices.stopped why t stops) =
+stopped_parts : (task : Task) (found : MailRead) (made : List Letter) (why : Untold) (gained : List Deed)
+    → AreLettersAsked task found made → StopsAtLetter task.terms.settings.host made why gained → TellingParts task (Err why) (readings task found ++ gained)
+stopped_parts task found made why gained asked stops =
     let tried = stopped_front task.terms.settings.host made why gained stops in
     let read = readings task found in
     let block = both read gained [] gained (readings_block task found) tried.block in
@@ -173,11 +161,15 @@ letters_parts task found made telling gained asked (notices.stopped why t stops)
         each = subst (λ (deeds : List Deed). AreHandedIn task.terms.settings.host tried.front deeds) (sym block.handed_are) tried.each;
       });
       removal_is = nothing_removed refl;
-      so = told_as task telling (end_at_letter why) (read ++ gained) (read ++ gained) t (told_if_stopped task found made why (read ++ gained) gained asked stops);
+      so = told_if_stopped task found made why (read ++ gained) gained asked stops;
     }
-letters_parts task found made telling gained asked (notices.accepted done taken rest t is accepted finishes) =
+
+accepted_parts : (task : Task) (found : MailRead) (made : List Letter) (telling : Result (Unit {0}) Untold) (taken rest : List Deed)
+    → AreLettersAsked task found made → AreAccepted task.terms.settings.host made taken → FinishesAt task found.log (places_done task found.log) telling rest
+    → TellingParts task telling (readings task found ++ (taken ++ rest))
+accepted_parts task found made telling taken rest asked accepted finishes =
     let places = places_done task found.log in
-    let finish = finish_parts task found.log places done rest finishes in
+    let finish = finish_parts task found.log places telling rest finishes in
     let read = readings task found in
     let front : List Deed = read ++ (taken ++ finish.marks) in
     let block : Block front taken = both read (taken ++ finish.marks) [] taken (readings_block task found)
@@ -188,7 +180,7 @@ letters_parts task found made telling gained asked (notices.accepted done taken 
     record {
       front = front;
       removal = finish.removal;
-      parts = ap (λ (deeds : List Deed). read ++ deeds) (is ∙ ap (λ (deeds : List Deed). taken ++ deeds) finish.parts ∙ sym (append_assoc taken finish.marks finish.removal))
+      parts = ap (λ (deeds : List Deed). read ++ deeds) (ap (λ (deeds : List Deed). taken ++ deeds) finish.parts ∙ sym (append_assoc taken finish.marks finish.removal))
           ∙ sym (append_assoc read (taken ++ finish.marks) finish.removal);
       keeps = block.keeps;
       once = inr (record {
@@ -203,39 +195,34 @@ letters_parts task found made telling gained asked (notices.accepted done taken 
         each = subst (λ (deeds : List Deed). AreHandedIn task.terms.settings.host made deeds) (sym block.handed_are) (accepted_handed task.terms.settings.host made taken accepted);
       });
       removal_is = removal_told task places front finish.marks finish.removal told finish.removal_is;
-      so = told_as task telling (end_of_telling done) front (read ++ gained) t (told_if_done task done front (read ++ gained) (λ all. told (finish.if_done all)));
+      so = told_if_done task telling (AreMarked task.notice places finish.marks) front (read ++ (taken ++ rest)) told finish.ends;
     }
 
-mail_parts : (task : Task) (found : MailRead) (telling : Telling) (gained : List Deed)
-    → TellsOfMail task found telling gained
-    → TellingParts task telling (readings task found ++ gained)
-mail_parts task found telling gained (notices.no_memory t is) =
-    quiet_parts task telling _ (told_as task telling NoMemory _ _ t tt) (read_alone task found gained is)
-mail_parts task found telling gained (notices.unsayable why t is unsaid) =
-    quiet_parts task telling _
-    (told_as task telling (Unsayable why) _ _ t (record { found = found; tried = gained; told_is = refl; why = laws.unsayable unsaid is }))
-    (read_alone task found gained is)
-mail_parts task found telling gained (notices.letters made asked tells) =
-    letters_parts task found made telling gained asked tells
-
-pub telling_parts : (task : Task) (telling : Telling) (gained : List Deed)
-    → Tells task telling gained → TellingParts task telling gained
+pub telling_parts : (task : Task) (telling : Result (Unit {0}) Untold) (gained : List Deed) → Tells task telling gained → TellingParts task telling gained
 telling_parts task telling gained (notices.unread t fails) =
-    quiet_parts task telling gained (told_as task telling Failed gained gained t tt) (unread_block task gained fails)
-telling_parts task telling gained (notices.read found told is tells) =
-    subst (λ (deeds : List Deed). TellingParts task telling deeds) (sym is) (mail_parts task found telling told tells)
+    quiet_parts task telling gained (told_as task telling (Err Failed) gained gained t tt) (unread_block task gained fails)
+telling_parts task telling gained (notices.no_memory found t is) =
+    quiet_parts task telling gained (told_as task telling (Err NoMemory) gained gained t tt) (block_is gained _ [] is (readings_block task found))
+telling_parts task telling gained (notices.unsayable found why t is unsaid) =
+    quiet_parts task telling gained
+    (told_as task telling (Err (PassedOn why)) gained gained t (record { found = found; tried = []; told_is = is ∙ sym (append-nil (readings task found)); why = laws.unsayable unsaid refl }))
+    (block_is gained _ [] is (readings_block task found))
+telling_parts task telling gained (notices.stopped found made tried why t is asked stops) =
+    subst (λ (end : Result (Unit {0}) Untold). TellingParts task end gained) (sym t)
+    (subst (λ (deeds : List Deed). TellingParts task (Err why) deeds) (sym is) (stopped_parts task found made why tried asked stops))
+telling_parts task telling gained (notices.accepted found made taken rest is asked accepted finishes) =
+    subst (λ (deeds : List Deed). TellingParts task telling deeds) (sym is) (accepted_parts task found made telling taken rest asked accepted finishes)
 
 -- ---- the end
 
 passed_alone : (service : Service) (bytes : List ℕ) (answer : Result ℕ DeedFault) → Block (PassedOn service bytes answer ∷ []) []
 passed_alone service bytes answer = record { keeps = (refl, tt); handed_are = refl }
 
-ends_block : (service : Service) (bytes : List ℕ) (telling : Telling) (answer : RequestAnswer) (last : List Deed) → EndsTelling service bytes telling answer last → Block last []
-ends_block service bytes Told answer last ends = block_is last [] [] ends.0 no_deeds
-ends_block service bytes Failed answer last ends = block_is last [] [] ends.0 no_deeds
-ends_block service bytes NoMemory answer last ends = block_is last [] [] ends.0 no_deeds
-ends_block service bytes (Unsayable why) answer last ends = block_is last _ [] ends.passed (passed_alone service bytes ends.given)
-ends_block service bytes RefusedForGood answer last ends = block_is last _ [] ends.passed (passed_alone service bytes ends.given)
+ends_block : (service : Service) (bytes : List ℕ) (telling : Result (Unit {0}) Untold) (answer : RequestAnswer) (last : List Deed) → EndsTelling service bytes telling answer last → Block last []
+ends_block service bytes (Ok done) answer last ends = block_is last [] [] ends.0 no_deeds
+ends_block service bytes (Err Failed) answer last ends = block_is last [] [] ends.0 no_deeds
+ends_block service bytes (Err NoMemory) answer last ends = block_is last [] [] ends.0 no_deeds
+ends_block service bytes (Err (PassedOn why)) answer last ends = block_is last _ [] ends.passed (passed_alone service bytes ends.given)
 
 released_block : (last : List Deed) → Block last [] → Block (LogReleased ∷ last) []
 released_block last block = record { keeps = (refl, block.keeps); handed_are = block.handed_are }
@@ -246,7 +233,7 @@ pub record NotifiedParts (task : Task) (bytes : List ℕ) (answer : RequestAnswe
   pub tail : List Deed
   pub tail_is : tail ≡ LogReleased ∷ last
   pub all : gained ≡ told ++ tail
-  pub ended : Telling
+  pub ended : Result (Unit {0}) Untold
   pub telling : TellingParts task ended told
   pub ends : EndsTelling task.terms.service bytes ended answer last
   pub tail_block : Block tail []

@@ -9,8 +9,6 @@ mod laws;
 mod letters_made;
 mod mail_found;
 mod mail_system;
-mod no_letters;
-mod not_accepted;
 mod notice_task;
 mod notify;
 mod pass_on;
@@ -19,7 +17,7 @@ mod places_done;
 mod request_letters;
 mod request_terms;
 mod service_settings;
-mod telling;
+mod untold;
 
 pub use answering::answer_request;
 pub(crate) use carrying_out::queue_id_of;

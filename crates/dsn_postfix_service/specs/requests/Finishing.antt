@@ -1,6 +1,6 @@
 -- What is done once all notices of a request are accepted: its recipients are marked as done, and then its log is removed.
 use Rattle.std.specs.Option.{is_some}
-use Rattle.std.specs.Prelude.{◌≡◌, ℕ, Bool, true, false, ◌&&◌, List, [], ◌∷◌, ◌++◌, map, Option, Ok, Err}
+use Rattle.std.specs.Prelude.{◌≡◌, ℕ, Bool, true, false, ◌&&◌, List, [], ◌∷◌, ◌++◌, map, Option, Result, Ok, Err}
 use Rattle.dsn_text.specs.declared.service.Service.{Service}
 use Rattle.dsn_postfix.specs.declared.postfix_request.NoticeRequest.{NoticeRequest}
 use Rattle.dsn_postfix.specs.declared.postfix_request.PostfixRequest.{PostfixRequest}
@@ -8,6 +8,8 @@ use Rattle.dsn_postfix.specs.declared.postfix_request.PostfixRequest.TheVariants
 use Rattle.dsn_postfix_service.specs.requests.Deed.{Deed, LogRemoved, MarkedDone}
 use Rattle.dsn_postfix_service.specs.requests.Task.{Task}
 use Rattle.dsn_postfix_service.specs.declared.requests.deed_fault.DeedFault.{DeedFault}
+use Rattle.dsn_postfix_service.specs.declared.requests.untold.Untold.{Untold}
+use Rattle.dsn_postfix_service.specs.declared.requests.untold.Untold.TheVariants.{Failed}
 
 -- ---- recipients
 
@@ -35,13 +37,9 @@ pub record StopsAtPlace (notice : NoticeRequest) (places : List ℕ) (gained : L
   pub marked : AreMarked notice before marks
   pub unmarked : FailsToMark notice stopped last
 
-abbrev pub MarksOne : NoticeRequest → ℕ → Bool → List Deed → Type 0
-MarksOne notice place true gained = gained ≡ marking notice place ∷ []
-MarksOne notice place false gained = FailsToMark notice place gained
-
-abbrev pub MarksAll : NoticeRequest → List ℕ → Bool → List Deed → Type 0
-MarksAll notice places true gained = AreMarked notice places gained
-MarksAll notice places false gained = StopsAtPlace notice places gained
+abbrev pub MarksAll : NoticeRequest → List ℕ → Result (Unit {0}) Untold → List Deed → Type 0
+MarksAll notice places (Ok done) gained = AreMarked notice places gained
+MarksAll notice places (Err why) gained = (why ≡ Failed) × StopsAtPlace notice places gained
 
 -- ---- the log
 
@@ -58,17 +56,18 @@ abbrev pub is_removal_due : PostfixRequest → Option (List ℕ) → Bool
 is_removal_due request log = removes_log request && is_some log
 
 -- a log that is due for removal is removed, where there is one
-pub data RemovesLog (service : Service) (id : List ℕ) (due done : Bool) (gained : List Deed) : Type 0 where
-  kept : due ≡ false → done ≡ true → gained ≡ [] → RemovesLog service id due done gained
-  removed : due ≡ true → done ≡ true → gained ≡ LogRemoved service id (Ok tt) ∷ [] → RemovesLog service id due done gained
-  unremoved : (fault : DeedFault) → due ≡ true → done ≡ false → gained ≡ LogRemoved service id (Err fault) ∷ []
-      → RemovesLog service id due done gained
+pub data RemovesLog (service : Service) (id : List ℕ) (due : Bool) (telling : Result (Unit {0}) Untold) (gained : List Deed) : Type 0 where
+  kept : due ≡ false → telling ≡ Ok tt → gained ≡ [] → RemovesLog service id due telling gained
+  removed : due ≡ true → telling ≡ Ok tt → gained ≡ LogRemoved service id (Ok tt) ∷ [] → RemovesLog service id due telling gained
+  unremoved : (fault : DeedFault) → due ≡ true → telling ≡ Err Failed → gained ≡ LogRemoved service id (Err fault) ∷ []
+      → RemovesLog service id due telling gained
 
 -- ---- both
 
 -- recipients are marked; once all of them are, the log is removed
-pub data FinishesAt (task : Task) (log : Option (List ℕ)) (places : List ℕ) (done : Bool) (gained : List Deed) : Type 0 where
-  unmarked : done ≡ false → StopsAtPlace task.notice places gained → FinishesAt task log places done gained
+pub data FinishesAt (task : Task) (log : Option (List ℕ)) (places : List ℕ) (telling : Result (Unit {0}) Untold)
+    (gained : List Deed) : Type 0 where
+  unmarked : telling ≡ Err Failed → StopsAtPlace task.notice places gained → FinishesAt task log places telling gained
   marked : (marks removal : List Deed) → gained ≡ marks ++ removal → AreMarked task.notice places marks
-      → RemovesLog task.terms.service task.notice.queue_id (is_removal_due task.request log) done removal
-      → FinishesAt task log places done gained
+      → RemovesLog task.terms.service task.notice.queue_id (is_removal_due task.request log) telling removal
+      → FinishesAt task log places telling gained

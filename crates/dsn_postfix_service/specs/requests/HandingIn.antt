@@ -6,8 +6,9 @@ use Rattle.dsn_report.specs.Outbox.{mail_data}
 use Rattle.dsn_postfix_service.specs.hand_in.HandIn.{is_refused_for_good}
 use Rattle.dsn_postfix_service.specs.requests.Deed.{Deed, HandedIn}
 use Rattle.dsn_postfix_service.specs.declared.hand_in.hand_in_fault.HandInFault.{HandInFault}
-use Rattle.dsn_postfix_service.specs.declared.requests.not_accepted.NotAccepted.{NotAccepted}
-use Rattle.dsn_postfix_service.specs.declared.requests.not_accepted.NotAccepted.TheVariants.{Refused, RefusedForGood, NoMemory}
+use Rattle.dsn_postfix_service.specs.declared.requests.pass_reason.PassReason.TheVariants.{Refused}
+use Rattle.dsn_postfix_service.specs.declared.requests.untold.Untold.{Untold}
+use Rattle.dsn_postfix_service.specs.declared.requests.untold.Untold.TheVariants.{Failed, NoMemory, PassedOn}
 
 -- a letter is handed in as its notice's mail data, for its return path
 abbrev pub hand_in_of : List ℕ → Letter → Result (List ℕ) HandInFault → Deed
@@ -30,18 +31,18 @@ is_first_after (letter ∷ letters) = false
 
 -- What the mail server refuses for good it refuses whenever it is asked. Only where that is a
 -- request's first letter another service can tell all of it: once a letter was accepted, its sender would be told again.
-abbrev pub refusal_of : Bool → HandInFault → NotAccepted
-refusal_of first fault = if first && is_refused_for_good fault then RefusedForGood else Refused
+abbrev pub refusal_of : Bool → HandInFault → Untold
+refusal_of first fault = if first && is_refused_for_good fault then PassedOn Refused else Failed
 
 -- a letter, the first of its request or not, wasn't accepted: it was handed in all the same, unless the memory for its text
 -- was refused
-pub data IsNotAccepted (host : List ℕ) (first : Bool) (letter : Letter) (why : NotAccepted) (gained : List Deed) : Type 0 where
+pub data IsNotAccepted (host : List ℕ) (first : Bool) (letter : Letter) (why : Untold) (gained : List Deed) : Type 0 where
   refused : (fault : HandInFault) → why ≡ refusal_of first fault → gained ≡ hand_in_of host letter (Err fault) ∷ []
       → IsNotAccepted host first letter why gained
   no_memory : why ≡ NoMemory → gained ≡ [] → IsNotAccepted host first letter why gained
 
 -- those before it were, and nothing was done after it
-pub record StopsAtLetter (host : List ℕ) (letters : List Letter) (why : NotAccepted) (gained : List Deed) : Type 0 where
+pub record StopsAtLetter (host : List ℕ) (letters : List Letter) (why : Untold) (gained : List Deed) : Type 0 where
   pub before : List Letter
   pub stopped : Letter
   pub after : List Letter
@@ -53,11 +54,11 @@ pub record StopsAtLetter (host : List ℕ) (letters : List Letter) (why : NotAcc
   pub not_accepted : IsNotAccepted host (is_first_after before) stopped why last
 
 -- one was accepted, or not
-abbrev pub HandsInOne : List ℕ → Bool → Letter → Result (Unit {0}) NotAccepted → List Deed → Type 0
+abbrev pub HandsInOne : List ℕ → Bool → Letter → Result (Unit {0}) Untold → List Deed → Type 0
 HandsInOne host first letter (Ok done) gained = AreAccepted host (letter ∷ []) gained
 HandsInOne host first letter (Err why) gained = IsNotAccepted host first letter why gained
 
 -- all were accepted, or not
-abbrev pub HandsInAll : List ℕ → List Letter → Result (Unit {0}) NotAccepted → List Deed → Type 0
+abbrev pub HandsInAll : List ℕ → List Letter → Result (Unit {0}) Untold → List Deed → Type 0
 HandsInAll host letters (Ok done) gained = AreAccepted host letters gained
 HandsInAll host letters (Err why) gained = StopsAtLetter host letters why gained

@@ -8,6 +8,8 @@ use Rattle.dsn_text.specs.declared.service.Service.TheVariants.{Bounce, Defer, T
 use Rattle.dsn_postfix.specs.NoticePlan.{notices_of}
 use Rattle.dsn_postfix.specs.PlannedNotice.{NoticeFacts}
 use Rattle.dsn_postfix.specs.declared.cant_say.CantSay.{CantSay}
+use Rattle.dsn_postfix.specs.declared.plan_fault.PlanFault.{PlanFault}
+use Rattle.dsn_postfix.specs.declared.plan_fault.PlanFault.TheVariants as plan
 use Rattle.dsn_postfix.specs.declared.postfix_request.NoticeRequest.{NoticeRequest}
 use Rattle.dsn_postfix.specs.declared.postfix_request.PostfixRequest.{PostfixRequest}
 use Rattle.dsn_postfix.specs.declared.postfix_request.PostfixRequest.TheVariants.{Append, Flush, Warn, Verp, One, Trace}
@@ -25,9 +27,9 @@ use Rattle.dsn_postfix_service.specs.letters.ReportedMessage.{MessageSaid}
 use Rattle.dsn_postfix_service.specs.requests.MailFound.{MailRead, tells_of_log}
 use Rattle.dsn_postfix_service.specs.requests.RequestStatus.{has_flag}
 use Rattle.dsn_postfix_service.specs.requests.Task.{Task}
-use Rattle.dsn_postfix_service.specs.declared.requests.no_letters.NoLetters.{NoLetters}
-use Rattle.dsn_postfix_service.specs.declared.requests.no_letters.NoLetters.TheVariants.{NoMemory, Unsayable}
-use Rattle.dsn_postfix_service.specs.declared.requests.pass_reason.PassReason.TheVariants.{NoLetter}
+use Rattle.dsn_postfix_service.specs.declared.requests.pass_reason.PassReason.TheVariants.{NoLetter, NoPlan}
+use Rattle.dsn_postfix_service.specs.declared.requests.untold.Untold.{Untold}
+use Rattle.dsn_postfix_service.specs.declared.requests.untold.Untold.TheVariants.{Failed, NoMemory, PassedOn}
 
 -- ---- what notices say of the message
 
@@ -96,14 +98,19 @@ pub record CantBeSaid (task : Task) (found : MailRead) : Type 0 where
   pub unsaid : IsUnsaid (message_said task records)
       (notices_of task.terms.settings.double_bounce task.terms.service task.request (recipients_of records) found.log)
 
--- what a notice that is no letter comes to
-abbrev pub reason_of : LetterFault → NoLetters
-reason_of fault.NoMemory = NoMemory
-reason_of why = Unsayable (NoLetter why)
+-- why a sender isn't told after a fault of the plan, or of a letter
+abbrev pub of_plan : PlanFault → Untold
+of_plan plan.NoMemory = NoMemory
+of_plan (plan.Unsaid why) = PassedOn (NoPlan why)
+
+abbrev pub of_letter : LetterFault → Untold
+of_letter fault.NoMemory = NoMemory
+of_letter why = PassedOn (NoLetter why)
 
 -- why there are no letters: they can't be said, or memory was refused
-abbrev pub IsReason : Type 0 → NoLetters → Type 0
-IsReason Unsaid (Unsayable why) = Unsaid
+abbrev pub IsReason : Type 0 → Untold → Type 0
+IsReason Unsaid (PassedOn why) = Unsaid
+IsReason Unsaid Failed = ⊥
 IsReason Unsaid NoMemory = Unit {0}
 
 -- ---- who is done after them

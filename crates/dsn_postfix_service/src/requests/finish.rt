@@ -2,11 +2,12 @@
 //! Implements docs/FORMATS.md, "A connection".
 ghost use Rattle.std.specs.Prelude.{◌≡◌};
 ghost use Rattle.std.specs.Option.{option_map};
-ghost use Rattle.dsn_postfix_service.specs.requests.Finishing.{FinishesAt, MarksAll, MarksOne, RemovesLog, is_removal_due, removes_log};
+ghost use Rattle.dsn_postfix_service.specs.requests.Finishing.{FinishesAt, MarksAll, RemovesLog, is_removal_due, removes_log};
 ghost use Rattle.dsn_postfix_service.specs.requests.Gains.{Gains};
 
 use crate::requests::mail_system::MailSystem;
 use crate::requests::notice_task::NoticeTask;
+use crate::requests::untold::Untold;
 use dsn_postfix::{NoticeRequest, PostfixRequest};
 use dsn_text::{QueueId, Service};
 
@@ -28,60 +29,48 @@ fn is_removal_due(request: &PostfixRequest<'_>, log: Option<&[u8]>) -> bool
     removes_log(request) && log.is_some()
 }
 
-/// Marks the recipient at a place as done, and says whether it is.
-fn mark<M: MailSystem>(notice: &NoticeRequest<'_>, place: u64, system: &mut M) -> bool
-    ensures { Gains M.deeds system.old system.new (MarksOne notice.now place result) }
-{
-    match system.mark_done(&notice.queue_name, notice.queue_id, place) {
-        Ok(()) => true,
-        Err(_) => false,
-    }
-}
-
-/// Marks the recipients at these places as done, up to the first that can't be, and says whether
-/// all are.
-fn mark_all<M: MailSystem>(notice: &NoticeRequest<'_>, places: &[u64], system: &mut M) -> bool
+/// Marks the recipients at these places as done, up to the first that can't be.
+fn mark_all<M: MailSystem>(
+    notice: &NoticeRequest<'_>,
+    places: &[u64],
+    system: &mut M,
+) -> Result<(), Untold>
     ensures { Gains M.deeds system.old system.new (MarksAll notice.now places.now result) }
 {
     for place in places {
-        if !mark(notice, *place, system) {
-            return false;
-        }
+        system.mark_done(&notice.queue_name, notice.queue_id, *place)?;
     }
-    true
+    Ok(())
 }
 
-/// Removes a log that is due for removal, and says whether nothing is left to be removed.
-fn remove_if_due<M: MailSystem>(service: Service, id: QueueId, due: bool, system: &mut M) -> bool
+/// Removes a log that is due for removal.
+fn remove_if_due<M: MailSystem>(
+    service: Service,
+    id: QueueId,
+    due: bool,
+    system: &mut M,
+) -> Result<(), Untold>
     ensures { Gains M.deeds system.old system.new (RemovesLog service id due result) }
 {
-    if !due {
-        return true;
+    if due {
+        system.remove_log(service, id)?;
     }
-    match system.remove_log(service, id) {
-        Ok(()) => true,
-        Err(_) => false,
-    }
+    Ok(())
 }
 
 /// Marks the recipients at these places as done, and once all are, removes the request's log if it
-/// is to be removed. Says whether all of that was done.
+/// is to be removed.
 pub(super) fn finish<M: MailSystem>(
     task: &NoticeTask<'_>,
     log: Option<&[u8]>,
     places: &[u64],
     system: &mut M,
-) -> bool
+) -> Result<(), Untold>
     ensures { Gains M.deeds system.old system.new
         (FinishesAt task.now (option_map (λ log. log.now) log.entry) places.now result) }
 {
-    if !mark_all(task.notice, places, system) {
-        return false;
-    }
-    remove_if_due(
-        task.service(),
-        task.notice.queue_id,
-        is_removal_due(task.request, log),
-        system,
-    )
+    let notice: &NoticeRequest<'_> = task.notice;
+    mark_all(notice, places, system)?;
+    let due = is_removal_due(task.request, log);
+    remove_if_due(task.service(), notice.queue_id, due, system)
 }

@@ -4,10 +4,10 @@ ghost use Rattle.dsn_postfix_service.specs.requests.MailFound.{mail_read_in};
 ghost use Rattle.dsn_postfix_service.specs.requests.RequestLetters.{AreLettersAsked, CantBeSaid, IsReason, places_done};
 
 use crate::requests::mail_found::MailFound;
-use crate::requests::no_letters::NoLetters;
 use crate::requests::notice_task::NoticeTask;
 use crate::requests::places_done::places_done;
 use crate::requests::request_letters::letters_asked;
+use crate::requests::untold::Untold;
 use dsn_outcome::Letter;
 use std::alloc::Global;
 
@@ -25,18 +25,13 @@ pub(super) fn make_letters(
     alloc: Global,
     task: &NoticeTask<'_>,
     found: &MailFound,
-) -> Result<LettersMade, NoLetters>
+) -> Result<LettersMade, Untold>
     ensures made { IfOk result (λ made. AreLettersAsked task.now (mail_read_in found.now) made.letters.items) }
     ensures places { IfOk result (λ made. made.places.items
         ≡ places_done task.now (mail_read_in found.now).log) }
     ensures none { IfErr result (IsReason (CantBeSaid task.now (mail_read_in found.now))) }
 {
-    let letters = match letters_asked(alloc, task, found) {
-        Ok(letters) => letters,
-        Err(why) => return Err(why),
-    };
-    match places_done(alloc, task, found.log()) {
-        Ok(places) => Ok(LettersMade { letters, places }),
-        Err(_) => Err(NoLetters::NoMemory),
-    }
+    let letters = letters_asked(alloc, task, found)?;
+    let places = places_done(alloc, task, found.log())?;
+    Ok(LettersMade { letters, places })
 }

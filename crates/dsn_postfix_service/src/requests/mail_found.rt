@@ -64,11 +64,7 @@ pub(super) fn read_mail<M: MailSystem>(
     ensures { Gains M.deeds system.old system.new (Reads task.now result) }
 {
     let notice: &NoticeRequest<'_> = task.notice;
-    match read_log(alloc, task, system) {
-        Ok(log) => match system.read_message(alloc, &notice.queue_name, notice.queue_id) {
-            Ok(file) => Ok(MailFound { log, file }),
-            Err(fault) => Err(fault),
-        },
-        Err(fault) => Err(fault),
-    }
+    let log = read_log(alloc, task, system)?;
+    let file = system.read_message(alloc, &notice.queue_name, notice.queue_id)?;
+    Ok(MailFound { log, file })
 }

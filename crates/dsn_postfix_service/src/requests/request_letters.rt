@@ -11,19 +11,18 @@ ghost use Rattle.dsn_postfix.specs.files.QueueRecord.{PlacedBytes};
 ghost use Rattle.dsn_postfix.specs.files.QueueWalk.{first_place, steps_left};
 ghost use Rattle.dsn_postfix_service.specs.letters.ReportedMessage.{message_said_in};
 ghost use Rattle.dsn_postfix_service.specs.requests.MailFound.{mail_read_in};
-ghost use Rattle.dsn_postfix_service.specs.requests.RequestLetters.{AreLettersAsked, AreLettersOf, CantBeSaid, GainsLetter, IsReason, has_fault, reason_of};
+ghost use Rattle.dsn_postfix_service.specs.requests.RequestLetters.{AreLettersAsked, AreLettersOf, CantBeSaid, GainsLetter, IsReason, has_fault};
 
-use crate::letters::{LetterFault, ReportedMessage, letter_of_notice};
+use crate::letters::{ReportedMessage, letter_of_notice};
 use crate::requests::mail_found::MailFound;
-use crate::requests::no_letters::NoLetters;
 use crate::requests::notice_task::NoticeTask;
-use crate::requests::pass_reason::PassReason;
 use crate::requests::request_terms::RequestTerms;
 use crate::requests::service_settings::ServiceSettings;
+use crate::requests::untold::Untold;
 use dsn_outcome::{LONGEST_HEADER, Letter};
 use dsn_postfix::{
-    LONGEST_FIELD_NAME, MessageFacts, NoticeRequest, PlanFault, PlannedNotice, QueueReader,
-    QueuedRecipient, fronts_show_headers, plan_notices, queue_files_have_one_list, text_of_message,
+    LONGEST_FIELD_NAME, MessageFacts, NoticeRequest, PlannedNotice, QueueReader, QueuedRecipient,
+    fronts_show_headers, plan_notices, queue_files_have_one_list, text_of_message,
 };
 use dsn_text::Stamp;
 use std::alloc::{AllocError, Global};
@@ -85,21 +84,6 @@ fn sender_said<'a>(facts: &MessageFacts<'a>, asked: &'a [u8]) -> &'a [u8]
     }
 }
 
-/// What a notice that is no letter comes to.
-fn reason_of(fault: LetterFault) -> NoLetters
-    ensures { result ≡ reason_of fault }
-{
-    match fault {
-        LetterFault::NoMemory => NoLetters::NoMemory,
-        LetterFault::Count
-        | LetterFault::Arrival
-        | LetterFault::Quotes
-        | LetterFault::Draft(_)
-        | LetterFault::RemoteType
-        | LetterFault::Outcome(_) => NoLetters::Unsayable(PassReason::NoLetter(fault)),
-    }
-}
-
 /// Adds the letter of a notice.
 fn push_letter(
     alloc: Global,
@@ -108,19 +92,15 @@ fn push_letter(
     notice: &PlannedNotice<'_>,
     moment: Stamp,
     serial: u64,
-) -> Result<(), NoLetters>
+) -> Result<(), Untold>
     ensures gained { OnOk result (GainsLetter (message_said_in message.now) moment serial
         (notice_facts_in notice.now) letters.old.items letters.new.items) }
     ensures none { IfErr result (IsReason
         (has_fault (message_said_in message.now) (notice_facts_in notice.now) ≡ true)) }
 {
-    match letter_of_notice(alloc, message, notice, moment, serial) {
-        Ok(letter) => match letters.push(letter) {
-            Ok(()) => Ok(()),
-            Err(_) => Err(NoLetters::NoMemory),
-        },
-        Err(fault) => Err(reason_of(fault)),
-    }
+    let letter = letter_of_notice(alloc, message, notice, moment, serial)?;
+    letters.push(letter)?;
+    Ok(())
 }
 
 /// The letters of notices, one for each, in their order.
@@ -130,7 +110,7 @@ fn letters_of(
     notices: &[PlannedNotice<'_>],
     moment: Stamp,
     first_serial: u64,
-) -> Result<Vec<Letter>, NoLetters>
+) -> Result<Vec<Letter>, Untold>
     ensures letters { IfOk result (λ letters. AreLettersOf (message_said_in message.now) moment
         first_serial (map notice_facts_in notices.now) letters.items) }
     ensures none { IfErr result (IsReason
@@ -141,11 +121,7 @@ fn letters_of(
     let mut serial = first_serial;
     let mut rest = notices;
     while let [notice, after @ ..] = rest {
-        match push_letter(alloc, &mut letters, message, notice, moment, serial) {
-            Ok(()) => {}
-            Err(why) => return Err(why),
-        }
-        // No two notices of one request have the same Message-ID.
+        push_letter(alloc, &mut letters, message, notice, moment, serial)?;
         serial = serial.wrapping_add(1);
         rest = after;
     }
@@ -157,7 +133,7 @@ pub(super) fn letters_asked(
     alloc: Global,
     task: &NoticeTask<'_>,
     found: &MailFound,
-) -> Result<Vec<Letter>, NoLetters>
+) -> Result<Vec<Letter>, Untold>
     ensures letters { IfOk result (λ letters. AreLettersAsked task.now (mail_read_in found.now) letters.items) }
     ensures none { IfErr result (IsReason (CantBeSaid task.now (mail_read_in found.now))) }
 {
@@ -166,12 +142,8 @@ pub(super) fn letters_asked(
     let notice: &NoticeRequest<'_> = task.notice;
     queue_files_have_one_list();
     fronts_show_headers();
-    let Ok(queued) = queued_recipients(alloc, &found.file) else {
-        return Err(NoLetters::NoMemory);
-    };
-    let Ok(text) = text_of_message(alloc, &found.file, FRONT_OF_TEXT) else {
-        return Err(NoLetters::NoMemory);
-    };
+    let queued = queued_recipients(alloc, &found.file)?;
+    let text = text_of_message(alloc, &found.file, FRONT_OF_TEXT)?;
     let facts = facts_said(&found.file);
     let message = ReportedMessage {
         queue_id: notice.queue_id,
@@ -183,16 +155,13 @@ pub(super) fn letters_asked(
         size_limit: settings.size_limit,
     };
     let double_bounce = settings.double_bounce;
-    match plan_notices(
+    let notices = plan_notices(
         alloc,
         double_bounce,
         terms.service,
         task.request,
         &queued,
         found.log(),
-    ) {
-        Ok(notices) => letters_of(alloc, &message, &notices, terms.moment, terms.first_serial),
-        Err(PlanFault::NoMemory) => Err(NoLetters::NoMemory),
-        Err(PlanFault::Unsaid(why)) => Err(NoLetters::Unsayable(PassReason::NoPlan(why))),
-    }
+    )?;
+    letters_of(alloc, &message, &notices, terms.moment, terms.first_serial)
 }

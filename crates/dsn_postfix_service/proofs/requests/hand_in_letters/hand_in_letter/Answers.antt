@@ -2,10 +2,10 @@ use Rattle.std.proofs.Common.{◌∙◌}
 use Rattle.dsn_postfix_service.proofs.DeedLemmas.{one_accepted, one_refused}
 use Rattle.dsn_postfix_service.proofs.requests.hand_in_letters.hand_in_letter.Goals as goal
 
-pub returns-in-Ok-hand_in : goal.returns-in-Ok-hand_in
-returns-in-Ok-hand_in g c =
-    one_accepted g.M.MailSystem.deeds _ _ c.args.site.now c.args.letter.now _ _ _ c.return_path.ensures (c.deref.ensures.value ∙ c.in-Ok.ensures) c.in-Ok-hand_in.ensures
+pub returns-in-Ok : goal.returns-in-Ok
+returns-in-Ok g c =
+    one_accepted g.M.MailSystem.deeds _ _ c.args.site.now c.args.letter.now _ _ _ c.return_path.ensures (c.deref.ensures.value ∙ c.in_ok-message.ensures) c.in-Ok.ensures
 
 pub returns : goal.returns
 returns g c =
-    one_refused g.M.MailSystem.deeds _ _ c.args.site.now c.args.is_first c.args.letter.now _ _ c.in-Err.fault c.refusal.result c.return_path.ensures (c.deref.ensures.value ∙ c.in-Ok.ensures) c.refusal.ensures c.in-Err.ensures
+    one_refused g.M.MailSystem.deeds _ _ c.args.site.now c.args.is_first c.args.letter.now _ _ c.in-Err.fault c.refusal.result c.return_path.ensures (c.deref.ensures.value ∙ c.in_ok-message.ensures) c.refusal.ensures c.in-Err.ensures

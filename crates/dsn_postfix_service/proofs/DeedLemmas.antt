@@ -43,13 +43,6 @@ with_both : (done : Option (List Deed)) (one two : List Deed) → with_deeds (wi
 with_both None one two = refl
 with_both (Some done) one two = ap (λ (deeds : List Deed). Some deeds) (append_assoc done one two)
 
-with_none : (done : Option (List Deed)) → done ≡ with_deeds done []
-with_none None = refl
-with_none (Some done) = ap (λ (deeds : List Deed). Some deeds) (sym (append-nil done))
-
-pub gains_none : {S : Type 0} → (deeds : S → Option (List Deed)) (old : S) (P : Are) → P [] → Gains deeds old old P
-gains_none deeds old P are = record { gained = []; after = with_none (deeds old); are = are }
-
 pub gains_one : {S : Type 0} → (deeds : S → Option (List Deed)) (old new : S) (deed : Deed) (P : Are) → deeds new ≡ with_deeds (deeds old) (deed ∷ []) → P (deed ∷ []) → Gains deeds old new P
 gains_one deeds old new deed P after are = record { gained = deed ∷ []; after = after; are = are }
 
@@ -83,9 +76,6 @@ pub left_at : {X : Type 0} → (xs : List X) (i : ℕ) (other : X) → i < lengt
 left_at xs i other within =
     let next : suc i ≡ i + 1 = omega arith in
     drop-cons xs i other within ∙ ap (λ (n : ℕ). get_or xs i other ∷ drop n xs) next
-
-pub none_left : {X : Type 0} → (xs : List X) (i : ℕ) → length xs ≤ i → drop i xs ≡ []
-none_left xs i all = drop_all i xs all
 
 pub empty_map : {X Y : Type 0} → (f : X → Y) (xs : List X) → length xs ≡ 0 → map f xs ≡ []
 empty_map f [] none = refl
@@ -154,9 +144,6 @@ past_one xs front rest after x split first =
 pub at_one : {X : Type 0} → (xs front rest after : List X) (x : X) → xs ≡ front ++ rest → rest ≡ x ∷ after → xs ≡ front ++ x ∷ after
 at_one xs front rest after x split first = split ∙ ap (λ (left : List _). front ++ left) first
 
-pub at_end : {X : Type 0} → (xs front rest : List X) → xs ≡ front ++ rest → rest ≡ [] → xs ≡ front
-at_end xs front rest split none = split ∙ ap (λ (left : List _). front ++ left) none ∙ append-nil front
-
 -- the letters so far were accepted, and the next is the first or not
 pub record AcceptedSoFar {S : Type 0} (deeds : S → Option (List Deed)) (old new : S) (host : List ℕ) (letters rest : List Letter) (first : Bool) : Type 0 where
   pub front : List Letter
@@ -179,14 +166,6 @@ accepted_one_more deeds old between new host letters rest after first letter so_
   after = after_both deeds old between new so_far.taken one.gained so_far.after one.after;
   accepted = accepted_more host so_far.front (letter ∷ []) so_far.taken one.gained so_far.accepted one.are;
   first_is = not_first so_far.front letter;
-}
-
-pub all_accepted : {S : Type 0} → (deeds : S → Option (List Deed)) (old new : S) (host : List ℕ) (letters rest : List Letter) (first : Bool)
-    → AcceptedSoFar deeds old new host letters rest first → rest ≡ [] → Gains deeds old new (AreAccepted host letters)
-all_accepted deeds old new host letters rest first so_far none = record {
-  gained = so_far.taken;
-  after = so_far.after;
-  are = subst (λ (xs : List Letter). AreAccepted host xs so_far.taken) (sym (at_end letters so_far.front rest so_far.split none)) so_far.accepted;
 }
 
 pub stopped_at : {S : Type 0} → (deeds : S → Option (List Deed)) (old between new : S) (host : List ℕ) (letters rest after : List Letter) (first : Bool) (letter : Letter) (why : Untold)
@@ -225,14 +204,6 @@ marked_one_more deeds old between new notice places rest after place so_far firs
   split = past_one places so_far.front rest after place so_far.split first;
   after = after_both deeds old between new (map (marking notice) so_far.front) (marking notice place ∷ []) so_far.after (one.after ∙ ap (λ (more : List Deed). with_deeds (deeds between) more) one.are)
       ∙ ap (λ (all : List Deed). with_deeds (deeds old) all) (map_append (marking notice) so_far.front (place ∷ []));
-}
-
-pub all_marked : {S : Type 0} → (deeds : S → Option (List Deed)) (old new : S) (notice : NoticeRequest) (places rest : List ℕ)
-    → MarkedSoFar deeds old new notice places rest → rest ≡ [] → Gains deeds old new (AreMarked notice places)
-all_marked deeds old new notice places rest so_far none = record {
-  gained = map (marking notice) so_far.front;
-  after = so_far.after;
-  are = ap (map (marking notice)) (sym (at_end places so_far.front rest so_far.split none));
 }
 
 pub stopped_marking : {S : Type 0} → (deeds : S → Option (List Deed)) (old between new : S) (notice : NoticeRequest) (places rest after : List ℕ) (place : ℕ)

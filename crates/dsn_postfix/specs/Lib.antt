@@ -10,6 +10,7 @@ pub mod PostfixRequest
 pub mod QuotedAddress
 pub mod ReceivedRequest
 pub mod RecipientSet
+pub mod RequestFlags
 pub mod RequestReading
 pub mod VerpPath
 pub mod Wanted

@@ -1,6 +1,6 @@
 -- The notices that a request has of a log: each outcome of a recipient whom the request's NOTIFY rules want is in one
 -- of them, once, in the log's order.
-use Rattle.std.specs.Prelude.{◌≡◌, ◌==◌, ◌<◌, ◌≤◌, ◌%◌, ◌&&◌, ◌||◌, not, nat_lt, Bool, true, false, ℕ, zero, suc, List, [], ◌∷◌, take, drop, length, map, codes, Option, Some, None, Result, Ok, Err, if◌then◌else◌}
+use Rattle.std.specs.Prelude.{◌≡◌, ◌==◌, ◌<◌, ◌≤◌, ◌&&◌, ◌||◌, not, nat_lt, Bool, true, false, ℕ, zero, suc, List, [], ◌∷◌, take, drop, length, map, codes, Option, Some, None, Result, Ok, Err, if◌then◌else◌}
 use Rattle.std.specs.List.{AllByRecursion, filter, flat_map, list_all, list_any}
 use Rattle.std.specs.Str.{bytes_eq}
 use Rattle.dsn_text.specs.declared.service.Service.{Service}
@@ -10,6 +10,7 @@ use Rattle.dsn_postfix.specs.files.LogRecord.{LoggedFields}
 use Rattle.dsn_postfix.specs.LoggedAppend.{logged_of, unlogged_of}
 use Rattle.dsn_postfix.specs.PlannedNotice.{NoticeFacts}
 use Rattle.dsn_postfix.specs.files.QueueRecipients.{RecipientFacts}
+use Rattle.dsn_postfix.specs.RequestFlags.{needs_smtputf8}
 use Rattle.dsn_postfix.specs.Wanted.{is_no_sender, wants}
 use Rattle.dsn_postfix.specs.declared.cant_say.CantSay.{CantSay}
 use Rattle.dsn_postfix.specs.declared.cant_say.CantSay.TheVariants.{NoLog, DamagedPart, NeedsSmtputf8, SendOptions, Unlogged, UnknownAction}
@@ -216,10 +217,10 @@ notices_with service request notice queued (Ok records) =
 -- which send options no notice keeps. 1: the message came with SMTPUTF8 (RFC 6531). 16: its header has
 -- `TLS-Required: no`, and 32: it came with REQUIRETLS (RFC 8689), which the notice would have to say too. Of greater
 -- ones nothing is known. 2, 4 and 8 only say where the message has UTF-8, as messages have that came without SMTPUTF8
-abbrev pub option_lost : ℕ → Option CantSay
-option_lost options =
-    if options % 2 == 1 then Some NeedsSmtputf8
-    else (if nat_lt options 16 then None else Some (SendOptions options))
+abbrev pub option_lost : NoticeRequest → Option CantSay
+option_lost notice =
+    if needs_smtputf8 notice then Some NeedsSmtputf8
+    else (if nat_lt notice.send_options 16 then None else Some (SendOptions notice.send_options))
 
 abbrev pub notices_unless : Option CantSay → Result (List NoticeFacts) CantSay → Result (List NoticeFacts) CantSay
 notices_unless None notices = notices
@@ -229,7 +230,7 @@ abbrev pub notices_asked : List ℕ → Service → PostfixRequest → List Reci
 notices_asked double_bounce service request queued log None = Ok []
 notices_asked double_bounce service request queued log (Some notice) =
     if is_no_sender double_bounce notice.sender then Ok []
-    else notices_unless (option_lost notice.send_options) (notices_with service request notice queued (records_asked service request log))
+    else notices_unless (option_lost notice) (notices_with service request notice queued (records_asked service request log))
 
 -- what a request for notices says, if it is one
 abbrev pub notice_asked : PostfixRequest → Option NoticeRequest

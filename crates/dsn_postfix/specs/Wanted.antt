@@ -1,12 +1,13 @@
 -- Whom a request's notices tell of, by what the sender wants to be told (NOTIFY, RFC 3461 section 4.1).
-use Rattle.std.specs.Prelude.{◌/◌, ◌%◌, ◌||◌, Bool, true, false, ℕ, List, [], ◌∷◌, ◌==◌}
+use Rattle.std.specs.Prelude.{◌||◌, Bool, true, false, ℕ, List, [], ◌∷◌, ◌==◌}
 use Rattle.std.specs.Str.{str_eq_ignore_ascii_case}
+use Rattle.dsn_postfix.specs.RequestFlags.{has_flag}
 use Rattle.dsn_postfix.specs.declared.postfix_request.PostfixRequest.{PostfixRequest}
 use Rattle.dsn_postfix.specs.declared.postfix_request.PostfixRequest.TheVariants.{Append, Flush, Warn, Verp, One, Trace}
 
 -- the sender asked to be told of this outcome (4 failure, 8 delay), or said nothing of NOTIFY
 abbrev pub wants_flag : ℕ → ℕ → Bool
-wants_flag flag flags = flags == 0 || (flags / flag) % 2 == 1
+wants_flag flag flags = flags == 0 || has_flag flag flags
 
 -- a notice of failure tells those who want that, a warning those who want to hear of delay. A notice of
 -- deliveries tells all that its log has

@@ -24,19 +24,15 @@ use std::alloc::{AllocError, Global};
 /// The least of the send options that no notice keeps, besides SMTPUTF8: `TLS-Required: no`.
 const TLS_REQUIRED: u32 = 16;
 
-/// Why no notice can keep these send options, if none can.
-fn option_lost(options: u32) -> Option<CantSay>
-    ensures { result ≡ option_lost options }
+/// Why no notice can keep the send options of a message, if none can.
+fn option_lost(notice: &NoticeRequest<'_>) -> Option<CantSay>
+    ensures { result ≡ option_lost notice.now }
 {
-    // Then bounce(8) makes a notice of another type (`message/global-delivery-status`). UTF-8 in
-    // the header alone (2) is no reason.
-    if options % 2 == 1 {
+    if notice.needs_smtputf8() {
         return Some(CantSay::NeedsSmtputf8);
     }
-    // 16 (`TLS-Required: no`) and 32 (REQUIRETLS) would have to go with the notice; of others
-    // nothing is known.
-    if options >= TLS_REQUIRED {
-        return Some(CantSay::SendOptions(options));
+    if notice.send_options >= TLS_REQUIRED {
+        return Some(CantSay::SendOptions(notice.send_options));
     }
     None
 }
@@ -250,7 +246,7 @@ pub fn plan_notices<'a>(
     if is_no_sender(double_bounce, notice.sender.bytes()) {
         return Ok(Vec::new(alloc));
     }
-    if let Some(reason) = option_lost(notice.send_options) {
+    if let Some(reason) = option_lost(notice) {
         return Err(PlanFault::Unsaid(reason));
     }
     let records = records_asked(alloc, service, request, log)?;

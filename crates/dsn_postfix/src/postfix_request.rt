@@ -1,5 +1,6 @@
 //! What Postfix's programs ask of its bounce service.
-//! Implements docs/FORMATS.md, "What Postfix's programs send".
+ghost use Rattle.std.specs.Prelude.{◌≡◌};
+ghost use Rattle.dsn_postfix.specs.RequestFlags.{asks_clean, flags_of, marks_recipients, needs_smtputf8};
 
 use crate::attribute_text::AttributeText;
 use crate::queue_name::QueueName;
@@ -21,6 +22,29 @@ pub enum PostfixRequest<'a> {
     One(NoticeRequest<'a>, ReportedRecipient<'a>, DeliveryReport<'a>),
     /// To make a notice of a log of deliveries, and remove the log.
     Trace(NoticeRequest<'a>),
+}
+
+impl<'a> PostfixRequest<'a> {
+    /// The flags of the request.
+    fn flags(&self) -> u32
+        ensures { result ≡ flags_of self.now }
+    {
+        match self {
+            PostfixRequest::Append(append) => append.flags,
+            PostfixRequest::Flush(notice)
+            | PostfixRequest::Warn(notice)
+            | PostfixRequest::Verp(notice, _)
+            | PostfixRequest::One(notice, _, _)
+            | PostfixRequest::Trace(notice) => notice.flags,
+        }
+    }
+
+    /// Whether the log is to be removed if the answer isn't 0 (CLEAN).
+    pub fn asks_clean(&self) -> bool
+        ensures { result ≡ asks_clean self.now }
+    {
+        self.flags() % 2 == 1
+    }
 }
 
 /// What an append says.
@@ -61,6 +85,22 @@ pub struct NoticeRequest<'a> {
     pub envelope_id: AttributeText<'a>,
     /// How much of the message the sender wants back: 1 the whole, 2 the header, 0 where that wasn't said.
     pub returns: u32,
+}
+
+impl<'a> NoticeRequest<'a> {
+    /// Whether the recipients of whom the notices tell are to be marked as done (DELRCPT).
+    pub fn marks_recipients(&self) -> bool
+        ensures { result ≡ marks_recipients self.now }
+    {
+        self.flags / 2 % 2 == 1
+    }
+
+    /// Whether the message was submitted with SMTPUTF8 (RFC 6531).
+    pub fn needs_smtputf8(&self) -> bool
+        ensures { result ≡ needs_smtputf8 self.now }
+    {
+        self.send_options % 2 == 1
+    }
 }
 
 /// A recipient, as a delivery agent names it.

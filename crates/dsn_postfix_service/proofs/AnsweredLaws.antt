@@ -6,6 +6,7 @@ use Rattle.dsn_text.specs.declared.service.Service.{Service}
 use Rattle.dsn_text.specs.declared.service.Service.TheVariants.{Bounce, Defer, Trace as TraceLog}
 use Rattle.dsn_postfix.specs.NoticePlan.{notice_asked}
 use Rattle.dsn_postfix.specs.PostfixRequest.{IsRequestIn}
+use Rattle.dsn_postfix.specs.RequestFlags.{asks_clean}
 use Rattle.dsn_postfix.specs.Wanted.{is_no_sender}
 use Rattle.dsn_postfix.specs.declared.postfix_request.AppendRequest.{AppendRequest}
 use Rattle.dsn_postfix.specs.declared.postfix_request.NoticeRequest.{NoticeRequest}
@@ -14,11 +15,11 @@ use Rattle.dsn_postfix.specs.declared.postfix_request.PostfixRequest.TheVariants
 use Rattle.dsn_postfix_service.specs.declared.requests.deed_fault.DeedFault.{DeedFault}
 use Rattle.dsn_postfix_service.specs.requests.AnsweredRequest.{FlushesBounceLog, IsAnswered, IsBounceLogTold, IsFlushedInTurn, bounce_flush, bounce_terms, first_flush, without_flags}
 use Rattle.dsn_postfix_service.specs.requests.AnsweredRequest as answered
-use Rattle.dsn_postfix_service.specs.requests.CarriedOut.{IsCarriedOut, flags_of, must_clean, queue_id_of}
+use Rattle.dsn_postfix_service.specs.requests.CarriedOut.{IsCarriedOut, must_clean, queue_id_of}
 use Rattle.dsn_postfix_service.specs.requests.Deed.{Answer, Appended, Deed, HandedIn, LogRead, LogReleased, LogRemoved, LogSought, MarkedDone, MessageRead, PassedOn}
 use Rattle.dsn_postfix_service.specs.requests.RequestLaws as law
 use Rattle.dsn_postfix_service.specs.requests.RequestLaws.{AreAllTold, HandsInInTurn, HandsInOfBounceLog, HandsInOnce, IsRemovedAfter, IsRemovedInTurn, IsTaskOf, IsTellingDone, IsToldFirst, StandsOrIsPassedOn, bounce_task, hand_ins}
-use Rattle.dsn_postfix_service.specs.requests.RequestStatus.{RequestAnswer, carried_out, has_flag, is_carried_out, not_carried_out}
+use Rattle.dsn_postfix_service.specs.requests.RequestStatus.{RequestAnswer, carried_out, is_carried_out, not_carried_out}
 use Rattle.dsn_postfix_service.specs.requests.Task.{Task, Terms}
 use Rattle.dsn_postfix_service.proofs.CarriedOutLaws.{and_false, answered_append_stands, false_is_true, first_or, handed_in_once, later, none_of_both, none_once, not_zero, nothing_after, past_block, removed_only_after, status_is, told_or_left}
 
@@ -160,7 +161,7 @@ removed_by_one task own_task bytes answer gained earlier own before after log id
 told_before : (task : Task) (before after : List Deed)
     → AreAllTold task before ⊎ ((must_clean task.request (Ok carried_out) ≡ true) × (after ≡ [])) → AreAllTold task before
 told_before task before after (inl told) = told
-told_before task before after (inr cleans) = absurd (false_is_true (sym (and_false (has_flag 1 (flags_of task.request))) ∙ cleans.0))
+told_before task before after (inr cleans) = absurd (false_is_true (sym (and_false (asks_clean task.request)) ∙ cleans.0))
 
 later_too : (task : Task) (answer : RequestAnswer) (before more after : List Deed) (log : Service) (id : List ℕ)
     → IsRemovedInTurn task (Ok carried_out) before more log id → IsRemovedInTurn task answer before after log id

@@ -6,6 +6,7 @@ use Rattle.dsn_text.specs.declared.no_memory.NoMemory.{NoMemory}
 use Rattle.dsn_text.specs.declared.service.Service.{Service}
 use Rattle.dsn_postfix.specs.NoticePlan.{notice_asked, notices_of}
 use Rattle.dsn_postfix.specs.PlannedNotice.{NoticeFacts}
+use Rattle.dsn_postfix.specs.RequestFlags.{asks_clean}
 use Rattle.dsn_postfix.specs.Wanted.{is_no_sender}
 use Rattle.dsn_postfix.specs.declared.cant_say.CantSay.{CantSay}
 use Rattle.dsn_postfix.specs.declared.postfix_request.AppendRequest.{AppendRequest}
@@ -18,13 +19,13 @@ use Rattle.dsn_postfix_service.specs.declared.requests.untold.Untold.{Untold}
 use Rattle.dsn_postfix_service.specs.declared.requests.untold.Untold.TheVariants.{Failed, NoMemory as UntoldNoMemory, PassedOn}
 use Rattle.dsn_postfix_service.specs.requests.AppendDeeds.{IsAppended, IsLogged, record_bytes}
 use Rattle.dsn_postfix_service.specs.requests.AppendDeeds as append
-use Rattle.dsn_postfix_service.specs.requests.CarriedOut.{Cleans, IsCarriedOut, IsDone, flags_of, must_clean, queue_id_of, task_of}
+use Rattle.dsn_postfix_service.specs.requests.CarriedOut.{Cleans, IsCarriedOut, IsDone, must_clean, queue_id_of, task_of}
 use Rattle.dsn_postfix_service.specs.requests.Deed.{Answer, Appended, Deed, HandedIn, LogRead, LogReleased, LogRemoved, LogSought, MarkedDone, MessageRead, PassedOn}
 use Rattle.dsn_postfix_service.specs.requests.MailFound.{readings}
 use Rattle.dsn_postfix_service.specs.requests.NoticeDeeds.{EndsTelling, IsNotified}
 use Rattle.dsn_postfix_service.specs.requests.RequestLaws.{AreAllTold, AreHandedIn, AreToldFirst, HandsInOnce, IsLeftToPostfix, IsRemovedAfter, IsTellingDone, StandsOrIsPassedOn, hand_ins}
 use Rattle.dsn_postfix_service.specs.requests.RequestLetters.{AreLettersOf, message_said}
-use Rattle.dsn_postfix_service.specs.requests.RequestStatus.{RequestAnswer, carried_out, has_flag, is_carried_out, not_carried_out, status_after, status_passed_on}
+use Rattle.dsn_postfix_service.specs.requests.RequestStatus.{RequestAnswer, carried_out, is_carried_out, not_carried_out, status_after, status_passed_on}
 use Rattle.dsn_postfix_service.specs.requests.Task.{Task, Terms}
 use Rattle.dsn_postfix_service.proofs.RequestLawLemmas.{Block, RemovesNone, hand_ins-append, is_removal}
 use Rattle.dsn_postfix_service.proofs.TellingParts.{IsRemovalPart, LeftOver, NotifiedParts, ToldSo, notified_parts, nothing_removed, removed_told}
@@ -332,7 +333,7 @@ and_false false = refl
 pub nothing_to_clean : (service : Service) (request : PostfixRequest) (answer : RequestAnswer) (cleaned : List Deed) → answer ≡ Ok 0 → Cleans service request (must_clean request answer) cleaned → cleaned ≡ []
 nothing_to_clean service request answer cleaned zero cleans =
     subst (λ (due : Bool). Cleans service request due cleaned)
-    (ap (λ (a : RequestAnswer). has_flag 1 (flags_of request) && not (is_carried_out a)) zero ∙ and_false (has_flag 1 (flags_of request))) cleans
+    (ap (λ (a : RequestAnswer). asks_clean request && not (is_carried_out a)) zero ∙ and_false (asks_clean request)) cleans
 
 pub answered_append_stands : (terms : Terms) (request : AppendRequest) (bytes : List ℕ) (answer : RequestAnswer) (gained : List Deed)
     → IsCarriedOut terms (Append request) bytes answer gained → answer ≡ Ok 0 → StandsOrIsPassedOn terms.service request bytes gained

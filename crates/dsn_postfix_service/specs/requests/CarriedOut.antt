@@ -1,22 +1,15 @@
 -- What is done for one request of Postfix's programs, in its order, and what answers it.
 use Rattle.std.specs.Prelude.{◌≡◌, ◌&&◌, not, ℕ, Bool, List, [], ◌∷◌, ◌++◌, MatchBool}
 use Rattle.dsn_text.specs.declared.service.Service.{Service}
+use Rattle.dsn_postfix.specs.RequestFlags.{asks_clean}
 use Rattle.dsn_postfix.specs.declared.postfix_request.NoticeRequest.{NoticeRequest}
 use Rattle.dsn_postfix.specs.declared.postfix_request.PostfixRequest.{PostfixRequest}
 use Rattle.dsn_postfix.specs.declared.postfix_request.PostfixRequest.TheVariants.{Append, Flush, Warn, Verp, One, Trace}
 use Rattle.dsn_postfix_service.specs.requests.AppendDeeds.{IsAppended}
 use Rattle.dsn_postfix_service.specs.requests.Deed.{Answer, Deed, LogRemoved}
 use Rattle.dsn_postfix_service.specs.requests.NoticeDeeds.{IsNotified}
-use Rattle.dsn_postfix_service.specs.requests.RequestStatus.{RequestAnswer, has_flag, is_carried_out}
+use Rattle.dsn_postfix_service.specs.requests.RequestStatus.{RequestAnswer, is_carried_out}
 use Rattle.dsn_postfix_service.specs.requests.Task.{Task, Terms}
-
-abbrev pub flags_of : PostfixRequest → ℕ
-flags_of (Append append) = append.flags
-flags_of (Flush notice) = notice.flags
-flags_of (Warn notice) = notice.flags
-flags_of (Verp notice delimiters) = notice.flags
-flags_of (One notice recipient report) = notice.flags
-flags_of (Trace notice) = notice.flags
 
 abbrev pub queue_id_of : PostfixRequest → List ℕ
 queue_id_of (Append append) = append.queue_id
@@ -40,7 +33,7 @@ IsDone terms (Trace notice) bytes answer gained = IsNotified (task_of terms (Tra
 
 -- a request with CLEAN asks that its log be removed unless the answer is status 0, whatever it was that failed
 abbrev pub must_clean : PostfixRequest → RequestAnswer → Bool
-must_clean request answer = has_flag 1 (flags_of request) && not (is_carried_out answer)
+must_clean request answer = asks_clean request && not (is_carried_out answer)
 
 pub record RemovesOnce (service : Service) (request : PostfixRequest) (gained : List Deed) : Type 0 where
   pub given : Answer

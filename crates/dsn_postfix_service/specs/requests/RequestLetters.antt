@@ -7,6 +7,7 @@ use Rattle.dsn_text.specs.declared.service.Service.{Service}
 use Rattle.dsn_text.specs.declared.service.Service.TheVariants.{Bounce, Defer, Trace as TraceLog}
 use Rattle.dsn_postfix.specs.NoticePlan.{notices_of}
 use Rattle.dsn_postfix.specs.PlannedNotice.{NoticeFacts}
+use Rattle.dsn_postfix.specs.RequestFlags.{marks_recipients}
 use Rattle.dsn_postfix.specs.declared.cant_say.CantSay.{CantSay}
 use Rattle.dsn_postfix.specs.declared.plan_fault.PlanFault.{PlanFault}
 use Rattle.dsn_postfix.specs.declared.plan_fault.PlanFault.TheVariants as plan
@@ -25,7 +26,6 @@ use Rattle.dsn_postfix_service.specs.declared.letters.letter_fault.LetterFault.T
 use Rattle.dsn_postfix_service.specs.letters.NoticeLetter.{IsLetterOf, first_letter_fault}
 use Rattle.dsn_postfix_service.specs.letters.ReportedMessage.{MessageSaid}
 use Rattle.dsn_postfix_service.specs.requests.MailFound.{MailRead, tells_of_log}
-use Rattle.dsn_postfix_service.specs.requests.RequestStatus.{has_flag}
 use Rattle.dsn_postfix_service.specs.requests.Task.{Task}
 use Rattle.dsn_postfix_service.specs.declared.requests.pass_reason.PassReason.TheVariants.{NoLetter, NoPlan}
 use Rattle.dsn_postfix_service.specs.declared.requests.untold.Untold.{Untold}
@@ -144,7 +144,7 @@ is_bounce_log TraceLog = false
 
 -- they are marked as done where the request asks for that by DELRCPT
 abbrev pub marks_done : Task → Bool
-marks_done task = has_flag 2 task.notice.flags && not (is_bounce_log task.terms.service && tells_of_log task.request)
+marks_done task = marks_recipients task.notice && not (is_bounce_log task.terms.service && tells_of_log task.request)
 
 abbrev pub places_done : Task → Option (List ℕ) → List ℕ
 places_done task log = if marks_done task then places_named task.terms.service task.request log else []

@@ -1,5 +1,5 @@
 -- What answers a request: a status, 0 where it was carried out, or want of memory.
-use Rattle.std.specs.Prelude.{◌≡◌, ◌==◌, ◌/◌, ◌%◌, ℕ, Bool, false, List, [], ◌∷◌, Result, Ok, Err}
+use Rattle.std.specs.Prelude.{◌≡◌, ◌==◌, ℕ, Bool, false, List, [], ◌∷◌, Result, Ok, Err}
 use Rattle.dsn_text.specs.declared.no_memory.NoMemory.{NoMemory}
 use Rattle.dsn_text.specs.declared.service.Service.{Service}
 use Rattle.dsn_postfix_service.specs.declared.requests.deed_fault.DeedFault.{DeedFault}
@@ -35,7 +35,3 @@ pub record PassesOn (service : Service) (bytes : List ℕ) (answer : RequestAnsw
   pub given : Result ℕ DeedFault
   pub passed : gained ≡ PassedOn service bytes given ∷ []
   pub answer_is : answer ≡ Ok (status_passed_on given)
-
--- of a request's flags 1 is CLEAN, and 2 is DELRCPT
-abbrev pub has_flag : ℕ → ℕ → Bool
-has_flag flag flags = (flags / flag) % 2 == 1

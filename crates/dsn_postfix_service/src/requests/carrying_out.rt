@@ -1,7 +1,7 @@
 //! Carrying out one request of Postfix's programs on the log of its service.
 //! Implements docs/FORMATS.md, "A connection".
 ghost use Rattle.std.specs.Prelude.{◌≡◌};
-ghost use Rattle.dsn_postfix_service.specs.requests.CarriedOut.{Cleans, IsCarriedOut, IsDone, flags_of, must_clean, queue_id_of};
+ghost use Rattle.dsn_postfix_service.specs.requests.CarriedOut.{Cleans, IsCarriedOut, IsDone, must_clean, queue_id_of};
 ghost use Rattle.dsn_postfix_service.specs.requests.Gains.{Gains};
 ghost use Rattle.dsn_postfix_service.specs.requests.RequestStatus.{is_carried_out};
 
@@ -14,20 +14,6 @@ use crate::requests::request_terms::RequestTerms;
 use dsn_postfix::PostfixRequest;
 use dsn_text::{NoMemory, QueueId};
 use std::alloc::Global;
-
-/// The flags of a request.
-fn flags_of(request: &PostfixRequest<'_>) -> u32
-    ensures { result ≡ flags_of request.now }
-{
-    match request {
-        PostfixRequest::Append(append) => append.flags,
-        PostfixRequest::Flush(notice)
-        | PostfixRequest::Warn(notice)
-        | PostfixRequest::Verp(notice, _)
-        | PostfixRequest::One(notice, _, _)
-        | PostfixRequest::Trace(notice) => notice.flags,
-    }
-}
 
 /// The queue id of a request's message.
 pub(crate) fn queue_id_of(request: &PostfixRequest<'_>) -> QueueId
@@ -57,7 +43,7 @@ pub(super) fn is_carried_out(answer: &Result<u32, NoMemory>) -> bool
 fn must_clean(request: &PostfixRequest<'_>, answer: &Result<u32, NoMemory>) -> bool
     ensures { result ≡ must_clean request.now answer.now }
 {
-    flags_of(request) % 2 == 1 && !is_carried_out(answer)
+    request.asks_clean() && !is_carried_out(answer)
 }
 
 /// Removes a request's log if that is due.

@@ -99,7 +99,7 @@ fn marks_done(task: &NoticeTask<'_>) -> bool
     ensures { result ≡ marks_done task.now }
 {
     let notice: &NoticeRequest<'_> = task.notice;
-    notice.flags / 2 % 2 == 1 && !(task.service() == Service::Bounce && tells_of_log(task.request))
+    notice.marks_recipients() && !(task.service() == Service::Bounce && tells_of_log(task.request))
 }
 
 /// The places of the recipients that are to be marked as done.

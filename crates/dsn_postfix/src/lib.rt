@@ -41,9 +41,9 @@ pub use encode::encode_postfix_request;
 pub use files::{
     BrokenMessage, DamagedEntry, LONGEST_FIELD_NAME, LogEntry, LogField, LogReader, LogRecord,
     LogWriteError, MessageFacts, PlacedRecord, QueueBroken, QueueReader, QueueRecord,
-    QueuedRecipient, RecipientState, fronts_show_headers, full_text_or, header_of_message,
-    is_full_loggable, is_zero_free, log_files_are_read_whole, queue_files_have_one_list,
-    text_of_message, usual_action, usual_status, without_outer_spaces, written_logs_are_read_back,
+    QueuedRecipient, RecipientState, fronts_show_headers, header_of_message,
+    log_files_are_read_whole, queue_files_have_one_list, text_of_message,
+    written_logs_are_read_back,
 };
 pub use laws::{lists_are_read_as_written, notices_tell_each_once};
 pub use list_buffer::{LONGEST_LIST, ListBuffer};
@@ -56,7 +56,7 @@ pub use postfix_answer::{decode_status, encode_announcement, encode_status};
 pub use postfix_request::{
     AppendRequest, DeliveryReport, NoticeRequest, PostfixRequest, ReportedRecipient,
 };
-pub use queue_name::{LONGEST_QUEUE_NAME, QueueName};
+pub use queue_name::QueueName;
 pub use quoted_address::needs_no_quotes;
 pub use receive::receive_postfix_request;
 pub use receive_fault::ReceiveFault;

@@ -8,7 +8,7 @@ ghost use Rattle.dsn_postfix.specs.AttributeValues.{IsQueueName};
 use std::marker::Model;
 
 /// The longest name of a queue, in bytes.
-pub const LONGEST_QUEUE_NAME: usize = 100;
+const LONGEST_QUEUE_NAME: usize = 100;
 
 /// The name of a queue, 1 to 100 ASCII letters and digits, lent. It is that of the queue's folder.
 #[derive(Debug, Drop)]

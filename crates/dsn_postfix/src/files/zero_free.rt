@@ -4,7 +4,7 @@ ghost use Rattle.dsn_postfix.specs.files.ZeroFree.{is_zero_free};
 
 /// Whether no byte is zero. Neither a line of a log nor a text that Postfix's programs send one another
 /// can have one.
-pub fn is_zero_free(bytes: &[u8]) -> bool
+pub(crate) fn is_zero_free(bytes: &[u8]) -> bool
     ensures { result ≡ is_zero_free bytes.now }
 {
     let mut all = true;

@@ -1,13 +1,11 @@
-//! Lists of attributes, and requests, from readers that give them in pieces, end anywhere and fail anywhere.
+//! Lists of attributes from readers that give them in pieces, end anywhere and fail anywhere.
 use crate::assert_same::same;
 use crate::device::{ALWAYS, reader};
-use crate::postfix_request::{FLUSH_BOUNCE, VERP, WARN, asked};
+use crate::postfix_request::{FLUSH_BOUNCE, VERP, WARN};
 use crate::texts::{joined, text_of_size};
 use dsn_fakes::PieceReader;
 use dsn_outcome::Plain;
-use dsn_postfix::{
-    LONGEST_LIST, ListBuffer, ListFault, ReceiveFault, RequestFault, receive_postfix_request,
-};
+use dsn_postfix::{LONGEST_LIST, ListBuffer, ListFault};
 use std::alloc::AllocGlobal;
 use std::process::Abort;
 use std::test::Fail;
@@ -125,52 +123,4 @@ fn longest_list(rt: HostRuntime) -> Result<(), Fail> {
         expect_long(&rt, size, fault)?;
     }
     Ok(())
-}
-
-/// What is asked by the request that is received, as a word.
-fn received(
-    rt: &impl AllocGlobal,
-    input: &[u8],
-    (most, good): (usize, usize),
-) -> Result<&'static str, ReceiveFault> {
-    let mut buffer = ListBuffer::new(rt.alloc());
-    let mut source = reader(input, most, good);
-    match receive_postfix_request(&mut source, &mut buffer) {
-        Ok(request) => Ok(asked(&request).0),
-        Err(fault) => Err(fault),
-    }
-}
-
-/// A request that is received so asks this, or is none.
-fn expect_received(
-    rt: &(impl Abort + AllocGlobal),
-    input: &[u8],
-    calls: (usize, usize),
-    want: Result<&'static str, ReceiveFault>,
-) {
-    let found = received(rt, input, calls);
-    same(rt, (input, calls, found), (input, calls, want));
-}
-
-/// What is no request where so many calls of one byte go well, and why.
-const NO_REQUESTS: [(&[u8], usize, ReceiveFault); 4] = [
-    (b"", ALWAYS, ReceiveFault::List(ListFault::Nothing)),
-    (FLUSH_BOUNCE, 3, ReceiveFault::List(ListFault::Read)),
-    (b"\0", ALWAYS, ReceiveFault::Request(RequestFault::Missing)),
-    (
-        b"status\x000\0\0",
-        ALWAYS,
-        ReceiveFault::Request(RequestFault::Name),
-    ),
-];
-
-#[test]
-fn requests_are_received_in_pieces(rt: HostRuntime) {
-    for most in 1..FLUSH_BOUNCE.len() + 2 {
-        expect_received(&rt, FLUSH_BOUNCE, (most, ALWAYS), Ok("flush"));
-        expect_received(&rt, WARN, (most, ALWAYS), Ok("warn"));
-    }
-    for (input, good, fault) in &NO_REQUESTS {
-        expect_received(&rt, input, (1, *good), Err(*fault));
-    }
 }

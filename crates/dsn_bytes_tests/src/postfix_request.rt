@@ -108,7 +108,7 @@ fn written(alloc: Global, request: &PostfixRequest<'_>) -> Option<Vec<u8>> {
 }
 
 /// What is asked, as a word, and what a message that is to be told of needs.
-pub(crate) fn asked(request: &PostfixRequest<'_>) -> (&'static str, u32) {
+fn asked(request: &PostfixRequest<'_>) -> (&'static str, u32) {
     let (word, notice) = match request {
         PostfixRequest::Append(_) => return ("append", 0),
         PostfixRequest::Flush(notice) => ("flush", notice),

@@ -8,7 +8,6 @@ pub mod PlannedNotice
 pub mod PostfixAnswer
 pub mod PostfixRequest
 pub mod QuotedAddress
-pub mod ReceivedRequest
 pub mod RecipientSet
 pub mod RequestFlags
 pub mod RequestReading

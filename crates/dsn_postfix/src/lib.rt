@@ -22,8 +22,6 @@ mod postfix_answer;
 mod postfix_request;
 mod queue_name;
 mod quoted_address;
-mod receive;
-mod receive_fault;
 mod recipient_set;
 mod request_fault;
 mod request_reading;
@@ -58,8 +56,6 @@ pub use postfix_request::{
 };
 pub use queue_name::QueueName;
 pub use quoted_address::needs_no_quotes;
-pub use receive::receive_postfix_request;
-pub use receive_fault::ReceiveFault;
 pub use request_fault::RequestFault;
 pub use returned_part::ReturnedPart;
 pub use verp_delimiters::VerpDelimiters;

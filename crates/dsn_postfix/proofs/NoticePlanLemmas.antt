@@ -3,9 +3,8 @@ use Rattle.std.proofs.Common.{◌≡◌, ◌<◌, ◌≤◌, ◌∙◌, ℕ, zer
 use Rattle.std.proofs.lemmas.List.{drop-map, length-drop, length-map, map-append, take-map}
 use Rattle.dsn_postfix.specs.files.LogRecord.{LoggedFields, logged_fields_in}
 use Rattle.dsn_postfix.specs.NoticePlan.{onto_records, portions, portions_within}
-use Rattle.dsn_postfix.specs.PlannedNotice.{NoticeFacts, notice_facts_in}
+use Rattle.dsn_postfix.specs.PlannedNotice.{NoticeFacts}
 use Rattle.dsn_postfix.specs.declared.files.log_record.LogRecord.{LogRecord}
-use Rattle.dsn_postfix.specs.declared.planned_notice.PlannedNotice.{PlannedNotice}
 use Rattle.dsn_postfix.specs.declared.cant_say.CantSay.{CantSay}
 
 -- records, and those that come after them
@@ -52,16 +51,15 @@ first_portion {X = X} most (x ∷ xs) some full =
     shorter = omega (arith, some, length-drop most (x ∷ xs))
 
 -- a notice of the first portion, and those of the others
-pub one_notice_more : (about : List LoggedFields → NoticeFacts) (most : ℕ) (notices : List PlannedNotice) (notice : PlannedNotice) (rest : List LogRecord)
+pub one_notice_more : (about : List LoggedFields → NoticeFacts) (most : ℕ) (notices : List NoticeFacts) (notice : NoticeFacts) (rest : List LogRecord)
     → 0 < most
     → 0 < length rest
-    → notice_facts_in notice ≡ about (map logged_fields_in (take most rest))
-    → map notice_facts_in (notices ++ notice ∷ []) ++ map about (portions most (map logged_fields_in (drop most rest)))
-    ≡ map notice_facts_in notices ++ map about (portions most (map logged_fields_in rest))
+    → notice ≡ about (map logged_fields_in (take most rest))
+    → (notices ++ notice ∷ []) ++ map about (portions most (map logged_fields_in (drop most rest)))
+    ≡ notices ++ map about (portions most (map logged_fields_in rest))
 one_notice_more about most notices notice rest some full is =
-    ap (λ (ns : List NoticeFacts). ns ++ map about (portions most (map logged_fields_in (drop most rest)))) (map-append notice_facts_in notices (notice ∷ []))
-    ∙ append_assoc (map notice_facts_in notices) (notice_facts_in notice ∷ []) (map about (portions most (map logged_fields_in (drop most rest))))
-    ∙ ap (λ (ns : List NoticeFacts). map notice_facts_in notices ++ ns) (first ∙ sym (ap (map about) (first_portion most (map logged_fields_in rest) some (subst (λ (n : ℕ). 0 < n) (sym (length-map rest logged_fields_in)) full))))
+    append_assoc notices (notice ∷ []) (map about (portions most (map logged_fields_in (drop most rest))))
+    ∙ ap (λ (ns : List NoticeFacts). notices ++ ns) (first ∙ sym (ap (map about) (first_portion most (map logged_fields_in rest) some (subst (λ (n : ℕ). 0 < n) (sym (length-map rest logged_fields_in)) full))))
   where
-    first : notice_facts_in notice ∷ map about (portions most (map logged_fields_in (drop most rest))) ≡ about (take most (map logged_fields_in rest)) ∷ map about (portions most (drop most (map logged_fields_in rest)))
+    first : notice ∷ map about (portions most (map logged_fields_in (drop most rest))) ≡ about (take most (map logged_fields_in rest)) ∷ map about (portions most (drop most (map logged_fields_in rest)))
     first = λ i. (is ∙ ap about (sym (take-map logged_fields_in most rest))) i ∷ map about (portions most (sym (drop-map logged_fields_in most rest) i))

@@ -5,7 +5,6 @@ ghost use Rattle.std.specs.Option.{option_map};
 ghost use Rattle.dsn_postfix.specs.files.LogRecord.{logged_fields_in};
 ghost use Rattle.dsn_postfix.specs.LoggedAppend.{logged_of, unlogged_of};
 ghost use Rattle.dsn_postfix.specs.NoticePlan.{IsPlanFault, delimiters_of, kind_of_notice, most_told, notice_about, notice_asked, notices_of, option_lost, portions, record_alone, records_asked, returned_if_failed};
-ghost use Rattle.dsn_postfix.specs.PlannedNotice.{notice_facts_in};
 ghost use Rattle.dsn_postfix.specs.files.QueueRecipients.{recipient_facts_in};
 ghost use Rattle.dsn_postfix.specs.Wanted.{is_no_sender};
 
@@ -166,7 +165,7 @@ fn notice_about<'a>(
     notice: &NoticeRequest<'a>,
     outcomes: Vec<LogRecord<'a>>,
 ) -> PlannedNotice<'a>
-    ensures { notice_facts_in result ≡ notice_about request.now notice.now
+    ensures { result ≡ notice_about request.now notice.now
         (map logged_fields_in outcomes.entry.items) }
 {
     let kind = request.kind_of_notice();
@@ -200,7 +199,7 @@ fn notices_telling<'a>(
     notice: &NoticeRequest<'a>,
     told: &[LogRecord<'a>],
 ) -> Result<Vec<PlannedNotice<'a>>, AllocError>
-    ensures { IfOk result (λ notices. map notice_facts_in notices.items
+    ensures { IfOk result (λ notices. notices.items
         ≡ map (notice_about request.now notice.now)
         (portions (most_told request.now) (map logged_fields_in told.now))) }
 {
@@ -236,7 +235,7 @@ pub fn plan_notices<'a>(
     ensures { MatchResult result
         (λ notices. notices_of double_bounce.now service request.now
         (map recipient_facts_in queued.now) (option_map (λ file. file.now) log.entry)
-        ≡ Ok (map notice_facts_in notices.items))
+        ≡ Ok (notices.items))
         (λ fault. IsPlanFault (notices_of double_bounce.now service request.now
         (map recipient_facts_in queued.now) (option_map (λ file. file.now) log.entry)) fault) }
 {

@@ -3,6 +3,7 @@
 use crate::files::LogRecord;
 use crate::returned_part::ReturnedPart;
 use dsn_text::Service;
+use std::marker::Model;
 
 /// A notice that is to be made: to whom it goes, what it gives back, and of whom it tells.
 #[derive(Debug, Drop)]
@@ -18,4 +19,21 @@ pub struct PlannedNotice<'a> {
     pub returned: ReturnedPart,
     /// Of whom it tells, in the log's order, with what became of each.
     pub outcomes: Vec<LogRecord<'a>>,
+}
+
+impl<'a> Model for PlannedNotice<'a> {
+    ghost use Rattle.std.specs.Option.{option_map};
+    ghost use Rattle.std.specs.Prelude.{map};
+    ghost use Rattle.dsn_postfix.specs.PlannedNotice.{NoticeFacts};
+    ghost use Rattle.dsn_postfix.specs.files.LogRecord.{logged_fields_in};
+
+    ghost Value = { NoticeFacts };
+
+    ghost view = { λ notice. record {
+      to = notice.to.now;
+      delimiters = option_map (λ text. text.now) notice.delimiters;
+      service = notice.service;
+      returned = notice.returned;
+      outcomes = map logged_fields_in notice.outcomes.items;
+    } };
 }

@@ -2,7 +2,6 @@
 //! Implements docs/FORMATS.md, "What Postfix's programs send".
 ghost use Rattle.std.specs.Prelude.{◌≡◌, ◌++◌, IfOk, OnOk};
 ghost use Rattle.dsn_postfix.specs.files.LogRecord.{logged_fields_in};
-ghost use Rattle.dsn_postfix.specs.PlannedNotice.{notice_facts_in};
 ghost use Rattle.dsn_postfix.specs.VerpPath.{led_by, notice_address, verp_path, verp_recipient};
 
 use crate::files::LogRecord;
@@ -68,7 +67,7 @@ impl<'a> PlannedNotice<'a> {
     /// The address to which it goes: the sender's, and where the sender wanted that with the recipient in
     /// it. There is an error only where memory was refused.
     pub fn address(&self, alloc: Global) -> Result<Vec<u8>, AllocError>
-        ensures { IfOk result (λ path. path.items ≡ notice_address (notice_facts_in self.now)) }
+        ensures { IfOk result (λ path. path.items ≡ notice_address self.now) }
     {
         match (self.delimiters, self.outcomes.as_slice()) {
             (Some(delimiters), [fields, ..]) => {

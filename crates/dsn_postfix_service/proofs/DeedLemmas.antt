@@ -77,9 +77,9 @@ left_at xs i other within =
     let next : suc i ≡ i + 1 = omega arith in
     drop-cons xs i other within ∙ ap (λ (n : ℕ). get_or xs i other ∷ drop n xs) next
 
-pub empty_map : {X Y : Type 0} → (f : X → Y) (xs : List X) → length xs ≡ 0 → map f xs ≡ []
-empty_map f [] none = refl
-empty_map f (x ∷ xs) none = absurd (suc_not_zero (length xs) none)
+pub empty_list : {X : Type 0} → (xs : List X) → length xs ≡ 0 → xs ≡ []
+empty_list [] none = refl
+empty_list (x ∷ xs) none = absurd (suc_not_zero (length xs) none)
 
 -- ---- an append
 

@@ -1,5 +1,4 @@
 -- What a request for notices reads: the log that it tells of, and the message's file.
-use Rattle.std.specs.Option.{option_map}
 use Rattle.std.specs.Prelude.{◌≡◌, ℕ, Bool, true, false, List, [], ◌∷◌, ◌++◌, Option, Result, Ok, Err, is_err}
 use Rattle.dsn_text.specs.declared.service.Service.{Service}
 use Rattle.dsn_postfix.specs.declared.postfix_request.NoticeRequest.{NoticeRequest}
@@ -8,17 +7,10 @@ use Rattle.dsn_postfix.specs.declared.postfix_request.PostfixRequest.TheVariants
 use Rattle.dsn_postfix_service.specs.requests.Deed.{Deed, LogRead, MessageRead}
 use Rattle.dsn_postfix_service.specs.requests.Task.{Task}
 use Rattle.dsn_postfix_service.specs.declared.requests.deed_fault.DeedFault.{DeedFault}
-use Rattle.dsn_postfix_service.specs.declared.requests.mail_found.MailFound.{MailFound}
 
 pub record MailRead : Type 0 where
   pub log : Option (List ℕ)
   pub file : List ℕ
-
-abbrev pub mail_read_in : MailFound → MailRead
-mail_read_in found = record {
-  log = option_map (λ log. log.items) found.log;
-  file = found.file.items;
-}
 
 -- a request about one recipient alone has no log
 abbrev pub tells_of_log : PostfixRequest → Bool
@@ -58,6 +50,6 @@ pub data FailsToRead (task : Task) (gained : List Deed) : Type 0 where
       ++ message_reading task.notice (Err fault)
       → FailsToRead task gained
 
-abbrev pub Reads : Task → Result MailFound DeedFault → List Deed → Type 0
-Reads task (Ok found) gained = gained ≡ readings task (mail_read_in found)
+abbrev pub Reads : Task → Result MailRead DeedFault → List Deed → Type 0
+Reads task (Ok found) gained = gained ≡ readings task found
 Reads task (Err fault) gained = FailsToRead task gained

@@ -1,7 +1,6 @@
 //! The draft of a planned notice.
 //! Implements docs/FORMATS.md, "The notice of a Postfix log".
 ghost use Rattle.std.specs.Prelude.{◌≡◌, ◌≤◌, ◌++◌, codes, IfErr, IfOk, IsSome, None, OnOk};
-ghost use Rattle.dsn_postfix.specs.PlannedNotice.{notice_facts_in};
 ghost use Rattle.dsn_postfix_service.specs.letters.LetterFault.{IsLetterFault};
 ghost use Rattle.dsn_postfix_service.specs.letters.NoticeDraft.{IsDraftTold, first_draft_fault_told, is_returned_whole, is_said_sender, postfix_fields, returned_byte_of, returned_text, sender_field, tried_until};
 ghost use Rattle.dsn_postfix_service.specs.letters.ReportedMessage.{message_said_in};
@@ -101,14 +100,14 @@ pub(super) fn draft_told(
     arrival: Stamp,
 ) -> Result<Draft, LetterFault>
     ensures told { IfOk result
-        (IsDraftTold (message_said_in message.now) (notice_facts_in notice.now) moment arrival) }
+        (IsDraftTold (message_said_in message.now) notice.now moment arrival) }
     ensures has_return { IfOk result (λ draft. IsSome draft.return_path) }
     ensures accepted { OnOk result
-        (first_draft_fault_told (message_said_in message.now) (notice_facts_in notice.now)
+        (first_draft_fault_told (message_said_in message.now) notice.now
         ≡ None) }
     ensures refused { IfErr result
         (IsLetterFault (first_draft_fault_told (message_said_in message.now)
-        (notice_facts_in notice.now))) }
+        notice.now)) }
 {
     let address = notice.address(alloc)?;
     // Without its quotes it could be read as another address.

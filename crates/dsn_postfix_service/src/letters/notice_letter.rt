@@ -2,7 +2,6 @@
 //! Implements docs/FORMATS.md, "The notice of a Postfix log".
 ghost use Rattle.std.specs.Prelude.{◌≡◌, ◌≤◌, ℕ, IfErr, IfOk, None, OnOk, length, map};
 ghost use Rattle.dsn_outcome.specs.Outcomes.{most_outcomes};
-ghost use Rattle.dsn_postfix.specs.PlannedNotice.{notice_facts_in};
 ghost use Rattle.dsn_postfix.specs.files.LogRecord.{logged_fields_in};
 ghost use Rattle.dsn_postfix_service.specs.letters.LetterFault.{IsLetterFault};
 ghost use Rattle.dsn_postfix_service.specs.letters.NoticeLetter.{IsLetterOf, first_fault_of_told, first_letter_fault};
@@ -54,12 +53,12 @@ pub fn letter_of_notice(
 ) -> Result<Letter, LetterFault>
     ensures letter { IfOk result
         (λ letter. (arrival : ℕ) × IsLetterOf (message_said_in message.now)
-        (notice_facts_in notice.now) moment serial arrival letter) }
+        notice.now moment serial arrival letter) }
     ensures accepted { OnOk result
-        (first_letter_fault (message_said_in message.now) (notice_facts_in notice.now) ≡ None) }
+        (first_letter_fault (message_said_in message.now) notice.now ≡ None) }
     ensures refused { IfErr result
         (IsLetterFault (first_letter_fault (message_said_in message.now)
-        (notice_facts_in notice.now))) }
+        notice.now)) }
 {
     if notice.outcomes.is_empty() || notice.outcomes.len() > MOST_OUTCOMES as usize {
         return Err(LetterFault::Count);

@@ -1,6 +1,5 @@
 //! What is made of a request's log and file before its first notice is handed in.
 ghost use Rattle.std.specs.Prelude.{◌≡◌, IfErr, IfOk};
-ghost use Rattle.dsn_postfix_service.specs.requests.MailFound.{mail_read_in};
 ghost use Rattle.dsn_postfix_service.specs.requests.RequestLetters.{AreLettersAsked, CantBeSaid, IsReason, places_done};
 
 use crate::requests::mail_found::MailFound;
@@ -26,10 +25,10 @@ pub(super) fn make_letters(
     task: &NoticeTask<'_>,
     found: &MailFound,
 ) -> Result<LettersMade, Untold>
-    ensures made { IfOk result (λ made. AreLettersAsked task.now (mail_read_in found.now) made.letters.items) }
+    ensures made { IfOk result (λ made. AreLettersAsked task.now found.now made.letters.items) }
     ensures places { IfOk result (λ made. made.places.items
-        ≡ places_done task.now (mail_read_in found.now).log) }
-    ensures none { IfErr result (IsReason (CantBeSaid task.now (mail_read_in found.now))) }
+        ≡ places_done task.now found.now.log) }
+    ensures none { IfErr result (IsReason (CantBeSaid task.now found.now)) }
 {
     let letters = letters_asked(alloc, task, found)?;
     let places = places_done(alloc, task, found.log())?;

@@ -3,32 +3,52 @@ ghost use Rattle.std.specs.Prelude.{◌≡◌};
 ghost use Rattle.std.specs.Option.{option_map};
 ghost use Rattle.dsn_postfix_service.specs.requests.Deed.{answer_as};
 ghost use Rattle.dsn_postfix_service.specs.requests.Gains.{Gains};
-ghost use Rattle.dsn_postfix_service.specs.requests.MailFound.{Reads, ReadsLog, mail_read_in, tells_of_log};
+ghost use Rattle.dsn_postfix_service.specs.requests.MailFound.{Reads, ReadsLog, tells_of_log};
 
 use crate::requests::deed_fault::DeedFault;
 use crate::requests::mail_system::MailSystem;
 use crate::requests::notice_task::NoticeTask;
 use dsn_postfix::{NoticeRequest, PostfixRequest};
 use std::alloc::Global;
+use std::marker::Model;
 
 /// What was read for a request for notices.
 #[derive(Drop)]
 pub(super) struct MailFound {
     /// The log's bytes, if there is one.
-    pub(super) log: Option<Vec<u8>>,
+    log: Option<Vec<u8>>,
     /// The bytes of the message's file.
-    pub(super) file: Vec<u8>,
+    file: Vec<u8>,
+}
+
+impl Model for MailFound {
+    ghost use Rattle.std.specs.Option.{option_map};
+    ghost use Rattle.dsn_postfix_service.specs.requests.MailFound.{MailRead};
+
+    ghost Value = { MailRead };
+
+    ghost view = { λ found. record {
+      log = option_map (λ log. log.items) found.log;
+      file = found.file.items;
+    } };
 }
 
 impl MailFound {
     /// The log's bytes, if there is one.
     pub(super) fn log(&self) -> Option<&[u8]>
-        ensures { option_map (λ log. log.now) result ≡ (mail_read_in self.now).log }
+        ensures { option_map (λ log. log.now) result ≡ self.now.log }
     {
         match &self.log {
             Some(log) => Some(log.as_slice()),
             None => None,
         }
+    }
+
+    /// The bytes of the message's file.
+    pub(super) fn file(&self) -> &[u8]
+        ensures { result.now ≡ self.now.file }
+    {
+        &self.file
     }
 }
 

@@ -3,14 +3,12 @@
 ghost use Rattle.std.specs.Prelude.{◌≡◌, ◌<◌, [], List, length, map, true, IfOk, IfErr, IfSome, MatchOption, OnOk};
 ghost use Rattle.std.specs.List.{list_any};
 ghost use Rattle.std.specs.Option.{unwrap_or};
-ghost use Rattle.dsn_postfix.specs.PlannedNotice.{notice_facts_in};
 ghost use Rattle.dsn_postfix.specs.files.MessageFacts.{message_facts_in, said_of_message};
 ghost use Rattle.dsn_postfix.specs.files.QueueListing.{QueueEnding, RecordsFrom};
 ghost use Rattle.dsn_postfix.specs.files.QueueRecipients.{BeginsRecipients, RecipientFacts, RecipientsLeft, nothing_before, recipient_facts_in, recipients_of};
 ghost use Rattle.dsn_postfix.specs.files.QueueRecord.{PlacedBytes};
 ghost use Rattle.dsn_postfix.specs.files.QueueWalk.{first_place, steps_left};
 ghost use Rattle.dsn_postfix_service.specs.letters.ReportedMessage.{message_said_in};
-ghost use Rattle.dsn_postfix_service.specs.requests.MailFound.{mail_read_in};
 ghost use Rattle.dsn_postfix_service.specs.requests.RequestLetters.{AreLettersAsked, AreLettersOf, CantBeSaid, GainsLetter, IsReason, has_fault};
 
 use crate::letters::{ReportedMessage, letter_of_notice};
@@ -94,9 +92,9 @@ fn push_letter(
     serial: u64,
 ) -> Result<(), Untold>
     ensures gained { OnOk result (GainsLetter (message_said_in message.now) moment serial
-        (notice_facts_in notice.now) letters.old.items letters.new.items) }
+        notice.now letters.old.items letters.new.items) }
     ensures none { IfErr result (IsReason
-        (has_fault (message_said_in message.now) (notice_facts_in notice.now) ≡ true)) }
+        (has_fault (message_said_in message.now) notice.now ≡ true)) }
 {
     let letter = letter_of_notice(alloc, message, notice, moment, serial)?;
     letters.push(letter)?;
@@ -112,9 +110,9 @@ fn letters_of(
     first_serial: u64,
 ) -> Result<Vec<Letter>, Untold>
     ensures letters { IfOk result (λ letters. AreLettersOf (message_said_in message.now) moment
-        first_serial (map notice_facts_in notices.now) letters.items) }
+        first_serial notices.now letters.items) }
     ensures none { IfErr result (IsReason
-        (list_any (has_fault (message_said_in message.now)) (map notice_facts_in notices.now)
+        (list_any (has_fault (message_said_in message.now)) notices.now
         ≡ true)) }
 {
     let mut letters = Vec::new(alloc);
@@ -134,17 +132,18 @@ pub(super) fn letters_asked(
     task: &NoticeTask<'_>,
     found: &MailFound,
 ) -> Result<Vec<Letter>, Untold>
-    ensures letters { IfOk result (λ letters. AreLettersAsked task.now (mail_read_in found.now) letters.items) }
-    ensures none { IfErr result (IsReason (CantBeSaid task.now (mail_read_in found.now))) }
+    ensures letters { IfOk result (λ letters. AreLettersAsked task.now found.now letters.items) }
+    ensures none { IfErr result (IsReason (CantBeSaid task.now found.now)) }
 {
     let terms: &RequestTerms<'_> = task.terms;
     let settings: &ServiceSettings<'_> = terms.settings;
     let notice: &NoticeRequest<'_> = task.notice;
     queue_files_have_one_list();
     fronts_show_headers();
-    let queued = queued_recipients(alloc, &found.file)?;
-    let text = text_of_message(alloc, &found.file, FRONT_OF_TEXT)?;
-    let facts = facts_said(&found.file);
+    let file = found.file();
+    let queued = queued_recipients(alloc, file)?;
+    let text = text_of_message(alloc, file, FRONT_OF_TEXT)?;
+    let facts = facts_said(file);
     let message = ReportedMessage {
         queue_id: notice.queue_id,
         arrival: facts.arrival,

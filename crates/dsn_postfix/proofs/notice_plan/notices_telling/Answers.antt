@@ -1,7 +1,6 @@
 use Rattle.std.proofs.Common.{◌≡◌, ◌<◌, ◌∙◌, ◌++◌, ◌∷◌, [], List, ap, arith, drop, length, map, take}
 use Rattle.dsn_postfix.specs.files.LogRecord.{logged_fields_in}
 use Rattle.dsn_postfix.specs.NoticePlan.{most_told, notice_about, portions}
-use Rattle.dsn_postfix.specs.PlannedNotice.{notice_facts_in}
 use Rattle.dsn_postfix.specs.declared.files.log_record.LogRecord.{LogRecord}
 use Rattle.dsn_postfix.proofs.NoticePlanLemmas.{one_notice_more}
 use Rattle.dsn_postfix.proofs.notice_plan.notices_telling.Goals as goal
@@ -16,6 +15,6 @@ loop-rest-preserved c =
     let outcomes : c.extend_from_slice.new.self.items ≡ take most rest = grind (arith, c.in_ok-extend_from_slice.ensures.items, c.new-outcomes.ensures.items, c.first_portion.ensures, c.most_told-most.ensures.most) in
     let after : c.other_portions-rest.result.now ≡ drop most rest = grind (arith, c.other_portions-rest.ensures, c.most_told-most.ensures.most) in
     let more : c.push.new.self.items ≡ c.loop-rest.notices.items ++ c.notice_about.result ∷ [] = c.in_ok-push.ensures.items in
-    (λ i. map notice_facts_in (more i) ++ map about (portions most (map logged_fields_in (after i))))
+    (λ i. more i ++ map about (portions most (map logged_fields_in (after i))))
     ∙ one_notice_more about most c.loop-rest.notices.items c.notice_about.result rest some full (c.notice_about.ensures ∙ ap (λ (xs : List LogRecord). about (map logged_fields_in xs)) outcomes)
     ∙ c.loop-rest.invariant

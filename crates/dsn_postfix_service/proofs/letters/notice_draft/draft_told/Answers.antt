@@ -2,7 +2,6 @@ use Rattle.std.proofs.Common.{◌∙◌, ap, rules}
 use Rattle.std.specs.Option.{unwrap_or}
 use Rattle.dsn_outcome.specs.Draft.{DraftFields, first_draft_fault}
 use Rattle.dsn_outcome.specs.declared.draft_fault.DraftFault.TheVariants as draft
-use Rattle.dsn_postfix.specs.PlannedNotice.{notice_facts_in}
 use Rattle.dsn_postfix_service.specs.letters.NoticeDraft.{draft_fields_told}
 use Rattle.dsn_postfix_service.specs.letters.ReportedMessage.{message_said_in}
 use Rattle.dsn_postfix_service.proofs.LetterLemmas.{draft_fault_told_is, fields_are}
@@ -11,7 +10,7 @@ use Rattle.dsn_postfix_service.proofs.letters.notice_draft.draft_told.Goals as g
 pub returns-clause-refused : goal.returns-clause-refused
 returns-clause-refused c =
     let message = message_said_in c.args.message.now in
-    let notice = notice_facts_in c.args.notice.now in
+    let notice = c.args.notice.now in
     let told = draft_fields_told message notice in
     let same =
     fields_are c.deref-2.result.now told.return_path told.envelope_id c.returned_text.result.now told.header c.deref-3.result.now told.extensions

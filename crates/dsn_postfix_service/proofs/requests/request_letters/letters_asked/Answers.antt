@@ -4,9 +4,8 @@ use Rattle.std.specs.List.{list_any}
 use Rattle.std.specs.Option.{option_map, unwrap_or}
 use Rattle.std.specs.Prelude.{IfErr, IfOk}
 use Rattle.dsn_postfix.specs.NoticePlan.{notices_of}
-use Rattle.dsn_postfix.specs.PlannedNotice.{NoticeFacts, notice_facts_in}
+use Rattle.dsn_postfix.specs.PlannedNotice.{NoticeFacts}
 use Rattle.dsn_postfix.specs.declared.cant_say.CantSay.{CantSay}
-use Rattle.dsn_postfix.specs.declared.planned_notice.PlannedNotice.{PlannedNotice}
 use Rattle.dsn_postfix.specs.files.MessageFacts.{message_facts_in, said_of_message}
 use Rattle.dsn_postfix.specs.files.MessageHeader.{front_size}
 use Rattle.dsn_postfix.specs.files.MessageText.{message_text}
@@ -14,7 +13,6 @@ use Rattle.dsn_postfix.specs.files.QueueListing.{RecordsFrom}
 use Rattle.dsn_postfix.specs.files.QueueRecipients.{recipient_facts_in, recipients_of}
 use Rattle.dsn_postfix.specs.files.QueueWalk.{first_place}
 use Rattle.dsn_postfix_service.specs.letters.ReportedMessage.{MessageSaid}
-use Rattle.dsn_postfix_service.specs.requests.MailFound.{mail_read_in}
 use Rattle.dsn_postfix_service.specs.requests.RequestLetters.{AreLettersAsked, AreLettersOf, CantBeSaid, IsReason, IsUnsaid, has_fault, message_said}
 use Rattle.dsn_postfix_service.specs.requests.Task.{Task}
 use Rattle.dsn_text.specs.Text.{longest_header}
@@ -47,33 +45,33 @@ returns-clause-letters c =
     })
     ∙ (λ i. record { terms = c.terms.view_is i; request = c.task.inside.request.now; notice = c.task.inside.notice.now })
     ∙ c.task.view_is in
-    let file : List ℕ = c.args.found.now.file.items in
+    let file : List ℕ = c.args.found.now.file in
     let listing = c.queue_files_have_one_list.ensures file in
     let records = listing.records in
     let ending = listing.ending in
     let come_from : (other : List ℕ) → other ≡ file → RecordsFrom other (first_place other) records ending =
     λ other is. subst (λ (f : List ℕ). RecordsFrom f (first_place f) records ending) (sym is) listing.lists in
-    let queued : map recipient_facts_in c.deref-5.result.now ≡ recipients_of records =
-    ap (map recipient_facts_in) c.deref-5.ensures.value ∙ c.in_ok-queued.ensures records ending (come_from _ c.deref.ensures.value) in
-    let text : c.deref-4.result.now ≡ take (front_size longest_header) (message_text records) =
-    c.deref-4.ensures.value ∙ c.in_ok-text.ensures records ending (come_from _ c.deref-2.ensures.value) in
-    let facts : message_facts_in c.facts_said-facts.result ≡ said_of_message records = c.facts_said-facts.ensures records ending (come_from _ c.deref-3.ensures.value) in
+    let queued : map recipient_facts_in c.deref-2.result.now ≡ recipients_of records =
+    ap (map recipient_facts_in) c.deref-2.ensures.value ∙ c.in_ok-queued.ensures records ending (come_from _ c.file-file.ensures) in
+    let text : c.deref.result.now ≡ take (front_size longest_header) (message_text records) =
+    c.deref.ensures.value ∙ c.in_ok-text.ensures records ending (come_from _ c.file-file.ensures) in
+    let facts : message_facts_in c.facts_said-facts.result ≡ said_of_message records = c.facts_said-facts.ensures records ending (come_from _ c.file-file.ensures) in
     let notice = task.notice in
     let sender : c.sender_said.result.now ≡ unwrap_or (said_of_message records).sender notice.sender =
     c.sender_said.ensures ∙ (λ i. unwrap_or (facts i).sender (c.bytes.ensures.same i)) in
-    let notices : List PlannedNotice = c.in_ok-notices.notices.items in
-    let planned : notices_of task.terms.settings.double_bounce task.terms.service task.request (recipients_of records) (mail_read_in c.args.found.now).log ≡ Ok (map notice_facts_in notices) =
+    let notices : List NoticeFacts = c.in_ok-notices.notices.items in
+    let planned : notices_of task.terms.settings.double_bounce task.terms.service task.request (recipients_of records) c.args.found.now.log ≡ Ok notices =
     (λ i. notices_of task.terms.settings.double_bounce task.terms.service task.request (sym queued i) (sym c.log.ensures i)) ∙ c.in_ok-notices.ensures in
-    subst (λ (asked : Task). IfOk c.letters_of.result (λ letters. AreLettersAsked asked (mail_read_in c.args.found.now) letters.items)) task_is
+    subst (λ (asked : Task). IfOk c.letters_of.result (λ letters. AreLettersAsked asked c.args.found.now letters.items)) task_is
     (ok_as c.letters_of.result _ _ c.letters_of.ensures.letters (λ letters are. record {
       records = records;
       ending = ending;
       listed = listing.lists;
-      notices = map notice_facts_in notices;
+      notices = notices;
       planned = planned;
-      each = letters_of_front c.fronts_show_headers.ensures (message_said task records) task.terms.moment task.terms.serial (map notice_facts_in notices) letters.items
-          (subst (λ (ns : List PlannedNotice). AreLettersOf (with_front (message_said task records)) task.terms.moment task.terms.serial (map notice_facts_in ns) letters.items) c.deref-6.ensures.value
-          (subst (λ (message : MessageSaid). AreLettersOf message task.terms.moment task.terms.serial (map notice_facts_in c.deref-6.result.now) letters.items)
+      each = letters_of_front c.fronts_show_headers.ensures (message_said task records) task.terms.moment task.terms.serial notices letters.items
+          (subst (λ (ns : List NoticeFacts). AreLettersOf (with_front (message_said task records)) task.terms.moment task.terms.serial ns letters.items) c.deref-3.ensures.value
+          (subst (λ (message : MessageSaid). AreLettersOf message task.terms.moment task.terms.serial c.deref-3.result.now letters.items)
           (λ i. record {
             queue_id = notice.queue_id;
             arrival = (facts i).arrival;
@@ -110,34 +108,34 @@ returns-clause-none c =
     })
     ∙ (λ i. record { terms = c.terms.view_is i; request = c.task.inside.request.now; notice = c.task.inside.notice.now })
     ∙ c.task.view_is in
-    let file : List ℕ = c.args.found.now.file.items in
+    let file : List ℕ = c.args.found.now.file in
     let listing = c.queue_files_have_one_list.ensures file in
     let records = listing.records in
     let ending = listing.ending in
     let come_from : (other : List ℕ) → other ≡ file → RecordsFrom other (first_place other) records ending =
     λ other is. subst (λ (f : List ℕ). RecordsFrom f (first_place f) records ending) (sym is) listing.lists in
-    let queued : map recipient_facts_in c.deref-5.result.now ≡ recipients_of records =
-    ap (map recipient_facts_in) c.deref-5.ensures.value ∙ c.in_ok-queued.ensures records ending (come_from _ c.deref.ensures.value) in
-    let text : c.deref-4.result.now ≡ take (front_size longest_header) (message_text records) =
-    c.deref-4.ensures.value ∙ c.in_ok-text.ensures records ending (come_from _ c.deref-2.ensures.value) in
-    let facts : message_facts_in c.facts_said-facts.result ≡ said_of_message records = c.facts_said-facts.ensures records ending (come_from _ c.deref-3.ensures.value) in
+    let queued : map recipient_facts_in c.deref-2.result.now ≡ recipients_of records =
+    ap (map recipient_facts_in) c.deref-2.ensures.value ∙ c.in_ok-queued.ensures records ending (come_from _ c.file-file.ensures) in
+    let text : c.deref.result.now ≡ take (front_size longest_header) (message_text records) =
+    c.deref.ensures.value ∙ c.in_ok-text.ensures records ending (come_from _ c.file-file.ensures) in
+    let facts : message_facts_in c.facts_said-facts.result ≡ said_of_message records = c.facts_said-facts.ensures records ending (come_from _ c.file-file.ensures) in
     let notice = task.notice in
     let sender : c.sender_said.result.now ≡ unwrap_or (said_of_message records).sender notice.sender =
     c.sender_said.ensures ∙ (λ i. unwrap_or (facts i).sender (c.bytes.ensures.same i)) in
-    let notices : List PlannedNotice = c.in_ok-notices.notices.items in
+    let notices : List NoticeFacts = c.in_ok-notices.notices.items in
     let said : MessageSaid = message_said task records in
-    let planned : notices_of task.terms.settings.double_bounce task.terms.service task.request (recipients_of records) (mail_read_in c.args.found.now).log ≡ Ok (map notice_facts_in notices) =
+    let planned : notices_of task.terms.settings.double_bounce task.terms.service task.request (recipients_of records) c.args.found.now.log ≡ Ok notices =
     (λ i. notices_of task.terms.settings.double_bounce task.terms.service task.request (sym queued i) (sym c.log.ensures i)) ∙ c.in_ok-notices.ensures in
-    subst (λ (asked : Task). IfErr c.letters_of.result (IsReason (CantBeSaid asked (mail_read_in c.args.found.now)))) task_is
+    subst (λ (asked : Task). IfErr c.letters_of.result (IsReason (CantBeSaid asked c.args.found.now))) task_is
     (err_as c.letters_of.result _ _ c.letters_of.ensures.none (λ why reason.
     reason_as _ _ why reason (λ fault. record {
       records = records;
       ending = ending;
       listed = listing.lists;
       unsaid = subst (λ (plan : Result (List NoticeFacts) CantSay). IsUnsaid said plan) (sym planned)
-          (any_fault_of_front c.fronts_show_headers.ensures said (map notice_facts_in notices)
-          (subst (λ (ns : List PlannedNotice). list_any (has_fault (with_front said)) (map notice_facts_in ns) ≡ true) c.deref-6.ensures.value
-          (subst (λ (message : MessageSaid). list_any (has_fault message) (map notice_facts_in c.deref-6.result.now) ≡ true)
+          (any_fault_of_front c.fronts_show_headers.ensures said notices
+          (subst (λ (ns : List NoticeFacts). list_any (has_fault (with_front said)) ns ≡ true) c.deref-3.ensures.value
+          (subst (λ (message : MessageSaid). list_any (has_fault message) c.deref-3.result.now ≡ true)
           (λ i. record {
             queue_id = notice.queue_id;
             arrival = (facts i).arrival;
@@ -175,19 +173,19 @@ returns-in_err-notices-clause-none c =
     })
     ∙ (λ i. record { terms = c.terms.view_is i; request = c.task.inside.request.now; notice = c.task.inside.notice.now })
     ∙ c.task.view_is in
-    let file : List ℕ = c.args.found.now.file.items in
+    let file : List ℕ = c.args.found.now.file in
     let listing = c.queue_files_have_one_list.ensures file in
     let records = listing.records in
     let ending = listing.ending in
     let come_from : (other : List ℕ) → other ≡ file → RecordsFrom other (first_place other) records ending =
     λ other is. subst (λ (f : List ℕ). RecordsFrom f (first_place f) records ending) (sym is) listing.lists in
-    let queued : map recipient_facts_in c.deref-5.result.now ≡ recipients_of records =
-    ap (map recipient_facts_in) c.deref-5.ensures.value ∙ c.in_ok-queued.ensures records ending (come_from _ c.deref.ensures.value) in
-    let plan : Result (List NoticeFacts) CantSay = notices_of task.terms.settings.double_bounce task.terms.service task.request (map recipient_facts_in c.deref-5.result.now) (option_map (λ log. log.now) c.log.result) in
-    let plan_is : notices_of task.terms.settings.double_bounce task.terms.service task.request (recipients_of records) (mail_read_in c.args.found.now).log ≡ plan =
+    let queued : map recipient_facts_in c.deref-2.result.now ≡ recipients_of records =
+    ap (map recipient_facts_in) c.deref-2.ensures.value ∙ c.in_ok-queued.ensures records ending (come_from _ c.file-file.ensures) in
+    let plan : Result (List NoticeFacts) CantSay = notices_of task.terms.settings.double_bounce task.terms.service task.request (map recipient_facts_in c.deref-2.result.now) (option_map (λ log. log.now) c.log.result) in
+    let plan_is : notices_of task.terms.settings.double_bounce task.terms.service task.request (recipients_of records) c.args.found.now.log ≡ plan =
     λ i. notices_of task.terms.settings.double_bounce task.terms.service task.request (sym queued i) (sym c.log.ensures i) in
     rw (exit.1, exit.2) (plan_reason plan c.in_err-notices.field-0.0 c.in_err-notices.ensures (λ why is.
-    subst (λ (asked : Task). CantBeSaid asked (mail_read_in c.args.found.now)) task_is (record {
+    subst (λ (asked : Task). CantBeSaid asked c.args.found.now) task_is (record {
       records = records;
       ending = ending;
       listed = listing.lists;

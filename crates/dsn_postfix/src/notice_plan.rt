@@ -27,9 +27,13 @@ const TLS_REQUIRED: u32 = 16;
 fn option_lost(notice: &NoticeRequest<'_>) -> Option<CantSay>
     ensures { result ≡ option_lost notice.now }
 {
+    // Then bounce(8) makes a notice of another type (`message/global-delivery-status`). UTF-8 in
+    // the header alone (2) is no reason.
     if notice.needs_smtputf8() {
         return Some(CantSay::NeedsSmtputf8);
     }
+    // 16 (`TLS-Required: no`) and 32 (REQUIRETLS) would have to go with the notice; of others
+    // nothing is known.
     if notice.send_options >= TLS_REQUIRED {
         return Some(CantSay::SendOptions(notice.send_options));
     }

@@ -56,6 +56,8 @@ fn clean<M: MailSystem>(
     ensures { Gains M.deeds system.old system.new (Cleans terms.now.service request.now due) }
 {
     if due {
+        // Postfix's own service will have removed it by now; a log that isn't there counts as
+        // removed.
         let _ = system.remove_log(terms.service, queue_id_of(request));
     }
 }

@@ -70,6 +70,8 @@ pub(super) fn finish<M: MailSystem>(
         (FinishesAt task.now (option_map (λ log. log.now) log.entry) places.now result) }
 {
     let notice: &NoticeRequest<'_> = task.notice;
+    // If this fails, the log stays and the request is asked again: then its sender is notified twice.
+    // The other order could lose a notice.
     mark_all(notice, places, system)?;
     let due = is_removal_due(task.request, log);
     remove_if_due(task.service(), notice.queue_id, due, system)

@@ -21,6 +21,8 @@ fn tell<M: MailSystem>(alloc: Global, task: &NoticeTask<'_>, system: &mut M) -> 
     ensures { Gains M.deeds system.old system.new (Tells task.now result) }
 {
     let found = read_mail(alloc, task, system)?;
+    // All of them, and the list of who is marked: what can't be said, or has no memory, shows while
+    // nobody was notified. A letter's text is made in its turn.
     let made = make_letters(alloc, task, &found)?;
     hand_in_letters(alloc, task.site(), &made.letters, system)?;
     finish(task, found.log(), &made.places, system)
@@ -38,7 +40,11 @@ fn end_telling<M: MailSystem>(
     match telling {
         Ok(()) => Ok(CARRIED_OUT),
         Err(Untold::Failed) => Ok(NOT_CARRIED_OUT),
+        // Not put off: a request that fails is asked again, and one that always fails would stay in
+        // the queue. A server that refuses a notice for good mostly refuses it again, and bounce(8)
+        // submits its notices to cleanup(8).
         Err(Untold::PassedOn(why)) => Ok(pass_on(system, task.service(), bytes, why)),
+        // Not a status: so no body can give a request up untried and say that it failed.
         Err(Untold::NoMemory) => Err(NoMemory),
     }
 }

@@ -120,6 +120,7 @@ fn letters_of(
     let mut rest = notices;
     while let [notice, after @ ..] = rest {
         push_letter(alloc, &mut letters, message, notice, moment, serial)?;
+        // No two notices of one request have the same Message-ID.
         serial = serial.wrapping_add(1);
         rest = after;
     }

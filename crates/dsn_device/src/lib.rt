@@ -4,6 +4,7 @@
 #![tactic(auto)]
 
 mod broken;
+mod connection;
 mod drain;
 mod memory_drain;
 mod opaque_stream;
@@ -15,6 +16,7 @@ mod transfer;
 mod until_failure;
 
 pub use broken::Broken;
+pub use connection::Connection;
 pub use drain::Drain;
 pub use memory_drain::MemoryDrain;
 pub use opaque_stream::OpaqueStream;

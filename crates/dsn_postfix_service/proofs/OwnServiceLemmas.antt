@@ -6,7 +6,7 @@ use Rattle.dsn_device.specs.declared.drain.Drain
 use Rattle.dsn_device.specs.declared.source.Source
 use Rattle.dsn_postfix.specs.PostfixAnswer.{announcement_bytes, status_bytes}
 use Rattle.dsn_postfix_service.specs.clients.ListDialogue.{HearsList}
-use Rattle.dsn_postfix_service.specs.hand_in.Dialogue.{Says}
+use Rattle.dsn_smtp.specs.Dialogue.{Says}
 use Rattle.dsn_postfix_service.specs.queue_folder.OwnService.{AsksOwnService, HearsNoStatus}
 use Rattle.dsn_postfix_service.specs.queue_folder.OwnService.AsksOwnService.{answered, unanswered}
 use Rattle.dsn_postfix_service.specs.declared.requests.deed_fault.DeedFault.{DeedFault}

@@ -16,8 +16,8 @@ use Rattle.dsn_postfix.specs.declared.postfix_request.ReportedRecipient.{Reporte
 use Rattle.dsn_postfix.specs.files.LogRecord.{unsayable_field}
 use Rattle.dsn_postfix.specs.files.QueueRecord.{PlacedBytes}
 use Rattle.dsn_postfix_service.specs.declared.requests.deed_fault.DeedFault.TheVariants as fault
-use Rattle.dsn_postfix_service.specs.declared.hand_in.hand_in_fault.HandInFault.TheVariants.{Refused}
-use Rattle.dsn_postfix_service.specs.declared.hand_in.hand_in_step.HandInStep.TheVariants.{Recipient}
+use Rattle.dsn_smtp.specs.declared.hand_in_fault.HandInFault.TheVariants.{Refused}
+use Rattle.dsn_smtp.specs.declared.hand_in_step.HandInStep.TheVariants.{Recipient}
 use Rattle.dsn_postfix_service.specs.declared.requests.pass_reason.PassReason.{PassReason}
 use Rattle.dsn_postfix_service.specs.declared.requests.pass_reason.PassReason.TheVariants as reason
 use Rattle.dsn_postfix_service.specs.declared.requests.untold.Untold.TheVariants as untold

@@ -6,18 +6,12 @@
 
 mod clients;
 mod event_log;
-mod hand_in;
 mod letters;
-mod mail_server;
 mod queue_folder;
 mod requests;
 mod serving;
 
 pub use clients::{ClientFault, HeardClient, answer_client, hear_client, refuse_client};
-pub use hand_in::{
-    Connect, HandInFault, HandInStep, LONGEST_REPLY, Notice, ReplyBuffer, ReplyClass, ReplyCode,
-    ReplyFault, Session, greet, hand_in_notice, hand_in_over, leave, queue_id_in,
-};
 pub use letters::{LetterFault, ReportedMessage, letter_of_notice};
 pub use queue_folder::{
     FolderHashing, MOST_DEPTH, OtherDepth, PostfixPlace, QueueFault, ask_own_service,

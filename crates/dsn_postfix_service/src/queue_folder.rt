@@ -1,7 +1,6 @@
 //! The queue folder of a running Postfix as a mail system: its logs, its messages' files, its own
 //! services, and the mail server that notices are handed to.
 mod ascii_text;
-mod connection;
 mod folder_hashing;
 mod hashed_id;
 mod large_files;
@@ -18,7 +17,6 @@ mod queue_path;
 mod service_name;
 
 pub(crate) use ascii_text::{ascii_text, asked_text};
-pub(crate) use connection::Connection;
 pub use folder_hashing::FolderHashing;
 pub(crate) use large_files::LargeFiles;
 pub use own_service::ask_own_service;

@@ -3,9 +3,7 @@ use crate::assert_same::same;
 use crate::device::ALWAYS;
 use crate::postfix_service::server::{Server, host, path, refused_at};
 use dsn_outcome::{Plain, Stream};
-use dsn_postfix_service::{
-    HandInFault, HandInStep, ReplyBuffer, ReplyFault, greet, hand_in_notice, leave,
-};
+use dsn_smtp::{HandInFault, HandInStep, ReplyBuffer, ReplyFault, greet, hand_in_notice, leave};
 use dsn_text::{Address, MtaName};
 use std::alloc::{AllocGlobal, Global};
 use std::cell::RefCell;

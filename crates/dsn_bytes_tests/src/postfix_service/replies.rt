@@ -2,9 +2,7 @@
 use crate::assert_same::same;
 use crate::device::{ALWAYS, reader};
 use crate::texts::text_of_size;
-use dsn_postfix_service::{
-    LONGEST_REPLY, ReplyBuffer, ReplyClass, ReplyCode, ReplyFault, queue_id_in,
-};
+use dsn_smtp::{LONGEST_REPLY, ReplyBuffer, ReplyClass, ReplyCode, ReplyFault, queue_id_in};
 use std::alloc::AllocGlobal;
 use std::process::Abort;
 use std::test::Fail;

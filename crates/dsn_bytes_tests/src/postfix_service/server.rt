@@ -2,7 +2,7 @@
 ghost use Rattle.std.specs.Prelude.{refl};
 
 use dsn_outcome::{OpaqueStream, Plain};
-use dsn_postfix_service::{HandInFault, HandInStep, ReplyCode};
+use dsn_smtp::{HandInFault, HandInStep, ReplyCode};
 use dsn_text::{Address, MtaName};
 use std::alloc::Global;
 use std::cell::RefCell;

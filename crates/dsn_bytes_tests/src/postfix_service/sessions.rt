@@ -2,7 +2,7 @@
 use crate::assert_same::same;
 use crate::postfix_service::server::{Server, host, path, refused_at};
 use dsn_outcome::{Plain, Stream};
-use dsn_postfix_service::{
+use dsn_smtp::{
     Connect, HandInFault, HandInStep, Notice, ReplyBuffer, ReplyFault, Session, hand_in_over,
 };
 use dsn_text::{Address, MtaName};

@@ -7,7 +7,7 @@ use Rattle.dsn_postfix.specs.PostfixRequest.{IsRequestIn}
 use Rattle.dsn_postfix.specs.RequestReading.{postfix_request_at}
 use Rattle.dsn_postfix.specs.declared.postfix_request.PostfixRequest.{PostfixRequest}
 use Rattle.dsn_postfix.specs.declared.request_fault.RequestFault.{RequestFault}
-use Rattle.dsn_postfix_service.specs.hand_in.Dialogue.{FailsToSay, Says}
+use Rattle.dsn_smtp.specs.Dialogue.{FailsToSay, Says}
 use Rattle.dsn_postfix_service.specs.requests.AnsweredRequest.{IsAnswered}
 use Rattle.dsn_postfix_service.specs.requests.Deed.{Deed}
 use Rattle.dsn_postfix_service.specs.requests.Gains.{Gains}

@@ -7,7 +7,7 @@ use Rattle.dsn_postfix.specs.declared.list_fault.ListFault.{ListFault}
 use Rattle.dsn_postfix.specs.declared.list_fault.ListFault.TheVariants as list_fault
 use Rattle.dsn_postfix.specs.declared.request_fault.RequestFault.{RequestFault}
 use Rattle.dsn_postfix_service.specs.clients.ListDialogue.{HearsList, HearsNoList}
-use Rattle.dsn_postfix_service.specs.hand_in.Dialogue.{FailsToSay, Says}
+use Rattle.dsn_smtp.specs.Dialogue.{FailsToSay, Says}
 use Rattle.dsn_postfix_service.specs.declared.requests.deed_fault.DeedFault.{DeedFault}
 use Rattle.dsn_postfix_service.specs.declared.requests.deed_fault.DeedFault.TheVariants.{Failed, NoMemory}
 

@@ -3,9 +3,9 @@ use Rattle.std.specs.Prelude.{◌≡◌, ◌&&◌, ℕ, Bool, true, false, List,
 use Rattle.dsn_outcome.specs.Letter.{Letter}
 use Rattle.dsn_report.specs.Notice.{return_path_of}
 use Rattle.dsn_report.specs.Outbox.{mail_data}
-use Rattle.dsn_postfix_service.specs.hand_in.HandIn.{is_refused_for_good}
+use Rattle.dsn_smtp.specs.HandIn.{is_refused_for_good}
 use Rattle.dsn_postfix_service.specs.requests.Deed.{Deed, HandedIn}
-use Rattle.dsn_postfix_service.specs.declared.hand_in.hand_in_fault.HandInFault.{HandInFault}
+use Rattle.dsn_smtp.specs.declared.hand_in_fault.HandInFault.{HandInFault}
 use Rattle.dsn_postfix_service.specs.declared.requests.pass_reason.PassReason.TheVariants.{Refused}
 use Rattle.dsn_postfix_service.specs.declared.requests.untold.Untold.{Untold}
 use Rattle.dsn_postfix_service.specs.declared.requests.untold.Untold.TheVariants.{Failed, NoMemory, PassedOn}

@@ -8,7 +8,7 @@ use Rattle.dsn_postfix.specs.PostfixRequest.{IsRequestIn}
 use Rattle.dsn_postfix.specs.declared.postfix_request.AppendRequest.{AppendRequest}
 use Rattle.dsn_postfix.specs.declared.postfix_request.NoticeRequest.{NoticeRequest}
 use Rattle.dsn_postfix.specs.declared.postfix_request.PostfixRequest.{PostfixRequest}
-use Rattle.dsn_postfix_service.specs.hand_in.HandIn.{is_refused_for_good}
+use Rattle.dsn_smtp.specs.HandIn.{is_refused_for_good}
 use Rattle.dsn_postfix_service.specs.requests.AppendDeeds.{record_bytes}
 use Rattle.dsn_postfix_service.specs.requests.AnsweredRequest.{bounce_terms, first_flush, without_flags}
 use Rattle.dsn_postfix_service.specs.requests.CarriedOut.{IsCarriedOut, must_clean, queue_id_of}
@@ -19,7 +19,7 @@ use Rattle.dsn_postfix_service.specs.requests.MailFound.{MailRead, readings}
 use Rattle.dsn_postfix_service.specs.requests.RequestLetters.{AreLettersAsked, CantBeSaid, places_done}
 use Rattle.dsn_postfix_service.specs.requests.RequestStatus.{RequestAnswer, carried_out}
 use Rattle.dsn_postfix_service.specs.requests.Task.{Task}
-use Rattle.dsn_postfix_service.specs.declared.hand_in.hand_in_fault.HandInFault.{HandInFault}
+use Rattle.dsn_smtp.specs.declared.hand_in_fault.HandInFault.{HandInFault}
 
 -- ---- what was handed in
 

@@ -3,13 +3,13 @@
 ghost use Rattle.std.specs.Prelude.{IfErr, IfOk, OnOk};
 ghost use Rattle.dsn_postfix.specs.PostfixAnswer.{announcement_bytes};
 ghost use Rattle.dsn_postfix_service.specs.clients.HeardClient.{HearsClient, HearsNoClient, IsUnannounced};
-ghost use Rattle.dsn_postfix_service.specs.hand_in.Dialogue.{Says};
+ghost use Rattle.dsn_smtp.specs.Dialogue.{Says};
 
 use crate::clients::client_fault::ClientFault;
 use crate::clients::list_dialogue::hear_list;
-use crate::hand_in::say;
 use dsn_device::Stream;
 use dsn_postfix::encode_announcement;
+use dsn_smtp::say;
 use std::alloc::Global;
 
 /// One of Postfix's programs, whose list was heard. Nothing was done for it so far.

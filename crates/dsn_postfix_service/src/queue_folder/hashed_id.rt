@@ -4,7 +4,7 @@ ghost use Rattle.std.specs.Prelude.{◌≡◌, ◌==◌, ◌<◌, get_or, length
 ghost use Rattle.std.specs.List.{position_or_len};
 ghost use Rattle.dsn_postfix_service.specs.queue_folder.HashedId.{before_inode, folder_level, hexadecimal_digit, is_long, long_digit, long_number, microsecond_digits, number_or_zero, six_digits};
 
-use crate::hand_in::after_last_byte;
+use dsn_smtp::after_last_byte;
 
 /// The digits of the numbers in a long queue id: no vowels are among them.
 const DIGITS: &[u8] = b"0123456789BCDFGHJKLMNPQRSTVWXYZbcdfghjklmnpqrstvwxyz";

@@ -6,10 +6,10 @@ ghost use Rattle.dsn_postfix_service.specs.clients.ListDialogue.{HearsList};
 ghost use Rattle.dsn_postfix_service.specs.queue_folder.OwnService.{AsksOwnService, HearsNoAnnouncement, HearsNoStatus, deed_fault_of};
 
 use crate::clients::hear_list;
-use crate::hand_in::say;
 use crate::requests::DeedFault;
 use dsn_device::Stream;
 use dsn_postfix::{ListFault, decode_status};
+use dsn_smtp::say;
 use std::alloc::Global;
 
 /// The list with which each of Postfix's services begins.

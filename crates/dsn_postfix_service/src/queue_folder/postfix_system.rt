@@ -2,10 +2,7 @@
 ghost use Rattle.std.specs.Prelude.{None};
 
 use crate::event_log::EventLog;
-use crate::hand_in::{HandInFault, Notice, ReplyBuffer, queue_id_in};
-use crate::mail_server::{KeptSessions, MailServer};
 use crate::queue_folder::ascii_text::{ascii_text, asked_text};
-use crate::queue_folder::connection::Connection;
 use crate::queue_folder::large_files::LargeFiles;
 use crate::queue_folder::log_file::{
     append_synced, has_bytes, is_there, open_locked, open_or_make, read_whole, remove_if_there,
@@ -18,8 +15,9 @@ use crate::queue_folder::postfix_place::PostfixPlace;
 use crate::queue_folder::queue_files::{log_elsewhere, log_path, path_of};
 use crate::queue_folder::service_name::service_name;
 use crate::requests::{DeedFault, MailSystem, PassReason, queue_id_of};
-use dsn_device::Plain;
+use dsn_device::{Connection, Plain};
 use dsn_postfix::{PostfixRequest, QueueName};
+use dsn_smtp::{HandInFault, KeptSessions, MailServer, Notice, ReplyBuffer, queue_id_in};
 use dsn_text::{Address, QueueId, Service};
 use std::alloc::Global;
 use std::fmt::Display;
@@ -306,7 +304,7 @@ impl<W: Wait + Clock> MailSystem for PostfixSystem<'_, W> {
     ) -> Result<(), HandInFault> {
         let (rt, place): (&HostRuntime, &PostfixPlace<'_>) = (self.rt, self.place);
         let sessions: &KeptSessions = self.sessions;
-        let mut server = MailServer::new(rt, place);
+        let mut server = MailServer::new(rt, &place.hand_in, place.host);
         let handed = sessions.hand_in(self.waiting, &mut server, &Notice { path, message }, reply);
         if let Some(error) = &server.unconnected {
             self.say_error(place.hand_in, error);

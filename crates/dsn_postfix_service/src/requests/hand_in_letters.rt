@@ -4,12 +4,12 @@ ghost use Rattle.std.specs.Prelude.{◌≡◌};
 ghost use Rattle.dsn_postfix_service.specs.requests.Gains.{Gains};
 ghost use Rattle.dsn_postfix_service.specs.requests.HandingIn.{HandsInAll, HandsInOne, refusal_of};
 
-use crate::hand_in::{HandInFault, ReplyBuffer};
 use crate::requests::mail_system::MailSystem;
 use crate::requests::pass_reason::PassReason;
 use crate::requests::untold::Untold;
 use dsn_outcome::Letter;
 use dsn_report::{Site, mail_data};
+use dsn_smtp::{HandInFault, ReplyBuffer};
 use std::alloc::Global;
 
 /// Why a sender isn't told after a letter wasn't accepted. Only if the first letter of a request on

@@ -7,10 +7,10 @@ ghost use Rattle.std.specs.Option.{option_map};
 ghost use Rattle.dsn_postfix_service.specs.requests.Deed.{Appended, HandedIn, LogRead, LogReleased, LogRemoved, LogSought, MarkedDone, MessageRead, PassedOn, answer_as, reply_as};
 ghost use Rattle.dsn_postfix_service.specs.requests.Gains.{with_deeds};
 
-use crate::hand_in::{HandInFault, ReplyBuffer};
 use crate::requests::deed_fault::DeedFault;
 use crate::requests::pass_reason::PassReason;
 use dsn_postfix::{PostfixRequest, QueueName};
+use dsn_smtp::{HandInFault, ReplyBuffer};
 use dsn_text::{Address, QueueId, Service};
 use std::alloc::Global;
 

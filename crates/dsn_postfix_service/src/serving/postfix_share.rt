@@ -1,9 +1,9 @@
 //! What the threads that serve a Postfix share.
 use crate::event_log::EventLog;
-use crate::mail_server::KeptSessions;
 use crate::queue_folder::{LargeFiles, PostfixPlace};
 use crate::requests::ServiceSettings;
 use crate::serving::service_queue::ServiceQueue;
+use dsn_smtp::KeptSessions;
 use dsn_text::Service;
 use std::alloc::{AllocError, Global};
 use std::sync::atomic::{AtomicBool, AtomicU64, Ordering};

@@ -1,10 +1,9 @@
 //! The clients of a service that wait for one of the threads that make notices.
 //! Implements docs/FORMATS.md, "In front of Postfix".
 use crate::clients::HeardClient;
-use crate::queue_folder::Connection;
 use crate::serving::client_connection::ClientConnection;
 use crossbeam_channel::{Receiver, Sender, bounded};
-use dsn_device::Plain;
+use dsn_device::{Connection, Plain};
 use std::alloc::{AllocError, Global};
 use std::sync::Wait;
 use std::sync::atomic::{AtomicU32, Ordering};

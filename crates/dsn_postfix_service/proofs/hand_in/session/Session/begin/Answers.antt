@@ -1,5 +1,0 @@
-use Rattle.dsn_postfix_service.specs.hand_in.Session.{greeted}
-use Rattle.dsn_postfix_service.proofs.hand_in.session.Session.begin.Goals as goal
-
-pub invariant_of-result : goal.invariant_of-result
-invariant_of-result g c = greeted c.args.stream c.greet.new.stream c.args.host.now c.args.buffer.now c.greet.new.buffer c.in-Ok.ensures

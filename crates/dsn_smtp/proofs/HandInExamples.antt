@@ -1,0 +1,80 @@
+-- Worked examples of transactions: what is said and heard, and what comes of it.
+use Rattle.std.proofs.Common.{◌≡◌, ℕ, List, [], ◌∷◌, ◌++◌, Some, None, false, true, refl}
+use Rattle.std.specs.Prelude.{codes}
+use Rattle.dsn_smtp.specs.CommandLine.{hello_line, recipient_line}
+use Rattle.dsn_smtp.specs.Dialogue.{Turn, Heard, HeardNone, Said}
+use Rattle.dsn_smtp.specs.HandIn.{AsksAll, Greets, Leaves, commands_of, is_at_sender, may_be_taken}
+use Rattle.dsn_smtp.specs.Session.{GreetsAndAsks}
+use Rattle.dsn_smtp.specs.declared.hand_in_fault.HandInFault.TheVariants.{Refused, Unheard}
+use Rattle.dsn_smtp.specs.declared.hand_in_step.HandInStep.TheVariants.{Greeting, Sender, Recipient, Data, Message}
+use Rattle.dsn_smtp.specs.declared.reply_fault.ReplyFault.TheVariants.{Nothing, CutShort, Read}
+
+abbrev line : List ℕ → List ℕ
+line text = text ++ 13 ∷ 10 ∷ []
+
+hello : hello_line (codes "mail.example.net") ≡ line (codes "EHLO mail.example.net")
+hello = refl
+
+recipient : recipient_line (codes "ann@example.org") ≡ line (codes "RCPT TO:<ann@example.org>")
+recipient = refl
+
+abbrev message : List ℕ
+message = line (codes "Subject: no") ++ line (codes ".")
+
+abbrev heard : List ℕ → Turn
+heard code = Heard code (line code)
+
+-- a session begins, or the server has no service now
+begun : Greets (codes "a.example") (heard (codes "220") ∷ Said (line (codes "EHLO a.example")) ∷ heard (codes "250") ∷ []) None
+begun = (refl, (refl, refl))
+
+no_service : Greets (codes "a.example") (heard (codes "421") ∷ []) (Some (Refused Greeting (codes "421")))
+no_service = (refl, refl)
+
+abbrev to_recipient : List Turn
+to_recipient = Said (line (codes "MAIL FROM:<>")) ∷ heard (codes "250") ∷ Said (line (codes "RCPT TO:<b@c.example>")) ∷ []
+
+-- all four replies as they are wanted
+taken : AsksAll (commands_of (codes "b@c.example") message)
+    (to_recipient ++ heard (codes "250") ∷ Said (line (codes "DATA")) ∷ heard (codes "354") ∷ Said message ∷ heard (codes "250") ∷ []) None
+taken = (refl, (refl, (refl, (refl, (refl, refl)))))
+
+-- a recipient that is refused is the last turn
+refused : AsksAll (commands_of (codes "b@c.example") message) (to_recipient ++ heard (codes "550") ∷ []) (Some (Refused Recipient (codes "550")))
+refused = (refl, (refl, (refl, refl)))
+
+-- DATA that is answered by 250 is refused too
+not_to_go_on : AsksAll (commands_of (codes "b@c.example") message)
+    (to_recipient ++ heard (codes "250") ∷ Said (line (codes "DATA")) ∷ heard (codes "250") ∷ []) (Some (Refused Data (codes "250")))
+not_to_go_on = (refl, (refl, (refl, (refl, refl))))
+
+-- the reply to the message is cut short: it may be taken
+unheard : AsksAll (commands_of (codes "b@c.example") message)
+    (to_recipient ++ heard (codes "250") ∷ Said (line (codes "DATA")) ∷ heard (codes "354") ∷ Said message ∷ HeardNone CutShort ∷ []) (Some (Unheard Message CutShort))
+unheard = (refl, (refl, (refl, (refl, (refl, refl)))))
+
+may_be : may_be_taken (Unheard Message CutShort) ≡ true
+may_be = refl
+
+may_not : may_be_taken (Refused Message (codes "451")) ≡ false
+may_not = refl
+
+-- a whole dialogue, from the greeting to a recipient that is refused
+whole : GreetsAndAsks (codes "a.example") (commands_of (codes "b@c.example") message)
+    (heard (codes "220") ∷ Said (line (codes "EHLO a.example")) ∷ heard (codes "250") ∷ (to_recipient ++ heard (codes "550") ∷ []))
+    (Some (Refused Recipient (codes "550")))
+whole = (refl, (refl, (refl, (refl, refl))))
+
+-- a session that was kept is followed by a new one where it fails at MAIL, and at no other step
+gone : is_at_sender (Unheard Sender Nothing) ≡ true
+gone = refl
+
+past_sender : is_at_sender (Refused Recipient (codes "421")) ≡ false
+past_sender = refl
+
+-- QUIT after a refusal, and nothing after a device that failed
+quit : Leaves (Some (Refused Recipient (codes "550"))) (Said (line (codes "QUIT")) ∷ [])
+quit = (refl, refl)
+
+nothing : Leaves (Some (Unheard Message Read)) []
+nothing = refl

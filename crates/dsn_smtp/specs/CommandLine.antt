@@ -1,0 +1,33 @@
+-- The commands of one mail transaction (RFC 5321 section 4.1.1), each a line.
+use Rattle.std.specs.Prelude.{◌≡◌, ℕ, ◌≤◌, List, [], ◌∷◌, ◌++◌, length, codes}
+use Rattle.dsn_smtp.specs.Reply.{IsReplyText}
+
+-- the longest command line, in bytes, with its CRLF (RFC 5321 section 4.5.3.1.4)
+abbrev pub longest_command_line : ℕ
+longest_command_line = 512
+
+-- bytes that are one line: no CR and no LF stands before the CRLF at their end
+pub record IsCommandLine (bytes : List ℕ) : Type 0 where
+  pub text : List ℕ
+  pub one_line : IsReplyText text
+  pub is : bytes ≡ text ++ 13 ∷ 10 ∷ []
+  pub short : length bytes ≤ longest_command_line
+
+-- EHLO, with the client's own name (RFC 5321 section 4.1.1.1)
+abbrev pub hello_line : List ℕ → List ℕ
+hello_line host = codes "EHLO " ++ (host ++ 13 ∷ 10 ∷ [])
+
+-- MAIL, from the null sender (RFC 5321 sections 4.1.1.2 and 4.5.5)
+abbrev pub sender_line : List ℕ
+sender_line = codes "MAIL FROM:<>" ++ 13 ∷ 10 ∷ []
+
+-- RCPT, for one path (RFC 5321 section 4.1.1.3)
+abbrev pub recipient_line : List ℕ → List ℕ
+recipient_line path = codes "RCPT TO:<" ++ (path ++ 62 ∷ 13 ∷ 10 ∷ [])
+
+-- DATA and QUIT (RFC 5321 sections 4.1.1.4 and 4.1.1.10)
+abbrev pub data_line : List ℕ
+data_line = codes "DATA" ++ 13 ∷ 10 ∷ []
+
+abbrev pub quit_line : List ℕ
+quit_line = codes "QUIT" ++ 13 ∷ 10 ∷ []

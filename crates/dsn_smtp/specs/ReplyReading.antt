@@ -1,0 +1,74 @@
+-- Replies that are read from a device in pieces: what was read, and how reading ends. Of a device that doesn't tell its bytes
+-- it is said what the reply is, and not where it came from.
+use Rattle.std.specs.Prelude.{◌≡◌, ℕ, ◌+◌, ◌<◌, ◌≤◌, Bool, true, false, List, [], length, take, drop, Option, Result, Ok, Err}
+use Rattle.std.specs.Io.KnownBytes.{Consumes, IsAtEnd}
+use Rattle.dsn_smtp.specs.Reply.{HasFurtherBytes, HasNoReply, IsFrontOfReply, IsNoFrontOfReply, IsServerReply, longest_server_reply}
+use Rattle.dsn_smtp.specs.declared.reply_fault.ReplyFault.{ReplyFault}
+use Rattle.dsn_smtp.specs.declared.reply_fault.ReplyFault.TheVariants.{Nothing, CutShort, NoReply, TooLong, Trailing, Read}
+
+-- a reply that was read, and nothing after it
+pub record ReadsReply (old new : Option (List ℕ)) (code bytes : List ℕ) : Type 0 where
+  pub reply : IsServerReply code bytes
+  pub short : length bytes ≤ longest_server_reply
+  pub consumed : Consumes old new bytes
+
+-- bytes that are a part of a reply, its front, and not all of it
+pub record IsUnended (bytes : List ℕ) : Type 0 where
+  pub front : IsFrontOfReply bytes
+  pub none : HasNoReply bytes
+
+-- what a fault says of the bytes that were read before it
+abbrev pub StopsReply : ReplyFault → List ℕ → Type 0
+StopsReply Nothing part = part ≡ []
+StopsReply CutShort part = IsUnended part × (0 < length part)
+StopsReply NoReply part = IsNoFrontOfReply part × HasNoReply part
+StopsReply TooLong part = IsUnended part × (length part ≡ longest_server_reply)
+StopsReply Trailing part = HasFurtherBytes part
+StopsReply Read part = IsUnended part × (length part < longest_server_reply)
+
+-- the input's end is met where a reply isn't there or isn't whole
+abbrev pub EndsBeforeReply : ReplyFault → Option (List ℕ) → Type 0
+EndsBeforeReply Nothing new = IsAtEnd new
+EndsBeforeReply CutShort new = IsAtEnd new
+EndsBeforeReply NoReply new = Unit {0}
+EndsBeforeReply TooLong new = Unit {0}
+EndsBeforeReply Trailing new = Unit {0}
+EndsBeforeReply Read new = Unit {0}
+
+-- no reply could be read: these bytes were
+pub record ReadsNoReply (old new : Option (List ℕ)) (fault : ReplyFault) : Type 0 where
+  pub part : List ℕ
+  pub short : length part ≤ longest_server_reply
+  pub consumed : Consumes old new part
+  pub stops : StopsReply fault part
+  pub ends : EndsBeforeReply fault new
+
+-- no piece could be read after so many bytes
+abbrev pub StopsAtReplyPiece : ReplyFault → ℕ → Type 0
+StopsAtReplyPiece Nothing size = size ≡ 0
+StopsAtReplyPiece CutShort size = 0 < size
+StopsAtReplyPiece NoReply size = ⊥
+StopsAtReplyPiece TooLong size = ⊥
+StopsAtReplyPiece Trailing size = ⊥
+StopsAtReplyPiece Read size = Unit {0}
+
+pub record ReadsNoReplyPiece (old new : Option (List ℕ)) (size : ℕ) (fault : ReplyFault) : Type 0 where
+  pub consumed : Consumes old new []
+  pub stops : StopsAtReplyPiece fault size
+  pub ends : EndsBeforeReply fault new
+
+-- a piece that was read after so many bytes at the front of a buffer
+pub record ReadsReplyPiece (old new : Option (List ℕ)) (size : ℕ) (bytes : List ℕ) (count : ℕ) : Type 0 where
+  pub some : 0 < count
+  pub fits : size + count ≤ length bytes
+  pub consumed : Consumes old new (take count (drop size bytes))
+
+-- whether a result says that the device failed
+abbrev pub reply_device_failed : {T : Type 0} → Result T ReplyFault → Bool
+reply_device_failed (Ok value) = false
+reply_device_failed (Err Nothing) = false
+reply_device_failed (Err CutShort) = false
+reply_device_failed (Err NoReply) = false
+reply_device_failed (Err TooLong) = false
+reply_device_failed (Err Trailing) = false
+reply_device_failed (Err Read) = true

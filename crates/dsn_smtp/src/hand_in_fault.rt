@@ -1,0 +1,69 @@
+//! Why a notice wasn't handed in.
+ghost use Rattle.std.specs.Prelude.{◌≡◌};
+ghost use Rattle.dsn_smtp.specs.HandIn.{is_at_sender, is_broken, may_be_taken, is_refused_for_good};
+
+use crate::hand_in_step::HandInStep;
+use crate::reply_class::ReplyClass;
+use crate::reply_code::ReplyCode;
+use crate::reply_fault::ReplyFault;
+use thiserror::Error;
+
+/// Why a notice wasn't handed in: the first step that went wrong, and why.
+#[derive(Clone, Copy, Debug, PartialEq, Eq, Error)]
+pub enum HandInFault {
+    /// The reply at the step was of another class than is wanted.
+    #[error("refused")]
+    Refused(HandInStep, ReplyCode),
+    /// No reply could be heard at the step.
+    #[error("no reply was heard")]
+    Unheard(HandInStep, ReplyFault),
+    /// The device failed before the step's command was said whole.
+    #[error("a command was not said")]
+    Unsaid(HandInStep),
+}
+
+impl HandInFault {
+    /// Whether the server may have taken the message although this came in place of its acceptance (RFC 5321 section
+    /// 4.2.5): it was said, in whole or in part, and no refusal was heard.
+    pub fn may_be_taken(&self) -> bool
+        ensures { result ≡ may_be_taken self.now }
+    {
+        matches!(
+            self,
+            HandInFault::Unheard(HandInStep::Message, _) | HandInFault::Unsaid(HandInStep::Message)
+        )
+    }
+
+    /// Whether the server refused for good: by 5yz. Every other fault may be another one later.
+    pub fn is_refused_for_good(&self) -> bool
+        ensures { result ≡ is_refused_for_good self.now }
+    {
+        match self {
+            // At any step: the first digit alone counts.
+            HandInFault::Refused(_, code) => matches!(code.class(), ReplyClass::RefusedForGood),
+            HandInFault::Unheard(..) | HandInFault::Unsaid(_) => false,
+        }
+    }
+
+    /// Whether a transaction went wrong at its first command: nothing but MAIL was said in it, if that was.
+    pub fn is_at_sender(&self) -> bool
+        ensures { result ≡ is_at_sender self.now }
+    {
+        matches!(
+            self,
+            HandInFault::Refused(HandInStep::Sender, _)
+                | HandInFault::Unheard(HandInStep::Sender, _)
+                | HandInFault::Unsaid(HandInStep::Sender)
+        )
+    }
+
+    /// Whether the device failed, so that nothing more is said over it.
+    pub(crate) fn is_broken(&self) -> bool
+        ensures { result ≡ is_broken (Some self.now) }
+    {
+        matches!(
+            self,
+            HandInFault::Unsaid(_) | HandInFault::Unheard(_, ReplyFault::Read)
+        )
+    }
+}

@@ -1,0 +1,37 @@
+//! Handing notices to a mail server: a client of SMTP (RFC 5321) that waits for each reply.
+#![tactic(auto)]
+
+mod command;
+mod command_line;
+mod connect;
+mod dialogue;
+mod hand_in_fault;
+mod hand_in_step;
+mod kept_or_new;
+mod kept_sessions;
+mod mail_server;
+mod notice;
+mod queue_id_text;
+mod reply_buffer;
+mod reply_class;
+mod reply_code;
+mod reply_fault;
+mod reply_place;
+mod session;
+mod transaction;
+
+pub use connect::Connect;
+pub use dialogue::say;
+pub use hand_in_fault::HandInFault;
+pub use hand_in_step::HandInStep;
+pub use kept_or_new::hand_in_over;
+pub use kept_sessions::KeptSessions;
+pub use mail_server::MailServer;
+pub use notice::Notice;
+pub use queue_id_text::{after_last_byte, queue_id_in};
+pub use reply_buffer::{LONGEST_REPLY, ReplyBuffer};
+pub use reply_class::ReplyClass;
+pub use reply_code::ReplyCode;
+pub use reply_fault::ReplyFault;
+pub use session::Session;
+pub use transaction::{greet, hand_in_notice, leave};

@@ -1,0 +1,67 @@
+//! Connections to the mail server that notices are handed to.
+//! Implements RFC 5321 section 4.5.3.2 and docs/FORMATS.md, "A connection".
+use crate::connect::Connect;
+use crate::hand_in_fault::HandInFault;
+use crate::hand_in_step::HandInStep;
+use crate::reply_fault::ReplyFault;
+use dsn_device::{Connection, Plain};
+use dsn_text::MtaName;
+use std::io;
+use std::net::{SocketAddr, TcpStream};
+use std::time::Duration;
+
+/// For how many seconds is waited for a connection.
+const SECONDS_TO_CONNECT: u64 = 30;
+
+/// For how many seconds is waited for each piece of a reply, and for the server to take a piece: what
+/// RFC 5321 section 4.5.3.2 gives the reply to a message's end, the longest there.
+const SECONDS_FOR_PIECE: u64 = 600;
+
+/// A mail server that connections are made to.
+#[derive(Drop)]
+pub struct MailServer<'a> {
+    rt: &'a HostRuntime,
+    address: &'a SocketAddr,
+    /// The name by which it knows the client.
+    pub(crate) host: &'a MtaName,
+    /// Why the last connection could not be made, if it could not.
+    pub unconnected: Option<io::Error>,
+}
+
+impl<'a> MailServer<'a> {
+    /// The server at this address, which knows the client by this name.
+    pub fn new(rt: &'a HostRuntime, address: &'a SocketAddr, host: &'a MtaName) -> MailServer<'a> {
+        MailServer {
+            rt,
+            address,
+            host,
+            unconnected: None,
+        }
+    }
+}
+
+impl Connect<Plain<Connection<TcpStream>>> for MailServer<'_> {
+    ghost gives = { λ _ _ _. Unit {0} };
+
+    // If no connection could be made, that is a greeting that wasn't heard.
+    fn connect(&mut self) -> Result<Plain<Connection<TcpStream>>, HandInFault> {
+        match connect_with_limits(self.rt, self.address) {
+            Ok(stream) => Ok(Plain::new(Connection::new(stream))),
+            Err(error) => {
+                self.unconnected = Some(error);
+                Err(HandInFault::Unheard(HandInStep::Greeting, ReplyFault::Read))
+            }
+        }
+    }
+}
+
+/// Connects to an address, with time limits.
+fn connect_with_limits(rt: &HostRuntime, address: &SocketAddr) -> io::Result<TcpStream> {
+    let to_connect = Duration::from_secs(SECONDS_TO_CONNECT);
+    let for_piece = Duration::from_secs(SECONDS_FOR_PIECE);
+    let stream = TcpStream::connect_timeout(rt, address, to_connect)?;
+    stream.set_read_timeout(Some(for_piece))?;
+    stream.set_write_timeout(Some(for_piece))?;
+    stream.set_nodelay(true)?;
+    Ok(stream)
+}

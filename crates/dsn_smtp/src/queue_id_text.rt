@@ -1,0 +1,35 @@
+//! The queue id that a mail server tells with its acceptance.
+//! Implements docs/FORMATS.md, "Lines on standard error".
+ghost use Rattle.std.specs.Prelude.{◌≡◌, ◌==◌, ℕ, List, Some, IfSome};
+ghost use Rattle.std.specs.List.{after_last};
+ghost use Rattle.dsn_smtp.specs.QueueIdIn.{TellsQueueId};
+
+use dsn_text::QueueId;
+
+/// What stands before the queue id in the text of a reply, as Postfix writes it.
+const QUEUED_AS: &[u8] = b"queued as ";
+
+/// The queue id at the end of a reply's text, behind `queued as `, as Postfix writes it (`2.0.0 Ok: queued as 4F9D195432C`):
+/// 1 to 32 letters and digits. None where there is no such id, as with other mail servers.
+pub fn queue_id_in(text: &[u8]) -> Option<QueueId>
+    ensures found { IfSome result (λ id. TellsQueueId text.now id) }
+    ensures only { (id : List ℕ) → TellsQueueId text.now id → result ≡ Some id }
+{
+    let id = after_last_byte(text, b' ');
+    let before = &text[..text.len() - id.len()];
+    if !before.ends_with(QUEUED_AS) {
+        return None;
+    }
+    QueueId::new(id)
+}
+
+/// What stands after the last of these bytes, or all where there is none.
+pub fn after_last_byte(bytes: &[u8], byte: u8) -> &[u8]
+    ensures { result.now ≡ after_last (λ b. b == byte) bytes.now }
+{
+    let mut start = bytes.len();
+    while start > 0 && bytes[start - 1] != byte {
+        start -= 1;
+    }
+    &bytes[start..]
+}

@@ -1,0 +1,101 @@
+//! A session with a mail server that may be kept: it goes on as long as nothing goes wrong in it.
+//! Implements docs/FORMATS.md, "A connection".
+//! A connection, a greeting and EHLO for each notice would take more processor time than bounce(8),
+//! which writes straight to cleanup(8).
+ghost use Rattle.dsn_smtp.specs.HandIn.{AsksAll, Greets, commands_of};
+ghost use Rattle.dsn_smtp.specs.Session.{Continues, Ends, IsBegun};
+
+use crate::hand_in_fault::HandInFault;
+use crate::reply_buffer::ReplyBuffer;
+use crate::transaction::{greet, hand_in_notice, leave};
+use dsn_device::Stream;
+use dsn_text::{Address, MtaName};
+use std::marker::Model;
+
+/// In how many transactions a session is used at most: a server that is given another configuration obeys it
+/// only in new sessions.
+const MOST_USES: u32 = 100;
+
+/// A session that was begun, and in which nothing went wrong so far: a call in which something does ends it.
+#[derive(Drop)]
+pub struct Session<S: Stream> {
+    stream: S,
+    /// In how many transactions it was used.
+    uses: u32,
+}
+
+impl<S: Stream> Model for Session<S> {
+    ghost use Rattle.dsn_smtp.specs.Session.{IsBegun};
+
+    ghost Value = { S };
+
+    ghost view = { λ s. s.stream };
+
+    ghost invariant = { λ s. IsBegun S.Source S.Drain s.stream };
+}
+
+impl<S: Stream + Drop> Session<S> {
+    /// Begins a session over a new connection, as [`greet`] does. Where that goes wrong it is ended.
+    pub fn begin(
+        stream: S,
+        buffer: &mut ReplyBuffer,
+        host: &MtaName,
+    ) -> Result<Session<S>, HandInFault>
+        ensures { Continues S.Source S.Drain stream (Greets host.now) buffer.old buffer.new result }
+    {
+        let mut stream = stream;
+        match greet(&mut stream, buffer, host) {
+            Ok(()) => Ok(Session { stream, uses: 0 }),
+            Err(fault) => {
+                end_failed(stream, &fault);
+                Err(fault)
+            }
+        }
+    }
+
+    /// Hands in one notice, as [`hand_in_notice`] does. Where that goes wrong the session is ended.
+    pub fn hand_in(
+        self,
+        buffer: &mut ReplyBuffer,
+        path: &Address,
+        message: &[u8],
+    ) -> Result<Session<S>, HandInFault>
+        ensures over { Continues S.Source S.Drain self (AsksAll (commands_of path.now message.now))
+            buffer.old buffer.new result }
+        ensures begun { IsBegun S.Source S.Drain self }
+    {
+        let Session { mut stream, uses } = self;
+        let uses = uses.saturating_add(1);
+        match hand_in_notice(&mut stream, buffer, path, message) {
+            Ok(()) => Ok(Session { stream, uses }),
+            Err(fault) => {
+                end_failed(stream, &fault);
+                Err(fault)
+            }
+        }
+    }
+
+    /// Whether it may be used in one more transaction.
+    pub fn may_go_on(&self) -> bool {
+        self.uses < MOST_USES
+    }
+
+    /// Ends it: says QUIT, as [`leave`] does.
+    pub fn end(self)
+        ensures { Ends S.Source S.Drain self None }
+    {
+        let Session {
+            mut stream,
+            uses: _,
+        } = self;
+        leave(&mut stream, &Ok(()));
+    }
+}
+
+/// Ends the session over a stream, after this went wrong in it.
+fn end_failed<S: Stream + Drop>(stream: S, fault: &HandInFault)
+    ensures { Ends S.Source S.Drain stream (Some fault.now) }
+{
+    let mut stream = stream;
+    leave(&mut stream, &Err(*fault));
+}

@@ -1,8 +1,9 @@
 //! The letters of planned notices: what each field of a log's record becomes, and what can't be said.
 use crate::assert_same::same;
 use dsn_outcome::{DraftFault, Letter, OutcomeFault, QueueId, Service, Stamp};
-use dsn_postfix::{LogRecord, PlannedNotice, ReturnedPart};
-use dsn_postfix_service::{LetterFault, ReportedMessage, letter_of_notice};
+use dsn_postfix::{PlannedNotice, ReturnedPart};
+use dsn_postfix_files::LogRecord;
+use dsn_postfix_notices::{LetterFault, ReportedMessage, letter_of_notice};
 use dsn_report::{Site, notice};
 use std::alloc::{AllocGlobal, Global};
 use std::process::Abort;

@@ -1,7 +1,8 @@
 //! What a program of Postfix asks to log becomes a record of a log file, and a log file is read as its entries.
 use crate::assert_same::same;
 use crate::postfix_request::decoded;
-use dsn_postfix::{LogEntry, LogField, LogReader, PostfixRequest, logged_as};
+use dsn_postfix::{PostfixRequest, logged_as};
+use dsn_postfix_files::{LogEntry, LogField, LogReader};
 use dsn_text::Service;
 use std::alloc::{AllocGlobal, Global};
 use std::process::Abort;

@@ -4,10 +4,8 @@ use crate::postfix_request::{
     FLUSH_BOUNCE, FLUSH_DEFER, FLUSH_NULL, FLUSH_UTF8, NEWER_TLS, TRACE, VERP, WARN, decoded,
 };
 use crate::texts::{append_all, joined};
-use dsn_postfix::{
-    CantSay, LogRecord, PlanFault, PlannedNotice, QueuedRecipient, RecipientState, ReturnedPart,
-    plan_notices,
-};
+use dsn_postfix::{CantSay, PlanFault, PlannedNotice, ReturnedPart, plan_notices};
+use dsn_postfix_files::{LogRecord, QueuedRecipient, RecipientState};
 use dsn_text::Service;
 use std::alloc::{AllocError, AllocGlobal, Global};
 use std::process::Abort;

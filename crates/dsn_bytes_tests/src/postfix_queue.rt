@@ -1,6 +1,6 @@
 //! A queue file of Postfix says what a notice needs of its message and its recipients.
 use crate::assert_same::same;
-use dsn_postfix::{
+use dsn_postfix_files::{
     MessageFacts, QueueBroken, QueueReader, QueuedRecipient, RecipientState, header_of_message,
     text_of_message,
 };

@@ -4,7 +4,7 @@ use Rattle.std.specs.Cmp.Lexicographic.{pointwise}
 use Rattle.std.specs.Option.{option_map}
 use Rattle.std.proofs.Math.Dec.{eqb-suc-zero}
 use Rattle.dsn_postfix.specs.Attribute.{attribute_bytes, number_attribute, number_in, text_attribute, zero_ended_at}
-use Rattle.dsn_postfix.specs.files.ZeroFree.{IsZeroFree}
+use Rattle.dsn_postfix_files.specs.ZeroFree.{IsZeroFree}
 use Rattle.dsn_postfix.specs.RequestReading.{◌>>>◌, named, or_fault, tested, tested_at, attribute_at, value_number_at}
 use Rattle.dsn_postfix.specs.declared.request_fault.RequestFault.{RequestFault}
 use Rattle.dsn_postfix.specs.declared.request_fault.RequestFault.TheVariants.{Unended, Name, Number}

@@ -5,7 +5,7 @@ use Rattle.std.proofs.lemmas.Bool.{eqb-true}
 use Rattle.std.proofs.lemmas.List.{length-take}
 use Rattle.memchr.specs.Find.{NoneBefore, Nowhere, Passes, is_byte}
 use Rattle.dsn_postfix.specs.Attribute.{zero_ended_at}
-use Rattle.dsn_postfix.specs.files.ZeroFree.{IsZeroFree}
+use Rattle.dsn_postfix_files.specs.ZeroFree.{IsZeroFree}
 
 -- what stands after a first byte that isn't zero
 later : (byte : ℕ) (bytes : List ℕ) (j : ℕ) → Nowhere (Passes (is_byte 0) (byte ∷ bytes)) 0 (suc j) → Nowhere (Passes (is_byte 0) bytes) 0 j

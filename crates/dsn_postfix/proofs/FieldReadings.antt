@@ -5,7 +5,7 @@ use Rattle.std.specs.List.{flat_map, list_all}
 use Rattle.std.proofs.Math.Dec.{eqb-suc-zero}
 use Rattle.dsn_text.specs.Text.{is_letter_or_digit, is_queue_id, is_text}
 use Rattle.dsn_postfix.specs.Attribute.{Attribute, attribute_bytes, number_attribute, number_limit, offset_limit, text_attribute}
-use Rattle.dsn_postfix.specs.files.ZeroFree.{IsZeroFree}
+use Rattle.dsn_postfix_files.specs.ZeroFree.{IsZeroFree}
 use Rattle.dsn_postfix.specs.AttributeValues.{is_queue_name}
 use Rattle.dsn_postfix.specs.PostfixRequest.{FitsNotice, FitsRecipient, FitsReport, notice_attributes, recipient_attributes, report_attributes, send_options_name}
 use Rattle.dsn_postfix.specs.RequestReading.{◌>>>◌, is_sendopts_next, notice_request_at, recipient_at, report_at, tested_at, attribute_at, value_number_at}

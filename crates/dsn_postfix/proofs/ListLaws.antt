@@ -5,7 +5,7 @@ use Rattle.std.specs.Option.{option_map}
 use Rattle.std.proofs.Math.Dec.{eqb-suc-zero}
 use Rattle.std.proofs.lemmas.List.{append-nil, length-append}
 use Rattle.dsn_postfix.specs.Attribute.{Attribute, BeginsWithList, IsAttribute, attribute_bytes, attributes_after, attributes_at, text_attribute}
-use Rattle.dsn_postfix.specs.files.ZeroFree.{IsZeroFree}
+use Rattle.dsn_postfix_files.specs.ZeroFree.{IsZeroFree}
 
 abbrev Read : Type 0
 Read = Option (List Attribute × List ℕ)

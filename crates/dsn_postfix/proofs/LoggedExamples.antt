@@ -5,12 +5,12 @@ use Rattle.std.proofs.Common.{◌≡◌, ℕ, true, false, List, [], ◌∷◌, 
 use Rattle.std.specs.Fmt.{digits}
 use Rattle.dsn_text.specs.declared.service.Service.TheVariants.{Bounce, Defer, Trace}
 use Rattle.dsn_postfix.specs.Attribute.{attribute_bytes, number_in}
-use Rattle.dsn_postfix.specs.files.LogRecord.{logged_bytes, said_of_recipient, said_of_delivery, unsayable_field}
+use Rattle.dsn_postfix_files.specs.LogRecord.{logged_bytes, said_of_recipient, said_of_delivery, unsayable_field}
 use Rattle.dsn_postfix.specs.LoggedAppend.{logged_as, logged_of, unlogged_field, unlogged_of}
 use Rattle.dsn_postfix.specs.PostfixRequest.{postfix_request_bytes}
 use Rattle.dsn_postfix.specs.QuotedAddress.{local_part, needs_no_quotes}
 use Rattle.dsn_postfix.specs.RequestReading.{append_only_at, append_request_at, own_request_at, postfix_request_at, recipient_at, report_at, tested_at, attribute_at, value_number_at}
-use Rattle.dsn_postfix.specs.declared.files.log_field.LogField.TheVariants.{OriginalRecipient, Reason, Recipient}
+use Rattle.dsn_postfix_files.specs.declared.log_field.LogField.TheVariants.{OriginalRecipient, Reason, Recipient}
 use Rattle.dsn_postfix.specs.declared.postfix_request.AppendRequest.{AppendRequest}
 use Rattle.dsn_postfix.specs.declared.postfix_request.DeliveryReport.{DeliveryReport}
 use Rattle.dsn_postfix.specs.declared.postfix_request.PostfixRequest.TheVariants.{Append}

@@ -2,21 +2,21 @@
 use Rattle.std.proofs.Common.{◌≡◌, ℕ, false, List, [], ◌∷◌, codes, refl, Ok, Err, Some, None}
 use Rattle.dsn_text.specs.declared.service.Service.{Service}
 use Rattle.dsn_text.specs.declared.service.Service.TheVariants.{Bounce, Defer, Trace as TraceLog}
-use Rattle.dsn_postfix.specs.files.LogFile.{DamagedLog, SaidLog, are_whole, entry_at, is_said_line}
-use Rattle.dsn_postfix.specs.files.LogRecord.{LoggedFields, fields_of_lines, unsayable_field}
+use Rattle.dsn_postfix_files.specs.LogFile.{DamagedLog, SaidLog, are_whole, entry_at, is_said_line}
+use Rattle.dsn_postfix_files.specs.LogRecord.{LoggedFields, fields_of_lines, unsayable_field}
 use Rattle.dsn_postfix.specs.LoggedAppend.{logged_of, unlogged_of}
 use Rattle.dsn_postfix.specs.NoticePlan.{notices_of, notices_telling, notices_with, portions, told_of, whole_records, with_action}
 use Rattle.dsn_postfix.specs.PlannedNotice.{NoticeFacts}
-use Rattle.dsn_postfix.specs.files.QueueRecipients.{RecipientFacts}
+use Rattle.dsn_postfix_files.specs.QueueRecipients.{RecipientFacts}
 use Rattle.dsn_postfix.specs.QuotedAddress.{needs_no_quotes}
 use Rattle.dsn_postfix.specs.declared.cant_say.CantSay.TheVariants.{DamagedPart, NeedsSmtputf8, NoLog, SendOptions, UnknownAction, Unlogged}
-use Rattle.dsn_postfix.specs.declared.files.log_field.LogField.TheVariants.{Recipient}
+use Rattle.dsn_postfix_files.specs.declared.log_field.LogField.TheVariants.{Recipient}
 use Rattle.dsn_postfix.specs.declared.postfix_request.DeliveryReport.{DeliveryReport}
 use Rattle.dsn_postfix.specs.declared.postfix_request.NoticeRequest.{NoticeRequest}
 use Rattle.dsn_postfix.specs.declared.postfix_request.PostfixRequest.TheVariants.{Flush, One, Trace, Verp, Warn}
 use Rattle.dsn_postfix.specs.declared.postfix_request.ReportedRecipient.{ReportedRecipient}
-use Rattle.dsn_postfix.specs.declared.files.recipient_state.RecipientState.{RecipientState}
-use Rattle.dsn_postfix.specs.declared.files.recipient_state.RecipientState.TheVariants.{Done, Removed, Waiting}
+use Rattle.dsn_postfix_files.specs.declared.recipient_state.RecipientState.{RecipientState}
+use Rattle.dsn_postfix_files.specs.declared.recipient_state.RecipientState.TheVariants.{Done, Removed, Waiting}
 use Rattle.dsn_postfix.specs.declared.returned_part.ReturnedPart.{ReturnedPart}
 use Rattle.dsn_postfix.specs.declared.returned_part.ReturnedPart.TheVariants.{Header, Whole}
 

@@ -8,10 +8,10 @@ use Rattle.std.proofs.lemmas.Bool.{and_parts, eqb-true}
 use Rattle.std.proofs.lemmas.Cmp.{nat_eq_equiv}
 use Rattle.std.proofs.lemmas.List.{length-drop, length-take, take-append-drop}
 use Rattle.dsn_text.specs.declared.service.Service.{Service}
-use Rattle.dsn_postfix.specs.files.LogRecord.{LoggedFields}
+use Rattle.dsn_postfix_files.specs.LogRecord.{LoggedFields}
 use Rattle.dsn_postfix.specs.NoticePlan.{HasEachOnce, IsToldBy, TellEachOnce, TellsOfSome, has_known_action, is_same_outcome, last_of_each, most_told, notice_about, notices_with, outcomes_of, portions, portions_within, says_same, told_of, wanted_of}
 use Rattle.dsn_postfix.specs.PlannedNotice.{NoticeFacts}
-use Rattle.dsn_postfix.specs.files.QueueRecipients.{RecipientFacts}
+use Rattle.dsn_postfix_files.specs.QueueRecipients.{RecipientFacts}
 use Rattle.dsn_postfix.specs.declared.cant_say.CantSay.{CantSay}
 use Rattle.dsn_postfix.specs.declared.cant_say.CantSay.TheVariants.{UnknownAction}
 use Rattle.dsn_postfix.specs.declared.postfix_request.NoticeRequest.{NoticeRequest}

@@ -1,10 +1,10 @@
 -- Records of a log one after another, and portions of a list.
 use Rattle.std.proofs.Common.{◌≡◌, ◌<◌, ◌≤◌, ◌∙◌, ℕ, zero, suc, List, [], ◌∷◌, ◌++◌, take, drop, length, map, Result, Ok, Err, refl, sym, ap, subst, append_assoc, arith}
 use Rattle.std.proofs.lemmas.List.{drop-map, length-drop, length-map, map-append, take-map}
-use Rattle.dsn_postfix.specs.files.LogRecord.{LoggedFields, logged_fields_in}
+use Rattle.dsn_postfix_files.specs.LogRecord.{LoggedFields, logged_fields_in}
 use Rattle.dsn_postfix.specs.NoticePlan.{onto_records, portions, portions_within}
 use Rattle.dsn_postfix.specs.PlannedNotice.{NoticeFacts}
-use Rattle.dsn_postfix.specs.declared.files.log_record.LogRecord.{LogRecord}
+use Rattle.dsn_postfix_files.specs.declared.log_record.LogRecord.{LogRecord}
 use Rattle.dsn_postfix.specs.declared.cant_say.CantSay.{CantSay}
 
 -- records, and those that come after them

@@ -8,7 +8,7 @@ use Rattle.std.proofs.lemmas.Bool.{ltb-true, lt-ltb}
 use Rattle.std.proofs.lemmas.Fmt.{decimal_is_IsNumeral}
 use Rattle.std.proofs.lemmas.Slice.Eq.{slice_eq-Decides}
 use Rattle.dsn_postfix.specs.Attribute.{number_in}
-use Rattle.dsn_postfix.specs.files.ZeroFree.{IsZeroFree}
+use Rattle.dsn_postfix_files.specs.ZeroFree.{IsZeroFree}
 
 -- texts that are compared byte for byte
 pub same_bytes : (xs ys : List ℕ) → pointwise ◌==◌ xs ys ≡ true → xs ≡ ys

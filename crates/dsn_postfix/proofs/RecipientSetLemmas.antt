@@ -11,10 +11,10 @@ use Rattle.std.specs.declared.cmp.Ordering.{Ordering}
 use Rattle.std.specs.declared.cmp.Ordering.TheVariants.{Less, Equal, Greater}
 use Rattle.std.proofs.lemmas.Cmp.{nat_eq_equiv, nat_list_eq_equiv}
 use Rattle.std.proofs.lemmas.Map.Text.{is_eq-slice_cmp}
-use Rattle.dsn_postfix.specs.files.LogRecord.{LoggedFields, logged_fields_in}
+use Rattle.dsn_postfix_files.specs.LogRecord.{LoggedFields, logged_fields_in}
 use Rattle.dsn_postfix.specs.NoticePlan.{is_same_outcome}
 use Rattle.dsn_postfix.specs.RecipientSet.{HasOutcomes, OutcomeKey, is_of_outcome, outcome_cmp}
-use Rattle.dsn_postfix.specs.declared.files.log_record.LogRecord.{LogRecord}
+use Rattle.dsn_postfix_files.specs.declared.log_record.LogRecord.{LogRecord}
 
 -- without a place no other record is of the outcome
 pub no-place : (one : LoggedFields) (later : List LoggedFields) → one.offset ≡ 0 → list_any (is_same_outcome one) later ≡ false

@@ -3,7 +3,7 @@ use Rattle.std.proofs.Common.{◌≡◌, ℕ, zero, suc, ◌<◌, Bool, List, []
 use Rattle.std.specs.Prelude.{codes}
 use Rattle.dsn_text.specs.Text.{is_queue_id}
 use Rattle.dsn_postfix.specs.Attribute.{Attribute, attribute_bytes, number_attribute, number_limit, text_attribute}
-use Rattle.dsn_postfix.specs.files.ZeroFree.{is_zero_free}
+use Rattle.dsn_postfix_files.specs.ZeroFree.{is_zero_free}
 use Rattle.dsn_postfix.specs.AttributeValues.{are_delimiters}
 use Rattle.dsn_postfix.specs.PostfixRequest.{FitsAppendRequest, FitsNotice, FitsRecipient, IsPostfixRequest, IsRequestIn, append_attributes, command_number, notice_attributes, own_attributes, postfix_request_bytes, recipient_attributes, report_attributes}
 use Rattle.dsn_postfix.specs.RequestReading.{append_only_at, append_request_at, end_at, notice_at, notice_request_at, one_at, own_request_at, postfix_request_at, recipient_at, report_at, tested_at, value_number_at, verp_at}

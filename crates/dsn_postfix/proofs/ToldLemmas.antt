@@ -5,11 +5,11 @@ use Rattle.std.specs.List.{list_any}
 use Rattle.std.specs.BTreeSet.{BTreeSet}
 use Rattle.std.proofs.lemmas.List.{drop_more, map-append, reverse-append}
 use Rattle.dsn_text.specs.declared.service.Service.{Service}
-use Rattle.dsn_postfix.specs.files.LogRecord.{LoggedFields, logged_fields_in}
+use Rattle.dsn_postfix_files.specs.LogRecord.{LoggedFields, logged_fields_in}
 use Rattle.dsn_postfix.specs.NoticePlan.{is_same_outcome, is_wanted, last_of_each, told_as, wanted_of}
-use Rattle.dsn_postfix.specs.files.QueueRecipients.{RecipientFacts}
+use Rattle.dsn_postfix_files.specs.QueueRecipients.{RecipientFacts}
 use Rattle.dsn_postfix.specs.RecipientSet.{HasOutcomes, OutcomeKey}
-use Rattle.dsn_postfix.specs.declared.files.log_record.LogRecord.{LogRecord}
+use Rattle.dsn_postfix_files.specs.declared.log_record.LogRecord.{LogRecord}
 use Rattle.dsn_postfix.specs.declared.postfix_request.PostfixRequest.{PostfixRequest}
 
 -- the last of the records that are left, and those after it

@@ -1,7 +1,7 @@
 -- Worked examples of a return path that has its recipient in it, each computed.
 use Rattle.std.proofs.Common.{◌≡◌, ℕ, List, [], ◌∷◌, codes, refl, Option, Some, None}
 use Rattle.dsn_text.specs.declared.service.Service.TheVariants.{Bounce}
-use Rattle.dsn_postfix.specs.files.LogRecord.{LoggedFields}
+use Rattle.dsn_postfix_files.specs.LogRecord.{LoggedFields}
 use Rattle.dsn_postfix.specs.PlannedNotice.{NoticeFacts}
 use Rattle.dsn_postfix.specs.VerpPath.{notice_address, verp_path}
 use Rattle.dsn_postfix.specs.declared.returned_part.ReturnedPart.TheVariants.{Whole}

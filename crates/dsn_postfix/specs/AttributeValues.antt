@@ -1,7 +1,7 @@
 -- The values of attributes that have a form of their own.
 use Rattle.std.specs.Prelude.{ℕ, ◌==◌, Bool, ◌&&◌, List, length, IsTrue}
 use Rattle.dsn_text.specs.Text.{is_letter_or_digit, is_text}
-use Rattle.dsn_postfix.specs.files.ZeroFree.{is_zero_free}
+use Rattle.dsn_postfix_files.specs.ZeroFree.{is_zero_free}
 
 -- the longest name of a queue, in bytes
 abbrev pub longest_queue_name : ℕ

@@ -1,6 +1,7 @@
 pub mod Attribute
 pub mod AttributeValues
 pub mod ListBuffer
+pub mod ListDialogue
 pub mod ListPlace
 pub mod LoggedAppend
 pub mod NoticePlan
@@ -13,4 +14,3 @@ pub mod RequestFlags
 pub mod RequestReading
 pub mod VerpPath
 pub mod Wanted
-pub mod files

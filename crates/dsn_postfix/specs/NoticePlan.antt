@@ -5,23 +5,23 @@ use Rattle.std.specs.List.{AllByRecursion, filter, flat_map, list_all, list_any}
 use Rattle.std.specs.Str.{bytes_eq}
 use Rattle.dsn_text.specs.declared.service.Service.{Service}
 use Rattle.dsn_text.specs.declared.service.Service.TheVariants.{Bounce, Defer, Trace as TraceLog}
-use Rattle.dsn_postfix.specs.files.LogFile.{DamagedLog, LoggedEntry, SaidLog, log_entries}
-use Rattle.dsn_postfix.specs.files.LogRecord.{LoggedFields}
+use Rattle.dsn_postfix_files.specs.LogFile.{DamagedLog, LoggedEntry, SaidLog, log_entries}
+use Rattle.dsn_postfix_files.specs.LogRecord.{LoggedFields}
 use Rattle.dsn_postfix.specs.LoggedAppend.{logged_of, unlogged_of}
 use Rattle.dsn_postfix.specs.PlannedNotice.{NoticeFacts}
-use Rattle.dsn_postfix.specs.files.QueueRecipients.{RecipientFacts}
+use Rattle.dsn_postfix_files.specs.QueueRecipients.{RecipientFacts}
 use Rattle.dsn_postfix.specs.RequestFlags.{needs_smtputf8}
 use Rattle.dsn_postfix.specs.Wanted.{is_no_sender, wants}
 use Rattle.dsn_postfix.specs.declared.cant_say.CantSay.{CantSay}
 use Rattle.dsn_postfix.specs.declared.cant_say.CantSay.TheVariants.{NoLog, DamagedPart, NeedsSmtputf8, SendOptions, Unlogged, UnknownAction}
-use Rattle.dsn_postfix.specs.declared.files.log_field.LogField.{LogField}
+use Rattle.dsn_postfix_files.specs.declared.log_field.LogField.{LogField}
 use Rattle.dsn_postfix.specs.declared.plan_fault.PlanFault.{PlanFault}
 use Rattle.dsn_postfix.specs.declared.plan_fault.PlanFault.TheVariants.{NoMemory, Unsaid}
 use Rattle.dsn_postfix.specs.declared.postfix_request.NoticeRequest.{NoticeRequest}
 use Rattle.dsn_postfix.specs.declared.postfix_request.PostfixRequest.{PostfixRequest}
 use Rattle.dsn_postfix.specs.declared.postfix_request.PostfixRequest.TheVariants.{Append, Flush, Warn, Verp, One, Trace}
-use Rattle.dsn_postfix.specs.declared.files.recipient_state.RecipientState.{RecipientState}
-use Rattle.dsn_postfix.specs.declared.files.recipient_state.RecipientState.TheVariants.{Waiting, Done, Removed}
+use Rattle.dsn_postfix_files.specs.declared.recipient_state.RecipientState.{RecipientState}
+use Rattle.dsn_postfix_files.specs.declared.recipient_state.RecipientState.TheVariants.{Waiting, Done, Removed}
 use Rattle.dsn_postfix.specs.declared.returned_part.ReturnedPart.{ReturnedPart}
 use Rattle.dsn_postfix.specs.declared.returned_part.ReturnedPart.TheVariants.{Whole, Header}
 

@@ -1,7 +1,7 @@
 -- A notice that is to be made: to whom it goes, what it gives back of the message, and of whom it tells.
 use Rattle.std.specs.Prelude.{ℕ, List, Option}
 use Rattle.dsn_text.specs.declared.service.Service.{Service}
-use Rattle.dsn_postfix.specs.files.LogRecord.{LoggedFields}
+use Rattle.dsn_postfix_files.specs.LogRecord.{LoggedFields}
 use Rattle.dsn_postfix.specs.declared.returned_part.ReturnedPart.{ReturnedPart}
 
 -- delimiters are there where the recipient stands in the address to which the notice goes

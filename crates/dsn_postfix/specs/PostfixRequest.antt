@@ -2,7 +2,7 @@
 use Rattle.std.specs.Prelude.{◌≡◌, ℕ, ◌<◌, Bool, true, false, List, [], ◌∷◌, ◌++◌, codes}
 use Rattle.dsn_text.specs.Text.{IsQueueId}
 use Rattle.dsn_postfix.specs.Attribute.{Attribute, list_bytes, number_attribute, number_limit, offset_limit, text_attribute}
-use Rattle.dsn_postfix.specs.files.ZeroFree.{IsZeroFree}
+use Rattle.dsn_postfix_files.specs.ZeroFree.{IsZeroFree}
 use Rattle.dsn_postfix.specs.AttributeValues.{AreDelimiters, IsQueueName}
 use Rattle.dsn_postfix.specs.declared.postfix_request.AppendRequest.{AppendRequest}
 use Rattle.dsn_postfix.specs.declared.postfix_request.DeliveryReport.{DeliveryReport}

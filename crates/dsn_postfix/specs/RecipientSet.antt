@@ -9,9 +9,9 @@ use Rattle.std.specs.Ordering.{nat_cmp, ordering_then}
 use Rattle.std.specs.declared.cmp.Ordering.{Ordering}
 use Rattle.std.specs.Str.{bytes_eq}
 use Rattle.dsn_text.specs.declared.service.Service.{Service}
-use Rattle.dsn_postfix.specs.files.LogRecord.{LoggedFields}
+use Rattle.dsn_postfix_files.specs.LogRecord.{LoggedFields}
 use Rattle.dsn_postfix.specs.NoticePlan.{is_past}
-use Rattle.dsn_postfix.specs.files.QueueRecipients.{RecipientFacts}
+use Rattle.dsn_postfix_files.specs.QueueRecipients.{RecipientFacts}
 
 -- by what an outcome is known again: a recipient's place in the queue file and its address, the status, the action and
 -- the reason

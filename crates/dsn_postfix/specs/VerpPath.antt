@@ -1,7 +1,7 @@
 -- The address of a notice that has its recipient in it (variable envelope return paths).
 use Rattle.std.specs.Prelude.{ℕ, ◌-◌, List, [], ◌∷◌, ◌++◌, length, drop, Option, Some, None, ◌==◌, if◌then◌else◌}
 use Rattle.std.specs.List.{suffix_len}
-use Rattle.dsn_postfix.specs.files.LogRecord.{LoggedFields, full_text_or}
+use Rattle.dsn_postfix_files.specs.LogRecord.{LoggedFields, full_text_or}
 use Rattle.dsn_postfix.specs.PlannedNotice.{NoticeFacts}
 use Rattle.dsn_postfix.specs.QuotedAddress.{is_no_at, local_part}
 

@@ -2,9 +2,9 @@
 //! Implements docs/FORMATS.md, "What Postfix's programs send".
 ghost use Rattle.std.specs.Prelude.{◌≡◌, ◌↔◌, ◌+◌, ◌<◌, drop, length, IsSome, IfSome, MatchOption};
 ghost use Rattle.dsn_postfix.specs.Attribute.{zero_ended_at};
-ghost use Rattle.dsn_postfix.specs.files.ZeroFree.{IsZeroFree, is_zero_free};
+ghost use Rattle.dsn_postfix_files.specs.ZeroFree.{IsZeroFree, is_zero_free};
 
-use crate::files::is_zero_free;
+use dsn_postfix_files::is_zero_free;
 use memchr::memchr;
 use std::marker::Model;
 
@@ -16,7 +16,7 @@ pub struct AttributeText<'a> {
 
 impl<'a> Model for AttributeText<'a> {
     ghost use Rattle.std.specs.Prelude.{ℕ, List};
-    ghost use Rattle.dsn_postfix.specs.files.ZeroFree.{IsZeroFree};
+    ghost use Rattle.dsn_postfix_files.specs.ZeroFree.{IsZeroFree};
 
     ghost Value = { List ℕ };
 

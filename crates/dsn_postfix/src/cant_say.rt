@@ -1,6 +1,6 @@
 //! Why no notice can be made of a log, so that Postfix's own service has to make it.
 //! Implements docs/FORMATS.md, "The notice of a Postfix log".
-use crate::files::LogField;
+use dsn_postfix_files::LogField;
 use thiserror::Error;
 
 /// Why the notices of a request can't be said.

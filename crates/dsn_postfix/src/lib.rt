@@ -1,5 +1,5 @@
-//! What Postfix keeps of a message, and what its programs ask of bounce(8), as lists of attributes, and what comes of
-//! it: the record of a log that an append becomes, and the notices that a request for notices wants.
+//! What Postfix's programs ask of bounce(8), as lists of attributes: the record of a log that an append
+//! becomes, and the notices that a request for notices wants.
 #![tactic(auto)]
 
 mod attribute_reader;
@@ -8,9 +8,9 @@ mod attribute_writer;
 mod cant_say;
 mod decode;
 mod encode;
-mod files;
 mod laws;
 mod list_buffer;
+mod list_dialogue;
 mod list_fault;
 mod list_place;
 mod logged_append;
@@ -36,15 +36,9 @@ pub use attribute_text::AttributeText;
 pub use cant_say::CantSay;
 pub use decode::decode_postfix_request;
 pub use encode::encode_postfix_request;
-pub use files::{
-    BrokenMessage, DamagedEntry, LONGEST_FIELD_NAME, LogEntry, LogField, LogReader, LogRecord,
-    LogWriteError, MessageFacts, PlacedRecord, QueueBroken, QueueReader, QueueRecord,
-    QueuedRecipient, RecipientState, fronts_show_headers, header_of_message,
-    log_files_are_read_whole, queue_files_have_one_list, text_of_message,
-    written_logs_are_read_back,
-};
 pub use laws::{lists_are_read_as_written, notices_tell_each_once};
 pub use list_buffer::{LONGEST_LIST, ListBuffer};
+pub use list_dialogue::hear_list;
 pub use list_fault::ListFault;
 pub use logged_append::logged_as;
 pub use notice_plan::plan_notices;

@@ -2,14 +2,13 @@
 //! Implements docs/FORMATS.md, "The notice of a Postfix log".
 ghost use Rattle.std.specs.Prelude.{◌≡◌, ◌<◌, Ok, drop, map, take, IfOk, MatchResult};
 ghost use Rattle.std.specs.Option.{option_map};
-ghost use Rattle.dsn_postfix.specs.files.LogRecord.{logged_fields_in};
+ghost use Rattle.dsn_postfix_files.specs.LogRecord.{logged_fields_in};
 ghost use Rattle.dsn_postfix.specs.LoggedAppend.{logged_of, unlogged_of};
 ghost use Rattle.dsn_postfix.specs.NoticePlan.{IsPlanFault, delimiters_of, kind_of_notice, most_told, notice_about, notice_asked, notices_of, option_lost, portions, record_alone, records_asked, returned_if_failed};
-ghost use Rattle.dsn_postfix.specs.files.QueueRecipients.{recipient_facts_in};
+ghost use Rattle.dsn_postfix_files.specs.QueueRecipients.{recipient_facts_in};
 ghost use Rattle.dsn_postfix.specs.Wanted.{is_no_sender};
 
 use crate::cant_say::CantSay;
-use crate::files::{LogRecord, QueuedRecipient};
 use crate::logged_append::logged_of;
 use crate::plan_fault::PlanFault;
 use crate::planned_notice::PlannedNotice;
@@ -17,6 +16,7 @@ use crate::postfix_request::{DeliveryReport, NoticeRequest, PostfixRequest, Repo
 use crate::returned_part::ReturnedPart;
 use crate::told_recipients::{have_known_actions, told_of};
 use crate::whole_records::whole_records;
+use dsn_postfix_files::{LogRecord, QueuedRecipient};
 use dsn_text::Service;
 use std::alloc::{AllocError, Global};
 

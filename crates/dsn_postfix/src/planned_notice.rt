@@ -1,7 +1,7 @@
 //! A notice that is to be made.
 //! Implements docs/FORMATS.md, "The notice of a Postfix log".
-use crate::files::LogRecord;
 use crate::returned_part::ReturnedPart;
+use dsn_postfix_files::LogRecord;
 use dsn_text::Service;
 use std::marker::Model;
 
@@ -25,7 +25,7 @@ impl<'a> Model for PlannedNotice<'a> {
     ghost use Rattle.std.specs.Option.{option_map};
     ghost use Rattle.std.specs.Prelude.{map};
     ghost use Rattle.dsn_postfix.specs.PlannedNotice.{NoticeFacts};
-    ghost use Rattle.dsn_postfix.specs.files.LogRecord.{logged_fields_in};
+    ghost use Rattle.dsn_postfix_files.specs.LogRecord.{logged_fields_in};
 
     ghost Value = { NoticeFacts };
 

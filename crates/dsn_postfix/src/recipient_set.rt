@@ -4,12 +4,12 @@
 ghost use Rattle.std.specs.Prelude.{◌≡◌, ◌∷◌, List, map, IfOk, OnOk};
 ghost use Rattle.std.specs.List.{list_any};
 ghost use Rattle.dsn_text.specs.declared.service.Service.TheVariants.{Defer};
-ghost use Rattle.dsn_postfix.specs.files.LogRecord.{LoggedFields, logged_fields_in};
+ghost use Rattle.dsn_postfix_files.specs.LogRecord.{LoggedFields, logged_fields_in};
 ghost use Rattle.dsn_postfix.specs.NoticePlan.{is_same_outcome};
-ghost use Rattle.dsn_postfix.specs.files.QueueRecipients.{recipient_facts_in};
+ghost use Rattle.dsn_postfix_files.specs.QueueRecipients.{recipient_facts_in};
 ghost use Rattle.dsn_postfix.specs.RecipientSet.{HasOutcomes, HasPast};
 
-use crate::files::{LogRecord, QueuedRecipient, RecipientState};
+use dsn_postfix_files::{LogRecord, QueuedRecipient, RecipientState};
 use dsn_text::Service;
 use std::alloc::{AllocError, Global};
 use std::collections::BTreeSet;

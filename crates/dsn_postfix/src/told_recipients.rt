@@ -2,14 +2,14 @@
 //! Implements docs/FORMATS.md, "The notice of a Postfix log".
 ghost use Rattle.std.specs.Prelude.{◌≡◌, ◌&&◌, ◌∷◌, not, List, map, IfOk, OnOk, if◌then◌else◌};
 ghost use Rattle.std.specs.List.{list_all, list_any};
-ghost use Rattle.dsn_postfix.specs.files.LogRecord.{LoggedFields, logged_fields_in};
+ghost use Rattle.dsn_postfix_files.specs.LogRecord.{LoggedFields, logged_fields_in};
 ghost use Rattle.dsn_postfix.specs.NoticePlan.{has_known_action, is_known_action, is_same_outcome, is_wanted, told_as, told_of};
-ghost use Rattle.dsn_postfix.specs.files.QueueRecipients.{RecipientFacts, recipient_facts_in};
+ghost use Rattle.dsn_postfix_files.specs.QueueRecipients.{RecipientFacts, recipient_facts_in};
 ghost use Rattle.dsn_postfix.specs.RecipientSet.{HasOutcomes, HasPast};
 
-use crate::files::{LogRecord, QueuedRecipient};
 use crate::postfix_request::PostfixRequest;
 use crate::recipient_set::{OutcomeKey, is_outcome_again, past_places};
+use dsn_postfix_files::{LogRecord, QueuedRecipient};
 use dsn_text::Service;
 use std::alloc::{AllocError, Global};
 use std::collections::BTreeSet;

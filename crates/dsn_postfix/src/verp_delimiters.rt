@@ -3,7 +3,7 @@
 ghost use Rattle.std.specs.Prelude.{◌≡◌, ◌↔◌, IsSome, IfSome};
 ghost use Rattle.dsn_postfix.specs.AttributeValues.{AreDelimiters};
 
-use crate::files::is_zero_free;
+use dsn_postfix_files::is_zero_free;
 use std::marker::Model;
 
 /// Two bytes, none of them zero, lent: the first stands before the recipient in a return path, the second in place of

@@ -1,12 +1,12 @@
 //! The address of a notice that has its recipient in it.
 //! Implements docs/FORMATS.md, "What Postfix's programs send".
 ghost use Rattle.std.specs.Prelude.{◌≡◌, ◌++◌, IfOk, OnOk};
-ghost use Rattle.dsn_postfix.specs.files.LogRecord.{logged_fields_in};
+ghost use Rattle.dsn_postfix_files.specs.LogRecord.{logged_fields_in};
 ghost use Rattle.dsn_postfix.specs.VerpPath.{led_by, notice_address, verp_path, verp_recipient};
 
-use crate::files::LogRecord;
 use crate::planned_notice::PlannedNotice;
 use crate::quoted_address::{domain_part, local_part};
+use dsn_postfix_files::LogRecord;
 use std::alloc::{AllocError, Global};
 
 /// Adds a text after a byte, unless the text is empty.

@@ -1,4 +1,1 @@
 pub mod clients
-pub mod letters
-pub mod queue_folder
-pub mod requests

@@ -1,3 +1,2 @@
 pub mod HeardClient
-pub mod ListDialogue
 pub mod ServedClient

@@ -2,10 +2,8 @@
 //! status.
 mod client_fault;
 mod heard_client;
-mod list_dialogue;
 mod serving;
 
 pub use client_fault::ClientFault;
 pub use heard_client::{HeardClient, hear_client};
-pub(crate) use list_dialogue::hear_list;
 pub use serving::{answer_client, refuse_client};

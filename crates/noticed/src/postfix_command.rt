@@ -3,7 +3,8 @@
 //! needs no `stop`, and its sockets stay.
 use crate::postfix_serving::PostfixServing;
 use crate::refusal::Refusal;
-use dsn_postfix_service::{Listeners, PostfixPlace, StartFault, serve_postfix};
+use dsn_postfix_queue::PostfixPlace;
+use dsn_postfix_service::{Listeners, StartFault, serve_postfix};
 use dsn_text::fault_code;
 use std::sync::Wait;
 use std::thread::Threads;

@@ -3,7 +3,7 @@
 //! library reads it as Postfix does. The few that count are options with Postfix's defaults.
 use crate::arguments::number_of;
 use crate::refusal::Refusal;
-use dsn_postfix_service::MOST_DEPTH;
+use dsn_postfix_queue::MOST_DEPTH;
 use std::env::Args;
 
 /// How many words `postfix` has after its options.

@@ -1,7 +1,8 @@
 //! What a run of `postfix` serves.
 use crate::postfix_values::PostfixValues;
 use dsn_postfix::QueueName;
-use dsn_postfix_service::{FolderHashing, PostfixPlace, ServiceSettings};
+use dsn_postfix_notices::ServiceSettings;
+use dsn_postfix_queue::{FolderHashing, PostfixPlace};
 use dsn_report::Site;
 use dsn_text::MtaName;
 use std::net::SocketAddr;

@@ -2,7 +2,7 @@
 mod many;
 mod plan;
 
-use dsn_postfix::{LogEntry, LogReader, QueueReader};
+use dsn_postfix_files::{LogEntry, LogReader, QueueReader};
 use dsn_text::Service;
 use std::io::Write;
 

@@ -7,9 +7,8 @@ use crate::postfix_service::requests::{APPEND, RECORD};
 use crate::postfix_service::server::Server;
 use dsn_outcome::{Plain, Stream};
 use dsn_postfix::ListFault;
-use dsn_postfix_service::{
-    ClientFault, DeedFault, ServiceSettings, answer_client, hear_client, refuse_client,
-};
+use dsn_postfix_notices::{DeedFault, ServiceSettings};
+use dsn_postfix_service::{ClientFault, answer_client, hear_client, refuse_client};
 use dsn_text::Service;
 use std::alloc::AllocGlobal;
 use std::cell::RefCell;

@@ -3,7 +3,7 @@ ghost use Rattle.std.specs.Prelude.{None};
 
 use crate::texts::{append_all, joined};
 use dsn_postfix::{PostfixRequest, QueueName};
-use dsn_postfix_service::{DeedFault, MailSystem, PassReason};
+use dsn_postfix_notices::{DeedFault, MailSystem, PassReason};
 use dsn_smtp::{HandInFault, HandInStep, ReplyBuffer, ReplyFault};
 use dsn_text::{Address, QueueId, Service};
 use std::alloc::Global;

@@ -1,7 +1,7 @@
 //! The paths of files in queues: of short and of long queue ids, so deep as a queue is hashed.
 use crate::assert_same::same;
 use dsn_postfix::QueueName;
-use dsn_postfix_service::{FolderHashing, path_in_queue};
+use dsn_postfix_queue::{FolderHashing, path_in_queue};
 use dsn_text::QueueId;
 use std::alloc::AllocGlobal;
 use std::process::Abort;

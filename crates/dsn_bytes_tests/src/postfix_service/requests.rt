@@ -5,7 +5,7 @@ use crate::postfix_letter::{moment, site};
 use crate::postfix_request::decoded;
 use crate::postfix_service::memory_system::{MemorySystem, UNHEARD};
 use crate::postfix_service::server::refused_at;
-use dsn_postfix_service::{DeedFault, RequestTerms, ServiceSettings, answer_request};
+use dsn_postfix_notices::{DeedFault, RequestTerms, ServiceSettings, answer_request};
 use dsn_smtp::{HandInFault, HandInStep};
 use dsn_text::Service;
 use std::alloc::{AllocGlobal, Global};

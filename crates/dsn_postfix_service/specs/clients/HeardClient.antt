@@ -4,7 +4,7 @@ use Rattle.dsn_device.specs.declared.drain.Drain
 use Rattle.dsn_device.specs.declared.source.Source
 use Rattle.dsn_postfix.specs.PostfixAnswer.{announcement_bytes}
 use Rattle.dsn_postfix.specs.declared.list_fault.ListFault.{ListFault}
-use Rattle.dsn_postfix_service.specs.clients.ListDialogue.{HearsList, HearsNoList}
+use Rattle.dsn_postfix.specs.ListDialogue.{HearsList, HearsNoList}
 use Rattle.dsn_smtp.specs.Dialogue.{FailsToSay, Says}
 use Rattle.dsn_postfix_service.specs.declared.clients.client_fault.ClientFault.{ClientFault}
 use Rattle.dsn_postfix_service.specs.declared.clients.client_fault.ClientFault.TheVariants.{NoMemory, Unannounced, NoList}

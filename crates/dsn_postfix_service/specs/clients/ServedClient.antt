@@ -8,11 +8,11 @@ use Rattle.dsn_postfix.specs.RequestReading.{postfix_request_at}
 use Rattle.dsn_postfix.specs.declared.postfix_request.PostfixRequest.{PostfixRequest}
 use Rattle.dsn_postfix.specs.declared.request_fault.RequestFault.{RequestFault}
 use Rattle.dsn_smtp.specs.Dialogue.{FailsToSay, Says}
-use Rattle.dsn_postfix_service.specs.requests.AnsweredRequest.{IsAnswered}
-use Rattle.dsn_postfix_service.specs.requests.Deed.{Deed}
-use Rattle.dsn_postfix_service.specs.requests.Gains.{Gains}
-use Rattle.dsn_postfix_service.specs.requests.RequestStatus.{PassesOn, RequestAnswer, not_carried_out}
-use Rattle.dsn_postfix_service.specs.requests.Task.{SettingsSaid, Terms}
+use Rattle.dsn_postfix_notices.specs.requests.AnsweredRequest.{IsAnswered}
+use Rattle.dsn_postfix_notices.specs.requests.Deed.{Deed}
+use Rattle.dsn_postfix_notices.specs.requests.Gains.{Gains}
+use Rattle.dsn_postfix_notices.specs.requests.RequestStatus.{PassesOn, RequestAnswer, not_carried_out}
+use Rattle.dsn_postfix_notices.specs.requests.Task.{SettingsSaid, Terms}
 use Rattle.dsn_postfix_service.specs.declared.clients.client_fault.ClientFault.{ClientFault}
 use Rattle.dsn_postfix_service.specs.declared.clients.client_fault.ClientFault.TheVariants.{NoMoment, Unsaid}
 

@@ -6,9 +6,8 @@ ghost use Rattle.dsn_postfix_service.specs.clients.HeardClient.{HearsClient, Hea
 ghost use Rattle.dsn_smtp.specs.Dialogue.{Says};
 
 use crate::clients::client_fault::ClientFault;
-use crate::clients::list_dialogue::hear_list;
 use dsn_device::Stream;
-use dsn_postfix::encode_announcement;
+use dsn_postfix::{encode_announcement, hear_list};
 use dsn_smtp::say;
 use std::alloc::Global;
 

@@ -4,16 +4,16 @@ ghost use Rattle.std.specs.Prelude.{◌≡◌, IfErr, IfOk};
 ghost use Rattle.dsn_postfix.specs.PostfixAnswer.{status_bytes};
 ghost use Rattle.dsn_postfix_service.specs.clients.ServedClient.{AnswersClient, DoesAsked, SaysNoStatus, SaysStatus, status_said};
 ghost use Rattle.dsn_smtp.specs.Dialogue.{Says};
-ghost use Rattle.dsn_postfix_service.specs.requests.Gains.{Gains};
-ghost use Rattle.dsn_postfix_service.specs.requests.RequestStatus.{not_carried_out};
+ghost use Rattle.dsn_postfix_notices.specs.requests.Gains.{Gains};
+ghost use Rattle.dsn_postfix_notices.specs.requests.RequestStatus.{not_carried_out};
 
 use crate::clients::client_fault::ClientFault;
 use crate::clients::heard_client::HeardClient;
-use crate::requests::{
-    MailSystem, NOT_CARRIED_OUT, PassReason, RequestTerms, ServiceSettings, answer_request, pass_on,
-};
 use dsn_device::Stream;
 use dsn_postfix::{decode_postfix_request, encode_status};
+use dsn_postfix_notices::{
+    MailSystem, NOT_CARRIED_OUT, PassReason, RequestTerms, ServiceSettings, answer_request, pass_on,
+};
 use dsn_smtp::say;
 use dsn_text::{NoMemory, Service, Stamp};
 use std::alloc::Global;

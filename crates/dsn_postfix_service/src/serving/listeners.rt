@@ -1,9 +1,9 @@
 //! The sockets at which Postfix's programs ask.
 //! Implements docs/FORMATS.md, "Files".
-use crate::queue_folder::{PostfixPlace, check_queues, socket_name};
 use crate::serving::account::{check_owner, own_account, owner_of_sockets};
 use crate::serving::folder_lock::FolderLock;
 use crate::serving::start_fault::StartFault;
+use dsn_postfix_queue::{PostfixPlace, check_queues, socket_name};
 use dsn_text::Service;
 use os::FromRawFd;
 use std::fs::Permissions;

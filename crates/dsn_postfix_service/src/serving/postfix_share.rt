@@ -1,8 +1,7 @@
 //! What the threads that serve a Postfix share.
-use crate::event_log::EventLog;
-use crate::queue_folder::{LargeFiles, PostfixPlace};
-use crate::requests::ServiceSettings;
 use crate::serving::service_queue::ServiceQueue;
+use dsn_postfix_notices::ServiceSettings;
+use dsn_postfix_queue::{EventLog, LargeFiles, PostfixPlace};
 use dsn_smtp::KeptSessions;
 use dsn_text::Service;
 use std::alloc::{AllocError, Global};

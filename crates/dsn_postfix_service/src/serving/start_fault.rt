@@ -1,6 +1,6 @@
 //! Why a Postfix isn't served.
-use crate::queue_folder::QueueFault;
 use crate::serving::account::OtherAccount;
+use dsn_postfix_queue::QueueFault;
 use std::io;
 use thiserror::Error;
 

@@ -2,15 +2,16 @@
 //! notices, so that no append waits for a mail server.
 //! Implements docs/FORMATS.md, "In front of Postfix".
 use crate::clients::{answer_client, hear_client, refuse_client};
-use crate::event_log::EventLog;
-use crate::queue_folder::{PostfixPlace, PostfixSystem, ascii_text, asked_text, socket_name};
-use crate::requests::{ServiceSettings, queue_id_of};
 use crate::serving::client_connection::ClientConnection;
 use crate::serving::listeners::{Listeners, wake};
 use crate::serving::postfix_share::PostfixShare;
 use crate::serving::service_queue::{Client, WaitingClient};
 use dsn_device::{Connection, Plain};
 use dsn_postfix::{PostfixRequest, decode_postfix_request, logged_as};
+use dsn_postfix_notices::{ServiceSettings, queue_id_of};
+use dsn_postfix_queue::{
+    EventLog, PostfixPlace, PostfixSystem, ascii_text, asked_text, socket_name,
+};
 use dsn_text::{QueueId, Service};
 use std::alloc::AllocError;
 use std::fmt::Display;

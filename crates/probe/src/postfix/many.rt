@@ -1,6 +1,6 @@
 //! What many files of Postfix have, counted: of each a line.
 use crate::postfix::plan::first_part;
-use dsn_postfix::{
+use dsn_postfix_files::{
     LogEntry, LogReader, MessageFacts, QueueReader, header_of_message, text_of_message,
 };
 use dsn_text::Service;

@@ -1,9 +1,12 @@
 //! The notices that a request has of a log and a queue file.
 use dsn_postfix::{
-    MessageFacts, NoticeRequest, PlannedNotice, PostfixRequest, QueueReader, QueuedRecipient,
-    ReturnedPart, decode_postfix_request, header_of_message, plan_notices, text_of_message,
+    NoticeRequest, PlannedNotice, PostfixRequest, ReturnedPart, decode_postfix_request,
+    plan_notices,
 };
-use dsn_postfix_service::{LetterFault, ReportedMessage, letter_of_notice};
+use dsn_postfix_files::{
+    MessageFacts, QueueReader, QueuedRecipient, header_of_message, text_of_message,
+};
+use dsn_postfix_notices::{LetterFault, ReportedMessage, letter_of_notice};
 use dsn_report::{Site, notice};
 use dsn_text::{QueueId, Service, Stamp};
 

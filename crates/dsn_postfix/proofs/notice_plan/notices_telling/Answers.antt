@@ -1,7 +1,7 @@
 use Rattle.std.proofs.Common.{◌≡◌, ◌<◌, ◌∙◌, ◌++◌, ◌∷◌, [], List, ap, arith, drop, length, map, take}
-use Rattle.dsn_postfix.specs.files.LogRecord.{logged_fields_in}
+use Rattle.dsn_postfix_files.specs.LogRecord.{logged_fields_in}
 use Rattle.dsn_postfix.specs.NoticePlan.{most_told, notice_about, portions}
-use Rattle.dsn_postfix.specs.declared.files.log_record.LogRecord.{LogRecord}
+use Rattle.dsn_postfix_files.specs.declared.log_record.LogRecord.{LogRecord}
 use Rattle.dsn_postfix.proofs.NoticePlanLemmas.{one_notice_more}
 use Rattle.dsn_postfix.proofs.notice_plan.notices_telling.Goals as goal
 

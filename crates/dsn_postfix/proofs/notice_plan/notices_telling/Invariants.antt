@@ -1,6 +1,6 @@
 -- The notices so far, and those of the recipients that are left.
 use Rattle.std.proofs.Common.{◌≡◌, ◌++◌, length, map}
-use Rattle.dsn_postfix.specs.files.LogRecord.{logged_fields_in}
+use Rattle.dsn_postfix_files.specs.LogRecord.{logged_fields_in}
 use Rattle.dsn_postfix.specs.NoticePlan.{most_told, notice_about, portions}
 use Rattle.dsn_postfix.proofs.notice_plan.notices_telling.Given as goal
 

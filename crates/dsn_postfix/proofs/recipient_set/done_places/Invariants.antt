@@ -4,7 +4,7 @@ use Rattle.std.specs.Prelude.{◌||◌}
 use Rattle.std.specs.BTreeSet as sorted
 use Rattle.std.specs.Ordering.{nat_cmp}
 use Rattle.dsn_postfix.specs.NoticePlan.{is_done_in}
-use Rattle.dsn_postfix.specs.files.QueueRecipients.{recipient_facts_in}
+use Rattle.dsn_postfix_files.specs.QueueRecipients.{recipient_facts_in}
 use Rattle.dsn_postfix.proofs.recipient_set.done_places.Given as goal
 
 abbrev pub invariant-loop-rest : goal.invariant-loop-rest

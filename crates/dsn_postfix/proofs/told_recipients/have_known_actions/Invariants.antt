@@ -1,7 +1,7 @@
 -- Each of the records so far has one.
 use Rattle.std.proofs.Common.{◌≡◌, length, map}
 use Rattle.std.specs.List.{list_all}
-use Rattle.dsn_postfix.specs.files.LogRecord.{logged_fields_in}
+use Rattle.dsn_postfix_files.specs.LogRecord.{logged_fields_in}
 use Rattle.dsn_postfix.specs.NoticePlan.{has_known_action}
 use Rattle.dsn_postfix.proofs.told_recipients.have_known_actions.Given as goal
 

@@ -1,7 +1,7 @@
 use Rattle.std.proofs.Common.{◌≡◌, ◌∙◌, ◌<◌, ℕ, drop, map, reverse, sym, ap, arith}
-use Rattle.dsn_postfix.specs.files.LogRecord.{logged_fields_in}
+use Rattle.dsn_postfix_files.specs.LogRecord.{logged_fields_in}
 use Rattle.dsn_postfix.specs.NoticePlan.{last_of_each, told_of}
-use Rattle.dsn_postfix.specs.files.QueueRecipients.{recipient_facts_in}
+use Rattle.dsn_postfix_files.specs.QueueRecipients.{recipient_facts_in}
 use Rattle.dsn_postfix.proofs.ToldLemmas.{passed_step, reversed_told, seen_step, told_step, wanted_in}
 use Rattle.dsn_postfix.proofs.told_recipients.told_of.Goals as goal
 

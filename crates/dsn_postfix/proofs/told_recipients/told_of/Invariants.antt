@@ -1,8 +1,8 @@
 -- The outcomes that are told of the records so far, the last first, and all outcomes of these that are to be told.
 use Rattle.std.proofs.Common.{◌≡◌, ◌≤◌, drop, length, map, reverse}
-use Rattle.dsn_postfix.specs.files.LogRecord.{logged_fields_in}
+use Rattle.dsn_postfix_files.specs.LogRecord.{logged_fields_in}
 use Rattle.dsn_postfix.specs.NoticePlan.{last_of_each}
-use Rattle.dsn_postfix.specs.files.QueueRecipients.{recipient_facts_in}
+use Rattle.dsn_postfix_files.specs.QueueRecipients.{recipient_facts_in}
 use Rattle.dsn_postfix.specs.RecipientSet.{HasOutcomes}
 use Rattle.dsn_postfix.proofs.ToldLemmas.{wanted_in}
 use Rattle.dsn_postfix.proofs.told_recipients.told_of.Given as goal

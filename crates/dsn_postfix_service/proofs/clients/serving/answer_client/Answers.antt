@@ -1,7 +1,7 @@
 use Rattle.std.proofs.Common.{refl, subst}
 use Rattle.dsn_postfix_service.specs.clients.ServedClient.{DoesAsked}
 use Rattle.dsn_postfix_service.specs.clients.ServedClient.AnswersClient.{done}
-use Rattle.dsn_postfix_service.specs.requests.Gains.{Gains}
+use Rattle.dsn_postfix_notices.specs.requests.Gains.{Gains}
 use Rattle.dsn_postfix_service.proofs.clients.serving.answer_client.Goals as goal
 
 -- it was answered

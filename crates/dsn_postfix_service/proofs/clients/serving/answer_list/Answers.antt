@@ -1,9 +1,9 @@
 use Rattle.std.proofs.Common.{Ok, subst}
-use Rattle.dsn_postfix_service.specs.requests.RequestStatus.{PassesOn}
-use Rattle.dsn_postfix_service.specs.requests.Task.{Terms}
+use Rattle.dsn_postfix_notices.specs.requests.RequestStatus.{PassesOn}
+use Rattle.dsn_postfix_notices.specs.requests.Task.{Terms}
 use Rattle.dsn_postfix_service.specs.clients.ServedClient.DoesAsked.{other, request}
-use Rattle.dsn_postfix_service.proofs.DeedLemmas.{gains_as}
-use Rattle.dsn_postfix_service.proofs.ServedLemmas.{gains_after}
+use Rattle.dsn_postfix_notices.proofs.DeedLemmas.{gains_as}
+use Rattle.dsn_postfix_notices.proofs.ServedLemmas.{gains_after}
 use Rattle.dsn_postfix_service.proofs.clients.serving.answer_list.Goals as goal
 
 -- it is a request

@@ -1,5 +1,0 @@
-use Rattle.dsn_postfix.proofs.files.LogPartsWhole.{are_parts_of}
-use Rattle.dsn_postfix.proofs.files.laws.log_files_are_read_whole.Goals as goal
-
-pub returns : goal.returns
-returns c bytes = are_parts_of bytes

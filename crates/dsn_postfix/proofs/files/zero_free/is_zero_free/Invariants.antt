@@ -1,7 +1,0 @@
--- The bytes so far are tested.
-use Rattle.std.proofs.Common.{◌≡◌, take}
-use Rattle.dsn_postfix.specs.files.ZeroFree.{is_zero_free}
-use Rattle.dsn_postfix.proofs.files.zero_free.is_zero_free.Given as goal
-
-abbrev pub invariant-loop-byte : goal.invariant-loop-byte
-invariant-loop-byte l = l.all ≡ is_zero_free (take l.byte-index l.bytes)

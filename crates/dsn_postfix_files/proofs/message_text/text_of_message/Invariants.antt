@@ -1,0 +1,16 @@
+-- Whatever the text is, it is what was read so far with what later records have; and that is no more than the limit.
+use Rattle.std.proofs.Common.{◌≤◌, length, List, ℕ, [], false}
+use Rattle.dsn_postfix_files.specs.MessageText.{TextLeft}
+use Rattle.dsn_postfix_files.specs.QueueListing.{QueueEnding}
+use Rattle.dsn_postfix_files.specs.QueueWalk.{first_place, steps_left}
+use Rattle.dsn_postfix_files.proofs.message_text.text_of_message.Given as goal
+
+abbrev pub invariant-loop-found : goal.invariant-loop-found
+invariant-loop-found l = record {
+  within : length l.here ≤ length l.file;
+  fits : length l.text.items ≤ l.limit;
+  left : (text : List ℕ) (ending : QueueEnding) → TextLeft (record { file = l.file; place = first_place l.file }) [] false text ending → TextLeft (record { file = l.file; place = record { rest = l.here; jumps = l.left } }) l.text.items l.within text ending;
+}
+
+abbrev pub decreases-loop-found : goal.decreases-loop-found
+decreases-loop-found l = steps_left (length l.file) (record { rest = l.here; jumps = l.left })

@@ -1,0 +1,31 @@
+-- The text of a queue file's message: where it begins and ends, and what its records say of it.
+use Rattle.std.specs.Prelude.{◌≡◌, ◌||◌, Bool, true, false, ℕ, List, [], ◌∷◌, ◌++◌, ◌==◌, if◌then◌else◌}
+use Rattle.dsn_postfix_files.specs.QueueListing.{QueueEnding, RecordsFrom}
+use Rattle.dsn_postfix_files.specs.QueueRecord.{PlacedBytes}
+use Rattle.dsn_postfix_files.specs.QueueWalk.{QueueReading}
+
+-- `N` is a line, or what is left of one, and its end; `L` is a part of a line, which the next record goes
+-- on with; `w` fills a place and says nothing
+abbrev pub is_of_text : ℕ → Bool
+is_of_text kind = kind == 78 || (kind == 76 || kind == 119)
+
+abbrev pub text_of_record : PlacedBytes → List ℕ
+text_of_record placed =
+    if placed.kind == 78 then placed.bytes ++ 10 ∷ []
+    else (if placed.kind == 76 then placed.bytes else [])
+
+-- the text begins after the first `M`, and ends before the first record after it that is none of these
+abbrev pub text_from : Bool → List PlacedBytes → List ℕ
+text_from within [] = []
+text_from false (placed ∷ records) = text_from (placed.kind == 77) records
+text_from true (placed ∷ records) =
+    if is_of_text placed.kind then text_of_record placed ++ text_from true records else []
+
+abbrev pub message_text : List PlacedBytes → List ℕ
+message_text records = text_from false records
+
+-- records come from here on, and with what was read before they have this text
+pub record TextLeft (reading : QueueReading) (before : List ℕ) (within : Bool) (text : List ℕ) (ending : QueueEnding) : Type 0 where
+  pub records : List PlacedBytes
+  pub come : RecordsFrom reading.file reading.place records ending
+  pub are : text ≡ before ++ text_from within records

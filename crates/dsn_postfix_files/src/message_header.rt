@@ -1,0 +1,113 @@
+//! The header of a message.
+//! Implements RFC 5322 section 2.2 and docs/FORMATS.md, "Postfix's queue files".
+ghost use Rattle.std.specs.Prelude.{◌≡◌, take};
+ghost use Rattle.dsn_postfix_files.specs.MessageHeader.{after_all, begins_with, is_blank_byte, is_colon, is_header_line, is_name_byte, longest_field_name, message_header, names_field};
+
+use crate::log_line::whole_line;
+
+/// How many bytes at the front of a line the name of a field has at most, with its colon.
+pub const LONGEST_FIELD_NAME: usize = 2_048;
+
+/// Whether a byte is a space or a tab.
+fn is_blank_byte(byte: u8) -> bool
+    ensures { result ≡ is_blank_byte byte }
+{
+    byte == b' ' || byte == b'\t'
+}
+
+/// Whether a byte may be in the name of a field (RFC 5322 section 2.2).
+fn is_name_byte(byte: u8) -> bool
+    ensures { result ≡ is_name_byte byte }
+{
+    byte > 32 && byte < 127 && byte != b':'
+}
+
+/// A text without the name that it begins with.
+fn after_name(text: &[u8]) -> &[u8]
+    ensures { result.now ≡ after_all is_name_byte text.now }
+{
+    let mut rest = text;
+    while let [byte, after @ ..] = rest {
+        if !is_name_byte(*byte) {
+            return rest;
+        }
+        rest = after;
+    }
+    rest
+}
+
+/// A text without the spaces and tabs that it begins with.
+fn after_blanks(text: &[u8]) -> &[u8]
+    ensures { result.now ≡ after_all is_blank_byte text.now }
+{
+    let mut rest = text;
+    while let [byte, after @ ..] = rest {
+        if !is_blank_byte(*byte) {
+            return rest;
+        }
+        rest = after;
+    }
+    rest
+}
+
+/// Whether a line has the name of a field and a colon.
+fn names_field(line: &[u8]) -> bool
+    ensures { result ≡ names_field line.now }
+{
+    match line {
+        [byte, ..] => is_name_byte(*byte) && begins_with_colon(after_blanks(after_name(line))),
+        [] => false,
+    }
+}
+
+/// Whether a text begins with a colon.
+fn begins_with_colon(text: &[u8]) -> bool
+    ensures { result ≡ begins_with is_colon text.now }
+{
+    match text {
+        [byte, ..] => *byte == b':',
+        [] => false,
+    }
+}
+
+/// The front of a line that has the name of a field, if the line begins one.
+fn front_of_line(line: &[u8]) -> &[u8]
+    ensures { result.now ≡ take longest_field_name line.now }
+{
+    if line.len() <= LONGEST_FIELD_NAME {
+        line
+    } else {
+        &line[..LONGEST_FIELD_NAME]
+    }
+}
+
+/// Whether a line is one of a header: it begins a field, or goes on with one.
+fn is_header_line(line: &[u8]) -> bool
+    ensures { result ≡ is_header_line line.now }
+{
+    match line {
+        // Not up to the empty line alone: a message without one has its body right after its
+        // fields. A line counts by its front, so the front of a text shows its header. bounce(8)
+        // asks each record instead, and loses what follows a field of more than 2,048 bytes.
+        [byte, ..] => is_blank_byte(*byte) || names_field(front_of_line(line)),
+        [] => false,
+    }
+}
+
+/// The header of a message's text: its lines before the first one that neither begins a field nor goes on
+/// with one, as the empty line before a body.
+pub fn header_of_message(text: &[u8]) -> &[u8]
+    ensures { result.now ≡ message_header text.now }
+{
+    let mut rest = text;
+    while let Some((line, after)) = whole_line(rest) {
+        if !is_header_line(line) {
+            return &text[..text.len() - rest.len()];
+        }
+        rest = after;
+    }
+    if is_header_line(rest) {
+        return text;
+    }
+    &text[..text.len() - rest.len()]
+}

@@ -1,0 +1,84 @@
+//! The text of a queue file's message: its header, an empty line, its body.
+//! Implements docs/FORMATS.md, "Postfix's queue files".
+ghost use Rattle.std.specs.Prelude.{◌≡◌, ◌++◌, ◌-◌, List, IfOk, OnOk, length, take};
+ghost use Rattle.dsn_postfix_files.specs.MessageText.{is_of_text, message_text, text_of_record};
+ghost use Rattle.dsn_postfix_files.specs.QueueListing.{QueueEnding, RecordsFrom};
+ghost use Rattle.dsn_postfix_files.specs.QueueRecord.{PlacedBytes, placed_bytes_in};
+ghost use Rattle.dsn_postfix_files.specs.QueueWalk.{first_place};
+
+use crate::placed_record::PlacedRecord;
+use crate::queue_reader::{MOST_JUMPS, next_step};
+use crate::queue_step::QueueStep;
+use std::alloc::{AllocError, Global};
+
+/// Whether a type is one of the message's text.
+fn is_of_text(kind: u8) -> bool
+    ensures { result ≡ is_of_text kind }
+{
+    kind == b'N' || kind == b'L' || kind == b'w'
+}
+
+/// Adds as much of some bytes as a text has room for, up to a limit.
+fn push_within(text: &mut Vec<u8>, bytes: &[u8], limit: usize) -> Result<(), AllocError>
+    ensures { OnOk result (text.new.items
+        ≡ text.old.items ++ take (limit - length text.old.items) bytes.now) }
+{
+    let room = limit.saturating_sub(text.len());
+    if bytes.len() <= room {
+        text.extend_from_slice(bytes)
+    } else {
+        text.extend_from_slice(&bytes[..room])
+    }
+}
+
+/// Adds as much of a record as a text has room for, up to a limit.
+#[tactic(auto, using(crate::proofs::MessageTextLemmas::line_within))]
+fn push_text(text: &mut Vec<u8>, found: PlacedRecord<'_>, limit: usize) -> Result<(), AllocError>
+    ensures { OnOk result (text.new.items ≡ text.old.items
+        ++ take (limit - length text.old.items) (text_of_record (placed_bytes_in found.entry))) }
+{
+    if found.kind == b'N' {
+        push_within(text, found.bytes, limit)?;
+        push_within(text, b"\n", limit)?;
+    } else if found.kind == b'L' {
+        push_within(text, found.bytes, limit)?;
+    }
+    Ok(())
+}
+
+/// The front of the text of a queue file's message, up to a limit, from all bytes of the file: each
+/// line with a line feed. The text begins after the first record of type `M`, and ends before the first
+/// one after it that has no text, or where the file can't be read on. No record is read once the limit
+/// is reached. There is an error only where memory was refused.
+pub fn text_of_message(alloc: Global, file: &[u8], limit: usize) -> Result<Vec<u8>, AllocError>
+    ensures { (records : List PlacedBytes) (ending : QueueEnding)
+        → RecordsFrom file.now (first_place file.now) records ending
+        → IfOk result (λ text. text.items ≡ take limit (message_text records)) }
+{
+    let mut text = Vec::new(alloc);
+    let mut here = file;
+    let mut left = MOST_JUMPS;
+    let mut within = false;
+    loop {
+        match next_step(file, here, left) {
+            QueueStep::Record(found, after, fewer) => {
+                if within {
+                    if !is_of_text(found.kind) {
+                        return Ok(text);
+                    }
+                    push_text(&mut text, found, limit)?;
+                    if text.len() >= limit {
+                        return Ok(text);
+                    }
+                } else {
+                    within = found.kind == b'M';
+                }
+                here = after;
+                left = fewer;
+            }
+            QueueStep::End => return Ok(text),
+            QueueStep::Broken => return Ok(text),
+            QueueStep::Pointer(_, _) => unreachable!(),
+        }
+    }
+}

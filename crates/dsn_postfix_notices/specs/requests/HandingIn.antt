@@ -1,0 +1,64 @@
+-- Letters that are handed in, one after another.
+use Rattle.std.specs.Prelude.{◌≡◌, ◌&&◌, ℕ, Bool, true, false, List, [], ◌∷◌, ◌++◌, Result, Ok, Err, if◌then◌else◌}
+use Rattle.dsn_outcome.specs.Letter.{Letter}
+use Rattle.dsn_report.specs.Notice.{return_path_of}
+use Rattle.dsn_report.specs.Outbox.{mail_data}
+use Rattle.dsn_smtp.specs.HandIn.{is_refused_for_good}
+use Rattle.dsn_postfix_notices.specs.requests.Deed.{Deed, HandedIn}
+use Rattle.dsn_smtp.specs.declared.hand_in_fault.HandInFault.{HandInFault}
+use Rattle.dsn_postfix_notices.specs.declared.requests.pass_reason.PassReason.TheVariants.{Refused}
+use Rattle.dsn_postfix_notices.specs.declared.requests.untold.Untold.{Untold}
+use Rattle.dsn_postfix_notices.specs.declared.requests.untold.Untold.TheVariants.{Failed, NoMemory, PassedOn}
+
+-- a letter is handed in as its notice's mail data, for its return path
+abbrev pub hand_in_of : List ℕ → Letter → Result (List ℕ) HandInFault → Deed
+hand_in_of host letter answer = HandedIn (return_path_of letter) (mail_data host letter) answer
+
+pub record IsAccepted (host : List ℕ) (letter : Letter) (deed : Deed) : Type 0 where
+  pub reply : List ℕ
+  pub deed_is : deed ≡ hand_in_of host letter (Ok reply)
+
+-- letters were handed in and accepted, each once, in their order, and nothing else was done
+abbrev pub AreAccepted : List ℕ → List Letter → List Deed → Type 0
+AreAccepted host [] gained = gained ≡ []
+AreAccepted host (letter ∷ letters) [] = ⊥
+AreAccepted host (letter ∷ letters) (deed ∷ gained) = IsAccepted host letter deed × AreAccepted host letters gained
+
+-- whether the letter after these is the first of a request
+abbrev pub is_first_after : List Letter → Bool
+is_first_after [] = true
+is_first_after (letter ∷ letters) = false
+
+-- What the mail server refuses for good it refuses whenever it is asked. Only where that is a
+-- request's first letter another service can tell all of it: once a letter was accepted, its sender would be told again.
+abbrev pub refusal_of : Bool → HandInFault → Untold
+refusal_of first fault = if first && is_refused_for_good fault then PassedOn Refused else Failed
+
+-- a letter, the first of its request or not, wasn't accepted: it was handed in all the same, unless the memory for its text
+-- was refused
+pub data IsNotAccepted (host : List ℕ) (first : Bool) (letter : Letter) (why : Untold) (gained : List Deed) : Type 0 where
+  refused : (fault : HandInFault) → why ≡ refusal_of first fault → gained ≡ hand_in_of host letter (Err fault) ∷ []
+      → IsNotAccepted host first letter why gained
+  no_memory : why ≡ NoMemory → gained ≡ [] → IsNotAccepted host first letter why gained
+
+-- those before it were, and nothing was done after it
+pub record StopsAtLetter (host : List ℕ) (letters : List Letter) (why : Untold) (gained : List Deed) : Type 0 where
+  pub before : List Letter
+  pub stopped : Letter
+  pub after : List Letter
+  pub letters_are : letters ≡ before ++ stopped ∷ after
+  pub taken : List Deed
+  pub last : List Deed
+  pub gained_are : gained ≡ taken ++ last
+  pub accepted : AreAccepted host before taken
+  pub not_accepted : IsNotAccepted host (is_first_after before) stopped why last
+
+-- one was accepted, or not
+abbrev pub HandsInOne : List ℕ → Bool → Letter → Result (Unit {0}) Untold → List Deed → Type 0
+HandsInOne host first letter (Ok done) gained = AreAccepted host (letter ∷ []) gained
+HandsInOne host first letter (Err why) gained = IsNotAccepted host first letter why gained
+
+-- all were accepted, or not
+abbrev pub HandsInAll : List ℕ → List Letter → Result (Unit {0}) Untold → List Deed → Type 0
+HandsInAll host letters (Ok done) gained = AreAccepted host letters gained
+HandsInAll host letters (Err why) gained = StopsAtLetter host letters why gained

@@ -1,0 +1,37 @@
+-- What answers a request: a status, 0 where it was carried out, or want of memory.
+use Rattle.std.specs.Prelude.{◌≡◌, ◌==◌, ℕ, Bool, false, List, [], ◌∷◌, Result, Ok, Err}
+use Rattle.dsn_text.specs.declared.no_memory.NoMemory.{NoMemory}
+use Rattle.dsn_text.specs.declared.service.Service.{Service}
+use Rattle.dsn_postfix_notices.specs.declared.requests.deed_fault.DeedFault.{DeedFault}
+use Rattle.dsn_postfix_notices.specs.requests.Deed.{Answer, Deed, PassedOn}
+
+-- a request is answered by a status, or that the memory for it was refused
+abbrev pub RequestAnswer : Type 0
+RequestAnswer = Result ℕ NoMemory
+
+abbrev pub carried_out : ℕ
+carried_out = 0
+
+-- bounce(8) says -1, which a client reads so
+abbrev pub not_carried_out : ℕ
+not_carried_out = 4294967295
+
+abbrev pub is_carried_out : RequestAnswer → Bool
+is_carried_out (Ok status) = status == carried_out
+is_carried_out (Err refused) = false
+
+-- the status after one deed that decides
+abbrev pub status_after : Answer → ℕ
+status_after (Ok done) = carried_out
+status_after (Err fault) = not_carried_out
+
+-- the status that Postfix's own service answered
+abbrev pub status_passed_on : Result ℕ DeedFault → ℕ
+status_passed_on (Ok status) = status
+status_passed_on (Err fault) = not_carried_out
+
+-- the request was passed on to Postfix's own service, whose status is its answer
+pub record PassesOn (service : Service) (bytes : List ℕ) (answer : RequestAnswer) (gained : List Deed) : Type 0 where
+  pub given : Result ℕ DeedFault
+  pub passed : gained ≡ PassedOn service bytes given ∷ []
+  pub answer_is : answer ≡ Ok (status_passed_on given)

@@ -1,0 +1,133 @@
+//! The draft of a planned notice.
+//! Implements docs/FORMATS.md, "The notice of a Postfix log".
+ghost use Rattle.std.specs.Prelude.{◌≡◌, ◌≤◌, ◌++◌, codes, IfErr, IfOk, IsSome, None, OnOk};
+ghost use Rattle.dsn_postfix_notices.specs.letters.LetterFault.{IsLetterFault};
+ghost use Rattle.dsn_postfix_notices.specs.letters.NoticeDraft.{IsDraftTold, first_draft_fault_told, is_returned_whole, is_said_sender, postfix_fields, returned_byte_of, returned_text, sender_field, tried_until};
+ghost use Rattle.dsn_postfix_notices.specs.letters.ReportedMessage.{message_said_in};
+
+use crate::letters::letter_fault::LetterFault;
+use crate::letters::reported_message::ReportedMessage;
+use dsn_outcome::{Address, Draft, DraftParts, LONGEST_HEADER, Service, Stamp};
+use dsn_postfix::{PlannedNotice, ReturnedPart, needs_no_quotes};
+use dsn_postfix_files::header_of_message;
+use std::alloc::{AllocError, Global};
+
+/// The longest sender that an extension field says, in bytes: its value is at most 255 with `rfc822; `.
+const LONGEST_SENDER: usize = 247;
+
+/// The byte of words that go by what became of the recipients.
+const BY_OUTCOME: u8 = 1;
+
+/// Until when delivery is tried, where a notice of that kind says so.
+pub(super) fn tried_until(service: Service, arrival: Stamp, lifetime: u32) -> Option<Stamp>
+    ensures { result ≡ tried_until service arrival lifetime }
+{
+    match service {
+        Service::Defer => Stamp::new(arrival.seconds() + u64::from(lifetime)),
+        Service::Bounce | Service::Trace => None,
+    }
+}
+
+/// Adds a field of this name, which ends with what stands before its value.
+fn push_field(fields: &mut Vec<u8>, name: &[u8], value: &[u8]) -> Result<(), AllocError>
+    ensures { OnOk result (fields.new.items ≡ fields.old.items
+        ++ (name.now ++ (value.now ++ codes "\n"))) }
+{
+    fields.extend_from_slice(name)?;
+    fields.extend_from_slice(value)?;
+    fields.push(b'\n')?;
+    Ok(())
+}
+
+/// Whether a sender is an address and has room in an extension field.
+fn is_said_sender(sender: &[u8]) -> bool
+    ensures { result ≡ is_said_sender sender.now }
+{
+    Address::is_valid(sender) && sender.len() <= LONGEST_SENDER
+}
+
+/// Adds the field of a message's sender, where it can be said.
+fn push_sender(fields: &mut Vec<u8>, sender: &[u8]) -> Result<(), AllocError>
+    ensures { OnOk result (fields.new.items ≡ fields.old.items ++ sender_field sender.now) }
+{
+    if !is_said_sender(sender) {
+        return Ok(());
+    }
+    push_field(fields, b"X-Postfix-Sender: rfc822; ", sender)
+}
+
+/// The fields that Postfix adds to those of a message as a whole.
+fn postfix_fields(alloc: Global, queue_id: &[u8], sender: &[u8]) -> Result<Vec<u8>, AllocError>
+    ensures { IfOk result (λ fields. fields.items ≡ postfix_fields queue_id.now sender.now) }
+{
+    let mut fields = Vec::new(alloc);
+    push_field(&mut fields, b"X-Postfix-Queue-ID: ", queue_id)?;
+    push_sender(&mut fields, sender)?;
+    Ok(fields)
+}
+
+/// Whether a message goes back whole, where at most so many bytes do.
+fn is_returned_whole(part: ReturnedPart, size_limit: u32, text: &[u8]) -> bool
+    ensures { result ≡ is_returned_whole part size_limit text.now }
+{
+    match part {
+        // The text is counted; bounce(8) counts the queue file.
+        ReturnedPart::Whole => text.len() <= size_limit as usize && text.len() <= LONGEST_HEADER,
+        ReturnedPart::Header => false,
+    }
+}
+
+/// What goes back of a message.
+fn returned_text(whole: bool, text: &[u8]) -> &[u8]
+    ensures { result.now ≡ returned_text whole text.now }
+{
+    if whole { text } else { header_of_message(text) }
+}
+
+/// The byte of what goes back.
+fn returned_byte_of(whole: bool) -> u8
+    ensures { result ≡ returned_byte_of whole }
+{
+    if whole { 1 } else { 0 }
+}
+
+/// The draft of a planned notice.
+#[tactic(auto, using(crate::proofs::LetterLemmas::some_address))]
+pub(super) fn draft_told(
+    alloc: Global,
+    message: &ReportedMessage<'_>,
+    notice: &PlannedNotice<'_>,
+    moment: Stamp,
+    arrival: Stamp,
+) -> Result<Draft, LetterFault>
+    ensures told { IfOk result
+        (IsDraftTold (message_said_in message.now) notice.now moment arrival) }
+    ensures has_return { IfOk result (λ draft. IsSome draft.return_path) }
+    ensures accepted { OnOk result
+        (first_draft_fault_told (message_said_in message.now) notice.now
+        ≡ None) }
+    ensures refused { IfErr result
+        (IsLetterFault (first_draft_fault_told (message_said_in message.now)
+        notice.now)) }
+{
+    let address = notice.address(alloc)?;
+    // Without its quotes it could be read as another address.
+    if !needs_no_quotes(&address) {
+        return Err(LetterFault::Quotes);
+    }
+    let fields = postfix_fields(alloc, message.queue_id.bytes(), message.sender)?;
+    let whole = is_returned_whole(notice.returned, message.size_limit, message.text);
+    let parts = DraftParts {
+        return_path: &address,
+        envelope_id: message.envelope_id,
+        header: returned_text(whole, message.text),
+        expected: None,
+        returned: returned_byte_of(whole),
+        wording: BY_OUTCOME,
+        extensions: &fields,
+    };
+    match Draft::read(alloc, moment, arrival, parts) {
+        Ok(draft) => Ok(draft),
+        Err(fault) => Err(LetterFault::from(fault)),
+    }
+}

@@ -1,0 +1,79 @@
+//! The letter of a planned notice.
+//! Implements docs/FORMATS.md, "The notice of a Postfix log".
+ghost use Rattle.std.specs.Prelude.{◌≡◌, ◌≤◌, ℕ, IfErr, IfOk, None, OnOk, length, map};
+ghost use Rattle.dsn_outcome.specs.Outcomes.{most_outcomes};
+ghost use Rattle.dsn_postfix_files.specs.LogRecord.{logged_fields_in};
+ghost use Rattle.dsn_postfix_notices.specs.letters.LetterFault.{IsLetterFault};
+ghost use Rattle.dsn_postfix_notices.specs.letters.NoticeLetter.{IsLetterOf, first_fault_of_told, first_letter_fault};
+ghost use Rattle.dsn_postfix_notices.specs.letters.ReportedMessage.{message_said_in};
+ghost use Rattle.dsn_postfix_notices.specs.letters.ToldOutcome.{outcome_told};
+
+use crate::letters::letter_fault::LetterFault;
+use crate::letters::notice_draft::{draft_told, tried_until};
+use crate::letters::reported_message::ReportedMessage;
+use crate::letters::told_outcome::outcome_told;
+use dsn_outcome::{Chain, Key, Letter, MOST_OUTCOMES, Service, Stamp};
+use dsn_postfix::PlannedNotice;
+use dsn_postfix_files::LogRecord;
+use std::alloc::Global;
+
+/// The outcomes that a notice of a service tells of some records, in their order.
+fn outcomes_told(
+    alloc: Global,
+    service: Service,
+    until: Option<Stamp>,
+    found: &[LogRecord<'_>],
+) -> Result<Chain, LetterFault>
+    requires few { length found.now ≤ most_outcomes }
+    ensures told { IfOk result
+        (λ chain. chain ≡ map (outcome_told service until) (map logged_fields_in found.now)) }
+    ensures accepted { OnOk result
+        (first_fault_of_told service until (map logged_fields_in found.now) ≡ None) }
+    ensures refused { IfErr result
+        (IsLetterFault (first_fault_of_told service until (map logged_fields_in found.now))) }
+{
+    let mut chain = Chain::new();
+    let mut rest = found;
+    while let [next, after @ ..] = rest {
+        chain.push(outcome_told(alloc, service, until, next)?);
+        rest = after;
+    }
+    Ok(chain)
+}
+
+/// The letter of a planned notice about a message, made at a moment; the serial, which stands in its
+/// Message-ID, is the caller's. Its faults are tested in the order of [`LetterFault`]'s variants.
+/// `NoMemory` comes only where memory was refused, and then also before a later fault.
+#[tactic(auto, using(crate::proofs::LetterLemmas::told_of_service))]
+pub fn letter_of_notice(
+    alloc: Global,
+    message: &ReportedMessage<'_>,
+    notice: &PlannedNotice<'_>,
+    moment: Stamp,
+    serial: u64,
+) -> Result<Letter, LetterFault>
+    ensures letter { IfOk result
+        (λ letter. (arrival : ℕ) × IsLetterOf (message_said_in message.now)
+        notice.now moment serial arrival letter) }
+    ensures accepted { OnOk result
+        (first_letter_fault (message_said_in message.now) notice.now ≡ None) }
+    ensures refused { IfErr result
+        (IsLetterFault (first_letter_fault (message_said_in message.now)
+        notice.now)) }
+{
+    if notice.outcomes.is_empty() || notice.outcomes.len() > MOST_OUTCOMES as usize {
+        return Err(LetterFault::Count);
+    }
+    let arrival = message
+        .arrival
+        .and_then(Stamp::new)
+        .ok_or(LetterFault::Arrival)?;
+    let draft = draft_told(alloc, message, notice, moment, arrival)?;
+    let until = tried_until(notice.service, arrival, message.lifetime);
+    let chain = outcomes_told(alloc, notice.service, until, &notice.outcomes)?;
+    let key = Key {
+        service: notice.service,
+        id: message.queue_id,
+    };
+    Ok(Letter::seal(key, draft, chain, serial))
+}

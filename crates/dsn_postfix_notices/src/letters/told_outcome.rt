@@ -1,0 +1,203 @@
+//! The outcome that a notice tells of a log's record.
+//! Implements docs/FORMATS.md, "The notice of a Postfix log".
+//! If a text can't be reported as it is, Postfix's own service makes the notice: a cleaned address
+//! would name somebody else. Only a remark, as a reason, is cut.
+ghost use Rattle.std.specs.Prelude.{◌≡◌, ◌≤◌, length, take, IfErr, IfOk, OnOk, None};
+ghost use Rattle.std.specs.List.{after_first, before_first, position_or_len};
+ghost use Rattle.dsn_postfix_files.specs.LogRecord.{logged_fields_in};
+ghost use Rattle.dsn_postfix_notices.specs.letters.LetterFault.{IsLetterFault};
+ghost use Rattle.dsn_postfix_notices.specs.letters.ToldOutcome.{action_said, diagnostic_said, first_told_fault, is_remote_type, is_semicolon, is_usual_type, original_said, original_told, outcome_told, unless_final};
+ghost use Rattle.dsn_text.specs.Text.{longest_clean};
+
+use crate::letters::letter_fault::LetterFault;
+use crate::letters::plain_status::plain_status;
+use dsn_outcome::{LONGEST_CLEAN, Node, Outcome, Parts, Service, Stamp, Types};
+use dsn_postfix_files::LogRecord;
+use std::alloc::Global;
+
+/// A text with its type; an empty type is the usual one.
+#[derive(Clone, Copy)]
+struct TypedText<'a> {
+    kind: &'a [u8],
+    text: &'a [u8],
+}
+
+/// The first so many bytes of a text, or all of it.
+fn first_bytes(most: usize, text: &[u8]) -> &[u8]
+    ensures { result.now ≡ take most text.now }
+{
+    &text[..most.min(text.len())]
+}
+
+/// The front of a text that has room in an outcome.
+fn cut_short(text: &[u8]) -> &[u8]
+    ensures { result.now ≡ take longest_clean text.now }
+{
+    first_bytes(LONGEST_CLEAN, text)
+}
+
+/// The place of the first semicolon, or the length of a text without one.
+fn semicolon_place(text: &[u8]) -> usize
+    ensures place { result ≡ position_or_len is_semicolon text.now }
+    ensures within { result ≤ length text.now }
+{
+    text.iter()
+        .position(|&byte| byte == b';')
+        .unwrap_or(text.len())
+}
+
+/// What stands before the first semicolon, and what after it.
+fn parted_at_semicolon(text: &[u8]) -> TypedText<'_>
+    ensures kind { result.kind.now ≡ before_first is_semicolon text.now }
+    ensures text { result.text.now ≡ after_first is_semicolon text.now }
+{
+    let place = semicolon_place(text);
+    if place < text.len() {
+        TypedText {
+            kind: &text[..place],
+            text: &text[place + 1..],
+        }
+    } else {
+        TypedText {
+            kind: text,
+            text: &text[place..],
+        }
+    }
+}
+
+/// The original recipient with its type.
+fn original_said<'a>(said: &'a [u8], rewritten: &'a [u8]) -> TypedText<'a>
+    ensures kind { result.kind.now ≡ (original_said said.now rewritten.now).kind }
+    ensures text { result.text.now ≡ (original_said said.now rewritten.now).text }
+{
+    if said.is_empty() {
+        TypedText {
+            kind: b"",
+            text: rewritten,
+        }
+    } else {
+        parted_at_semicolon(said)
+    }
+}
+
+/// Whether a type of address is the usual one, which an empty type stands for.
+fn is_usual_type(kind: &[u8]) -> bool
+    ensures { result ≡ is_usual_type kind.now }
+{
+    kind.is_empty() || kind.eq_ignore_ascii_case(b"rfc822")
+}
+
+/// An original recipient, unless it is the final one: the notice says that one anyway.
+fn unless_final<'a>(recipient: &[u8], original: TypedText<'a>) -> TypedText<'a>
+    ensures kind { result.kind.now ≡ (unless_final recipient.now
+        (record { kind = original.entry.kind.now; text = original.entry.text.now })).kind }
+    ensures text { result.text.now ≡ (unless_final recipient.now
+        (record { kind = original.entry.kind.now; text = original.entry.text.now })).text }
+{
+    // RFC 3461 wants it if the sender gave ORCPT, but without that smtpd(8) writes down the address
+    // of RCPT too. Readers that begin a recipient at Final-Recipient, as bounce(8) does, would give
+    // it to the one before.
+    if is_usual_type(original.kind) && original.text == recipient {
+        return TypedText {
+            kind: b"",
+            text: b"",
+        };
+    }
+    original
+}
+
+/// The original recipient that a notice says of a record.
+fn original_told<'a>(found: &LogRecord<'a>) -> TypedText<'a>
+    ensures kind { result.kind.now ≡ (original_told (logged_fields_in found.now)).kind }
+    ensures text { result.text.now ≡ (original_told (logged_fields_in found.now)).text }
+{
+    let original = original_said(found.dsn_original, found.original_recipient);
+    unless_final(found.recipient, original)
+}
+
+/// The diagnostic with its type, or the mail system's own reason in its place.
+fn diagnostic_said<'a>(kind: &'a [u8], text: &'a [u8], reason: &'a [u8]) -> TypedText<'a>
+    ensures kind { result.kind.now ≡ (diagnostic_said kind.now text.now reason.now).kind }
+    ensures text { result.text.now ≡ (diagnostic_said kind.now text.now reason.now).text }
+{
+    if !kind.is_empty() && !text.is_empty() {
+        return TypedText {
+            kind,
+            text: cut_short(text),
+        };
+    }
+    TypedText {
+        kind: if reason.is_empty() { b"" } else { b"X-Postfix" },
+        text: cut_short(reason),
+    }
+}
+
+/// The byte of the action that a word names, or 0.
+fn action_said(word: &[u8]) -> u8
+    ensures { result ≡ action_said word.now }
+{
+    if word == b"failed".as_slice() {
+        1
+    } else if word == b"delayed".as_slice() {
+        2
+    } else if word == b"delivered".as_slice() {
+        3
+    } else if word == b"relayed".as_slice() {
+        4
+    } else if word == b"expanded".as_slice() {
+        5
+    } else {
+        0
+    }
+}
+
+/// Whether a remote system's name is of the type that a notice says of it.
+fn is_remote_type(kind: &[u8], name: &[u8]) -> bool
+    ensures { result ≡ is_remote_type kind.now name.now }
+{
+    name.is_empty() || kind.eq_ignore_ascii_case(b"dns")
+}
+
+/// The outcome that a notice of a service tells of a record, where delivery is tried until that
+/// moment.
+#[tactic(auto, using(crate::proofs::LetterLemmas::outcome_fault_is, crate::proofs::LetterLemmas::outcome_is))]
+pub(super) fn outcome_told(
+    alloc: Global,
+    service: Service,
+    until: Option<Stamp>,
+    found: &LogRecord<'_>,
+) -> Result<Box<Node>, LetterFault>
+    ensures told { IfOk result
+        (λ node. node.value.outcome ≡ outcome_told service until (logged_fields_in found.now)) }
+    ensures service { IfOk result (λ node. node.value.outcome.service ≡ service) }
+    ensures accepted { OnOk result
+        (first_told_fault service until (logged_fields_in found.now) ≡ None) }
+    ensures refused { IfErr result
+        (IsLetterFault (first_told_fault service until (logged_fields_in found.now))) }
+{
+    if !is_remote_type(found.mta_type, found.mta_name) {
+        return Err(LetterFault::RemoteType);
+    }
+    let original = original_told(found);
+    let diagnostic = diagnostic_said(found.diagnostic_type, found.diagnostic_text, found.reason);
+    let status = plain_status(alloc, found.status)?;
+    let types = Types {
+        recipient: b"",
+        original: original.kind,
+        diagnostic: diagnostic.kind,
+    };
+    let parts = Parts {
+        recipient: found.recipient,
+        original: original.text,
+        action: action_said(found.action),
+        status: &status,
+        mta: found.mta_name,
+        diagnostic: diagnostic.text,
+        reason: cut_short(found.reason),
+        last_attempt: None,
+        retry_until: until,
+        types,
+        extensions: b"",
+    };
+    Ok(Outcome::new(alloc, service, parts)?)
+}

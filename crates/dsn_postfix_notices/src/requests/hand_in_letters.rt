@@ -1,0 +1,61 @@
+//! Handing in letters, one after another.
+//! Implements docs/FORMATS.md, "A connection".
+ghost use Rattle.std.specs.Prelude.{◌≡◌};
+ghost use Rattle.dsn_postfix_notices.specs.requests.Gains.{Gains};
+ghost use Rattle.dsn_postfix_notices.specs.requests.HandingIn.{HandsInAll, HandsInOne, refusal_of};
+
+use crate::requests::mail_system::MailSystem;
+use crate::requests::pass_reason::PassReason;
+use crate::requests::untold::Untold;
+use dsn_outcome::Letter;
+use dsn_report::{Site, mail_data};
+use dsn_smtp::{HandInFault, ReplyBuffer};
+use std::alloc::Global;
+
+/// Why a sender isn't told after a letter wasn't accepted. Only if the first letter of a request on
+/// one log is refused for good can another service tell all of it: none was accepted, nor will be.
+fn refusal(is_first: bool, fault: HandInFault) -> Untold
+    ensures { result ≡ refusal_of is_first fault }
+{
+    // Once a letter was accepted nothing is passed on: bounce(8) would notify its recipient again.
+    if is_first && fault.is_refused_for_good() {
+        Untold::PassedOn(PassReason::Refused)
+    } else {
+        Untold::Failed
+    }
+}
+
+/// Submits one letter, the first of its request or not.
+fn hand_in_letter<M: MailSystem>(
+    alloc: Global,
+    site: &Site,
+    letter: &Letter,
+    is_first: bool,
+    system: &mut M,
+) -> Result<(), Untold>
+    ensures { Gains M.deeds system.old system.new (HandsInOne site.now is_first letter.now result) }
+{
+    let message = mail_data(alloc, site, letter)?;
+    let mut reply = ReplyBuffer::new();
+    match system.hand_in(letter.return_path(), &message, &mut reply) {
+        Ok(()) => Ok(()),
+        Err(fault) => Err(refusal(is_first, fault)),
+    }
+}
+
+/// Submits letters in their order, each once, up to the first that isn't accepted.
+pub(super) fn hand_in_letters<M: MailSystem>(
+    alloc: Global,
+    site: &Site,
+    letters: &[Letter],
+    system: &mut M,
+) -> Result<(), Untold>
+    ensures { Gains M.deeds system.old system.new (HandsInAll site.now letters.now result) }
+{
+    let mut is_first = true;
+    for letter in letters {
+        hand_in_letter(alloc, site, letter, is_first, system)?;
+        is_first = false;
+    }
+    Ok(())
+}

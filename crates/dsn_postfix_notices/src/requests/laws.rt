@@ -1,0 +1,98 @@
+//! What is true of each request that was carried out, at each moment of it, whatever the code does: each law is the contract
+//! of a function that changes nothing.
+ghost use Rattle.std.specs.Prelude.{◌≡◌, ◌⊎◌, ◌++◌, [], ◌∷◌, ℕ, List, Ok, Some, true};
+ghost use Rattle.dsn_postfix.specs.NoticePlan.{notice_asked};
+ghost use Rattle.dsn_postfix.specs.Wanted.{is_no_sender};
+ghost use Rattle.dsn_postfix.specs.declared.postfix_request.AppendRequest.{AppendRequest};
+ghost use Rattle.dsn_postfix.specs.declared.postfix_request.PostfixRequest.{PostfixRequest};
+ghost use Rattle.dsn_postfix.specs.declared.postfix_request.PostfixRequest.TheVariants.{Append};
+ghost use Rattle.dsn_postfix_notices.specs.requests.AnsweredRequest.{IsAnswered, first_flush};
+ghost use Rattle.dsn_postfix_notices.specs.requests.CarriedOut.{IsCarriedOut};
+ghost use Rattle.dsn_postfix_notices.specs.requests.Deed.{Answer, Deed, LogRemoved, LogSought};
+ghost use Rattle.dsn_postfix_notices.specs.requests.RequestLaws.{HandsInInTurn, HandsInOnce, IsRemovedAfter, IsRemovedInTurn, IsTellingDone, IsToldFirst, StandsOrIsPassedOn, hand_ins};
+ghost use Rattle.dsn_postfix_notices.specs.requests.RequestStatus.{RequestAnswer};
+ghost use Rattle.dsn_postfix_notices.specs.requests.Task.{Task, Terms};
+ghost use Rattle.dsn_text.specs.declared.service.Service.{Service};
+ghost use Rattle.dsn_text.specs.declared.service.Service.TheVariants.{Bounce};
+
+/// At each moment of a request for notices at which a log is removed, the log is that of the request. Before that it did this
+/// alone: it read a log and a file, each letter of each notice that it has of these was accepted, and its recipients were
+/// marked as done where it asks for that. So a crash at any moment of a request without CLEAN leaves the log, or the mail
+/// server has all notices of what was read, or the request was passed on, and the log is left to Postfix's own service. The
+/// only other removal is the one that CLEAN asks for: it is the last deed of a request that isn't answered status 0. A request
+/// that is answered may do other deeds first. Then the log is the service's own, or the bounce log that is flushed first; the
+/// deeds on it stand in a row right before its removal, and the same is true of these. CLEAN removes no bounce log that is
+/// flushed first.
+pub fn logs_are_removed_after_acceptance()
+    ensures carried_out { (task : Task) (bytes : List ℕ) (answer : RequestAnswer)
+        (gained before after : List Deed) (other : Service) (named : List ℕ) (given : Answer)
+        → IsTellingDone task bytes answer gained
+        → gained ≡ before ++ LogRemoved other named given ∷ after
+        → IsRemovedAfter task answer before after
+        other named }
+    ensures answered { (task : Task) (bytes : List ℕ) (answer : RequestAnswer)
+        (gained before after : List Deed) (log : Service) (named : List ℕ) (given : Answer)
+        → notice_asked task.request ≡ Some task.notice
+        → IsAnswered task.terms task.request bytes answer gained
+        → gained ≡ before ++ LogRemoved log named given ∷ after
+        → IsRemovedInTurn task answer before after log named }
+{}
+
+/// A request for notices that hands in any first reads a log and a file. What it hands in are the first letters of the notices
+/// that it has of these, each at most once, in their order. A request that is answered hands in those of the bounce log, if
+/// one was found, and then those of the service's own log.
+pub fn notices_are_handed_in_once()
+    ensures carried_out { (task : Task) (bytes : List ℕ) (answer : RequestAnswer)
+        (gained : List Deed)
+        → IsTellingDone task bytes answer gained
+        → (hand_ins gained ≡ [])
+        ⊎ HandsInOnce task gained }
+    ensures answered { (task : Task) (bytes : List ℕ) (answer : RequestAnswer)
+        (gained : List Deed)
+        → notice_asked task.request ≡ Some task.notice
+        → IsAnswered task.terms task.request bytes answer gained
+        → HandsInInTurn task gained }
+{}
+
+/// Nothing is handed in for a message from nobody, or from the sender of notices about notices: neither by a request that is
+/// carried out on one log, nor by one that is answered.
+pub fn no_notice_causes_another()
+    ensures carried_out { (task : Task) (bytes : List ℕ) (answer : RequestAnswer) (gained : List Deed)
+        → IsTellingDone task bytes answer gained
+        → is_no_sender task.terms.settings.double_bounce task.notice.sender ≡ true
+        → hand_ins gained ≡ [] }
+    ensures answered { (task : Task) (bytes : List ℕ) (answer : RequestAnswer) (gained : List Deed)
+        → notice_asked task.request ≡ Some task.notice
+        → IsAnswered task.terms task.request bytes answer gained
+        → is_no_sender task.terms.settings.double_bounce task.notice.sender ≡ true
+        → hand_ins gained ≡ [] }
+{}
+
+/// An append that is answered 0 was appended and synced, or Postfix's own service answered 0 to it; nothing else was done.
+#[tactic(auto, using(crate::proofs::CarriedOutLaws::answered_append_stands, crate::proofs::AnsweredLaws::answered_append))]
+pub fn answered_appends_stand()
+    ensures carried_out { (terms : Terms) (request : AppendRequest) (bytes : List ℕ)
+        (answer : RequestAnswer) (gained : List Deed)
+        → IsCarriedOut terms (Append request) bytes answer gained
+        → answer ≡ Ok 0
+        → StandsOrIsPassedOn terms.service request bytes gained }
+    ensures answered { (terms : Terms) (request : AppendRequest) (bytes : List ℕ)
+        (answer : RequestAnswer) (gained : List Deed)
+        → IsAnswered terms (Append request) bytes answer gained
+        → answer ≡ Ok 0
+        → StandsOrIsPassedOn terms.service request bytes gained }
+{}
+
+/// If a flush of the defer log is answered 0, and a bounce log was found, that log was read, and each letter of each notice
+/// of it was accepted before the first deed on the defer log; or none was, and Postfix's own service answered 0 to the flush
+/// of the bounce log, which has neither CLEAN nor DELRCPT.
+pub fn bounce_logs_are_told_first()
+    ensures { (task : Task) (first : PostfixRequest) (bytes : List ℕ) (answer : RequestAnswer)
+        (gained deeds : List Deed) (named : List ℕ)
+        → first_flush task.terms.service task.request ≡ Some first
+        → notice_asked task.request ≡ Some task.notice
+        → IsAnswered task.terms task.request bytes answer gained
+        → answer ≡ Ok 0
+        → gained ≡ LogSought Bounce named (Ok true) ∷ deeds
+        → IsToldFirst task first bytes deeds }
+{}

@@ -1,0 +1,36 @@
+//! What is made of a request's log and file before its first notice is handed in.
+ghost use Rattle.std.specs.Prelude.{◌≡◌, IfErr, IfOk};
+ghost use Rattle.dsn_postfix_notices.specs.requests.RequestLetters.{AreLettersAsked, CantBeSaid, IsReason, places_done};
+
+use crate::requests::mail_found::MailFound;
+use crate::requests::notice_task::NoticeTask;
+use crate::requests::places_done::places_done;
+use crate::requests::request_letters::letters_asked;
+use crate::requests::untold::Untold;
+use dsn_outcome::Letter;
+use std::alloc::Global;
+
+/// The letters of a request, and who is done after them.
+#[derive(Drop)]
+pub(super) struct LettersMade {
+    /// The letters of all notices that it has.
+    pub(super) letters: Vec<Letter>,
+    /// The places of the recipients that are marked as done once all are accepted.
+    pub(super) places: Vec<u64>,
+}
+
+/// Makes all letters of what was read, and says who is done after them.
+pub(super) fn make_letters(
+    alloc: Global,
+    task: &NoticeTask<'_>,
+    found: &MailFound,
+) -> Result<LettersMade, Untold>
+    ensures made { IfOk result (λ made. AreLettersAsked task.now found.now made.letters.items) }
+    ensures places { IfOk result (λ made. made.places.items
+        ≡ places_done task.now found.now.log) }
+    ensures none { IfErr result (IsReason (CantBeSaid task.now found.now)) }
+{
+    let letters = letters_asked(alloc, task, found)?;
+    let places = places_done(alloc, task, found.log())?;
+    Ok(LettersMade { letters, places })
+}

@@ -1,0 +1,51 @@
+//! A request for notices that is carried out on the log of one service.
+ghost use Rattle.std.specs.Prelude.{◌≡◌};
+
+use crate::requests::request_terms::RequestTerms;
+use crate::requests::service_settings::ServiceSettings;
+use dsn_postfix::{NoticeRequest, PostfixRequest};
+use dsn_report::Site;
+use dsn_text::Service;
+use std::marker::Model;
+
+/// A request for notices, and the terms on which it is carried out.
+#[derive(Debug, Drop)]
+pub(super) struct NoticeTask<'a> {
+    /// On which terms it is carried out.
+    pub(super) terms: &'a RequestTerms<'a>,
+    /// The request.
+    pub(super) request: &'a PostfixRequest<'a>,
+    /// What it says of the message: a part of the request.
+    pub(super) notice: &'a NoticeRequest<'a>,
+}
+
+impl<'a> Model for NoticeTask<'a> {
+    ghost use Rattle.dsn_postfix_notices.specs.requests.Task.{Task};
+
+    ghost Value = { Task };
+
+    ghost view = { λ task. record {
+      terms = task.terms.now;
+      request = task.request.now;
+      notice = task.notice.now;
+    } };
+}
+
+impl<'a> NoticeTask<'a> {
+    /// The service that is asked.
+    pub(super) fn service(&self) -> Service
+        ensures { result ≡ self.now.terms.service }
+    {
+        let terms: &RequestTerms<'_> = self.terms;
+        terms.service
+    }
+
+    /// The mail system's name.
+    pub(super) fn site(&self) -> &'a Site
+        ensures { result.now ≡ self.now.terms.settings.host }
+    {
+        let terms: &RequestTerms<'a> = self.terms;
+        let settings: &ServiceSettings<'a> = terms.settings;
+        settings.site
+    }
+}

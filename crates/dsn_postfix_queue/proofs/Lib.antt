@@ -1,0 +1,3 @@
+mod PathExamples
+pub mod OwnServiceLemmas
+pub mod PathLemmas

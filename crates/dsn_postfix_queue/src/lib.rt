@@ -1,0 +1,12 @@
+//! The queue folder of a running Postfix as a mail system: its logs, its messages' files, its own services, and the log of events.
+#![tactic(auto)]
+
+mod event_log;
+mod queue_folder;
+
+pub use event_log::EventLog;
+pub use queue_folder::{
+    FolderHashing, LargeFiles, MOST_DEPTH, OtherDepth, PostfixPlace, PostfixSystem, QueueFault,
+    ascii_text, ask_own_service, asked_text, check_queues, depth_against, path_in_queue,
+    socket_name,
+};

@@ -1,0 +1,28 @@
+//! The queue folder of a running Postfix as a mail system: its logs, its messages' files, its own
+//! services, and the mail server that notices are handed to.
+mod ascii;
+mod folder_hashing;
+mod hashed_id;
+mod large_files;
+mod log_file;
+mod message_file;
+mod notice_words;
+mod own_service;
+mod postfix_place;
+mod postfix_system;
+mod queue_check;
+mod queue_entry;
+mod queue_files;
+mod queue_path;
+mod service_name;
+
+pub use ascii::{ascii_text, asked_text};
+pub use folder_hashing::FolderHashing;
+pub use large_files::LargeFiles;
+pub use own_service::ask_own_service;
+pub use postfix_place::PostfixPlace;
+pub use postfix_system::PostfixSystem;
+pub use queue_check::{MOST_DEPTH, OtherDepth, QueueFault, check_queues};
+pub use queue_entry::depth_against;
+pub use queue_path::path_in_queue;
+pub use service_name::socket_name;

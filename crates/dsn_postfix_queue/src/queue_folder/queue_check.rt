@@ -1,0 +1,140 @@
+//! Whether the queues of a Postfix are hashed as the settings say, by what stands in them.
+//! Implements docs/FORMATS.md, "Files".
+use crate::queue_folder::postfix_place::PostfixPlace;
+use crate::queue_folder::queue_entry::depth_against;
+use std::fs::DirEntry;
+use std::io::ErrorKind;
+use std::{fs, io};
+use thiserror::Error;
+
+/// The greatest depth of a hashed queue.
+pub const MOST_DEPTH: u32 = 16;
+
+/// The queues that are looked at: those of logs, and those of the messages that requests name.
+const QUEUES: [&str; 7] = [
+    "bounce", "defer", "trace", "incoming", "active", "deferred", "hold",
+];
+
+/// Why the settings are taken for wrong. The words begin with a path below the queue folder.
+#[derive(Debug, Drop, Error)]
+pub enum QueueFault {
+    /// A file or a folder shows that its queue is hashed to another depth.
+    #[error("{0}")]
+    Differs(OtherDepth),
+    /// A queue's folder can't be read.
+    #[error("{0}: {1}")]
+    Unread(&'static str, io::Error),
+}
+
+/// An entry that shows its queue to be hashed to another depth than the settings say.
+#[derive(Debug, Drop, Error)]
+#[error("{path}: the queue is hashed to a depth of {found}, and the options say {wanted}")]
+pub struct OtherDepth {
+    /// The file or the folder, below the queue folder.
+    path: String,
+    /// The depth that it shows.
+    found: u64,
+    /// The depth by the settings.
+    wanted: u32,
+}
+
+/// A folder that is still to be looked into.
+#[derive(Drop)]
+struct Folder {
+    /// Its path below the queue folder.
+    path: String,
+    /// How many folders it stands below its queue's own.
+    above: u32,
+}
+
+/// Looks at what stands in the queues, and returns an error if that can't be with these settings.
+pub fn check_queues(rt: &HostRuntime, place: &PostfixPlace<'_>) -> Result<(), QueueFault> {
+    for queue in QUEUES {
+        match first_against(rt, place, queue) {
+            Ok(None) => {}
+            Ok(Some(other)) => return Err(QueueFault::Differs(other)),
+            Err(error) => return Err(QueueFault::Unread(queue, error)),
+        }
+    }
+    Ok(())
+}
+
+/// The first entry of a queue that is against the settings, if there is one.
+fn first_against(
+    rt: &HostRuntime,
+    place: &PostfixPlace<'_>,
+    queue: &str,
+) -> io::Result<Option<OtherDepth>> {
+    let mut folders = Vec::new(rt.alloc());
+    folders.push(Folder {
+        path: format!(in rt.alloc(); "{queue}")?,
+        above: 0,
+    })?;
+    for _ in 0..u64::MAX {
+        let Some(folder) = folders.pop() else {
+            break;
+        };
+        if let Some(other) = look_into(rt, place, queue, &folder, &mut folders)? {
+            return Ok(Some(other));
+        }
+    }
+    Ok(None)
+}
+
+/// The first entry of a folder that is against the settings, if there is one. Folders in it are added
+/// to those that are still to be looked into.
+fn look_into(
+    rt: &HostRuntime,
+    place: &PostfixPlace<'_>,
+    queue: &str,
+    folder: &Folder,
+    folders: &mut Vec<Folder>,
+) -> io::Result<Option<OtherDepth>> {
+    let (root, path) = (place.root, folder.path.as_str());
+    let read = fs::read_dir(rt, format!(in rt.alloc(); "{root}/{path}")?.as_str());
+    let entries = match read {
+        Err(error) if error.kind() == ErrorKind::NotFound => return Ok(None),
+        read => read?,
+    };
+    for entry in entries {
+        let entry = match entry {
+            Err(error) if error.kind() == ErrorKind::InvalidFilename => continue,
+            entry => entry?,
+        };
+        let name = entry.file_name();
+        let against = depth_against(
+            &place.hashing,
+            queue.as_bytes(),
+            folder.above,
+            name.as_bytes(),
+        );
+        if (against.is_none() && name.len() > 1) || !is_of_its_kind(&entry) {
+            continue;
+        }
+        let below = format!(in rt.alloc(); "{path}/{name}")?;
+        if let Some(found) = against {
+            return Ok(Some(OtherDepth {
+                path: below,
+                found,
+                wanted: place.hashing.depth_of(queue.as_bytes()),
+            }));
+        }
+        if folder.above < MOST_DEPTH {
+            folders.push(Folder {
+                path: below,
+                above: folder.above + 1,
+            })?;
+        }
+    }
+    Ok(None)
+}
+
+/// Whether an entry is what its name says: a folder if that is a single byte, else a file. One that is
+/// gone is neither.
+fn is_of_its_kind(entry: &DirEntry) -> bool {
+    match entry.file_type() {
+        Ok(kind) if entry.file_name().len() == 1 => kind.is_dir(),
+        Ok(kind) => kind.is_file(),
+        Err(_) => false,
+    }
+}

@@ -1,0 +1,20 @@
+//! The names of services and of their sockets.
+use dsn_text::Service;
+
+/// The name of a service, which is that of its folder of logs and of Postfix's own socket.
+pub(super) fn service_name(service: Service) -> &'static str {
+    match service {
+        Service::Bounce => "bounce",
+        Service::Defer => "defer",
+        Service::Trace => "trace",
+    }
+}
+
+/// The name of the socket that stands beside Postfix's own one.
+pub fn socket_name(service: Service) -> &'static str {
+    match service {
+        Service::Bounce => "noticed-bounce",
+        Service::Defer => "noticed-defer",
+        Service::Trace => "noticed-trace",
+    }
+}

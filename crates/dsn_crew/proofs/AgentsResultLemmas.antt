@@ -42,5 +42,3 @@ module _ {A : Type 0} (test : A → Bool) where
       ∙ (ap (λ (l : List A). found || list_any test l) left_is
       ∙ (sym (or_assoc found (test one) (list_any test then)) ∙ λ i. (ap (λ (p : Bool). found || p) is ∙ sym now_is) i || list_any test then))
 
-  pub found_all : (whole left : List A) (found : Bool) → length left ≡ 0 → FoundSoFar whole left found → list_any test whole ≡ found
-  found_all whole left found none so_far = so_far ∙ (ap (λ (l : List A). found || list_any test l) (nil_from_length left none) ∙ or-false found)

@@ -18,8 +18,6 @@ abbrev pub Completes : {X B : Type 0} → (X → List B → Type 0) → X → X 
 Completes {X} {B} fits whole left done = (more : List B) → fits left more → fits whole (done ++ more)
 
 module _ {X B : Type 0} (fits : X → List B → Type 0) (whole : X) where
-  pub completes-begun : (left : X) (done : List B) → left ≡ whole → done ≡ [] → Completes fits whole left done
-  completes-begun left done is none = λ more fit. subst (λ l. fits whole (l ++ more)) (sym none) (subst (λ x. fits x more) is fit)
 
   pub completes-more : (left then : X) (done new : List B) (one : B) → ((more : List B) → fits then more → fits left (one ∷ more)) → new ≡ done ++ one ∷ [] → Completes fits whole left done → Completes fits whole then new
   completes-more left then done new one step is so_far = λ more fit.

@@ -14,14 +14,6 @@ use Rattle.dsn_device.specs.Transfer.{AppendsFront, AppendsPart}
 pub AppendsFront-all : (a b : Option (List ℕ)) (text : List ℕ) → Appends a b text → AppendsFront a b text
 AppendsFront-all a b text p = record { front = text; unsent = []; split = sym (append-nil text); appended = p }
 
--- a drain that kept its bytes took the empty front
-pub AppendsFront-none : (a b : Option (List ℕ)) (text : List ℕ) → Keeps a b → AppendsFront a b text
-AppendsFront-none a b text p = record { front = []; unsent = text; split = refl; appended = Appends-kept a a b [] (Appends-nil a) p }
-
--- what was taken in part is a front
-pub AppendsFront-part : (a b : Option (List ℕ)) (text : List ℕ) → AppendsPart a b text → AppendsFront a b text
-AppendsFront-part a b text p = record { front = p.front; unsent = p.unsent; split = p.split; appended = p.appended }
-
 -- what was taken of a text in part, was taken in part of each longer text
 pub AppendsPart-longer : (a b : Option (List ℕ)) (text more : List ℕ) → AppendsPart a b text → AppendsPart a b (text ++ more)
 AppendsPart-longer a b text more p = record {

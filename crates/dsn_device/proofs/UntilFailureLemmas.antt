@@ -11,7 +11,7 @@ use Rattle.dsn_device.specs.Throughout.{LeavesThroughout}
 use Rattle.dsn_device.specs.UntilFailure.{Sent, counts_failure, WritesUntilFailure, FlushesUntilFailure, MarksUntilFailure, LeavesMarked, LeavesMarkedOrNext, TakesNoTime, Lost, in_text, at_flush, WrittenAndFlushed, Unmarked, unflushed, at_mark, WrittenAndMarked}
 use Rattle.dsn_device.specs.declared.drain.Drain.{Ghosts as Drain}
 use Rattle.dsn_device.proofs.ThroughoutLemmas.{stands_still, stands_still_then, stood_still_first}
-use Rattle.dsn_device.proofs.TransferLemmas.{Appends-part, AppendsFront-all, AppendsFront-none, AppendsFront-part, AppendsPart-longer, AppendsPart-kept}
+use Rattle.dsn_device.proofs.TransferLemmas.{Appends-part, AppendsFront-all, AppendsPart-longer, AppendsPart-kept}
 
 -- nothing was asked
 pub Sent-none : (a : Bool) (x : Option (List ℕ)) → Sent a a x x []
@@ -108,25 +108,6 @@ module _ {W : Type 0} (drain : Drain W) where
   ends true true false x y z text sent no_flush first kept once second lasts passed surely = absurd (never (lasts refl))
   ends true true true x y z text sent no_flush first kept once second lasts passed surely = second refl ∙ first refl
 
-  -- a text that was written and flushed, where nothing failed
-  pub flushed-whole : (a b : Bool) (old new : W) (text : List ℕ) → b ≡ false → WrittenAndFlushed drain a b old new text
-      → Appends (drain.contents old) (drain.contents new) text
-  flushed-whole false false old new text is p = p.taken
-  flushed-whole true false old new text is p = absurd p
-  flushed-whole a true old new text is p = absurd (never (sym is))
-
-  lost-front : (old new : W) (text : List ℕ) → Lost drain old new text → AppendsFront (drain.contents old) (drain.contents new) text
-  lost-front old new text (in_text part none) = AppendsFront-part _ _ text part
-  lost-front old new text (at_flush all once unsure) = AppendsFront-all _ _ text all
-
-  -- and whatever failed
-  pub flushed-front : (a b : Bool) (old new : W) (text : List ℕ) → WrittenAndFlushed drain a b old new text
-      → AppendsFront (drain.contents old) (drain.contents new) text
-  flushed-front false false old new text p = AppendsFront-all _ _ text p.taken
-  flushed-front false true old new text p = lost-front old new text p
-  flushed-front true false old new text p = absurd p
-  flushed-front true true old new text p = AppendsFront-none _ _ text (rw p (Keeps-refl (drain.contents old)))
-
 module _ {W : Type 0} {drain : Drain W} where
   -- a text was written, and then the drain was flushed
   pub written-flushed : {a b c : Bool} {x y z : W} {text : List ℕ} → WritesUntilFailure drain a b x y text → FlushesUntilFailure drain b c y z
@@ -181,25 +162,6 @@ module _ {W : Type 0} (drain : Drain W) where
   marks true false c x y z text serial made same still q = absurd made
   marks true true false x y z text serial made same still q = absurd (never (q.idle refl).0)
   marks true true true x y z text serial made same still q = (q.idle refl).1 ∙ made
-
-  -- a text that was written, flushed and marked, where nothing failed
-  pub marked-whole : (a b : Bool) (old new : W) (text : List ℕ) (serial : ℕ) → b ≡ false → WrittenAndMarked drain a b old new text serial
-      → Appends (drain.contents old) (drain.contents new) text
-  marked-whole false false old new text serial is p = p.flushed.taken
-  marked-whole true false old new text serial is p = absurd p
-  marked-whole a true old new text serial is p = absurd (never (sym is))
-
-  unmarked-front : (old new : W) (text : List ℕ) (serial : ℕ) → Unmarked drain old new text serial → AppendsFront (drain.contents old) (drain.contents new) text
-  unmarked-front old new text serial (unflushed lost same still) = lost-front drain old new text lost
-  unmarked-front old new text serial (at_mark all once passed_on same some unsure any_moment) = AppendsFront-all _ _ text all
-
-  -- and whatever failed
-  pub marked-front : (a b : Bool) (old new : W) (text : List ℕ) (serial : ℕ) → WrittenAndMarked drain a b old new text serial
-      → AppendsFront (drain.contents old) (drain.contents new) text
-  marked-front false false old new text serial p = AppendsFront-all _ _ text p.flushed.taken
-  marked-front false true old new text serial p = unmarked-front old new text serial p
-  marked-front true false old new text serial p = absurd p
-  marked-front true true old new text serial p = AppendsFront-none _ _ text (rw p (Keeps-refl (drain.contents old)))
 
 module _ {W : Type 0} {drain : Drain W} where
   -- a text was written, the drain was flushed, and then its letter was marked

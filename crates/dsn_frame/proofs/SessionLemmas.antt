@@ -64,23 +64,6 @@ module _ (medium : Medium) (limit before : ℕ) (start : Option (List ℕ)) wher
       read = read_more left next frames bytes session.read reads.1;
     }
 
-    -- the frame was asked, and got a reply
-    pub session_asked : (body : Body) (reply : Replied) → Encodes bytes (length frames) body → before + length bodies < limit
-        → IsOpenSession medium limit before start next (frames ++ bytes ∷ []) (bodies ++ body ∷ []) (answers ++ spoken.Reply reply ∷ [])
-    session_asked body reply encoded room = session_more (body ∷ []) (spoken.Reply reply ∷ []) (asked body reply encoded room)
-
-    -- the frame was refused, and the session goes on
-    pub session_refused : (refusal : Refusal) → IsFrameRefused (length frames) bytes refusal → refusal_end refusal ≡ None
-        → IsOpenSession medium limit before start next (frames ++ bytes ∷ []) bodies (answers ++ spoken.Refused (refusal_code refusal) ∷ [])
-    session_refused refusal is goes_on =
-        let takes = rw goes_on at (refused_takes medium limit (before + length bodies) (length frames) bytes refusal is) in
-        rw append-nil at (session_more [] (spoken.Refused (refusal_code refusal) ∷ []) takes)
-
-    -- the frame was refused because the requests that there may be were used up
-    pub session_used_up : (body : Body) → Encodes bytes (length frames) body → before + length bodies ≡ limit
-        → IsOpenSession medium limit before start next (frames ++ bytes ∷ []) bodies (answers ++ spoken.Refused 44 ∷ [])
-    session_used_up body encoded full = rw append-nil at (session_more [] (spoken.Refused 44 ∷ []) (used_up body encoded full))
-
     -- ---- the end at a frame
 
     -- the session ended at the frame
@@ -98,25 +81,6 @@ module _ (medium : Medium) (limit before : ℕ) (start : Option (List ℕ)) wher
     pub session_unwritten : (more : List Body) (answer : Spoken) (end : Option ℕ) → Takes medium limit (before + length bodies) (length frames) bytes more (answer ∷ []) end
         → IsSession medium limit before start next (frames ++ bytes ∷ []) (bodies ++ more) (answers ++ answer ∷ []) (Some (unwritten_code medium))
     session_unwritten more answer end takes = session_stopped more (answer ∷ []) end (unwritten_code medium) takes (unwritten answer end)
-
-    -- the frame's number was out of turn, and the answer was written
-    pub session_out_of_turn : (refusal : Refusal) (code : ℕ) → IsFrameRefused (length frames) bytes refusal → refusal_end refusal ≡ Some code
-        → IsSession medium limit before start next (frames ++ bytes ∷ []) bodies (answers ++ spoken.Refused (refusal_code refusal) ∷ []) (Some code)
-    session_out_of_turn refusal code is ends =
-        let takes = rw ends at (refused_takes medium limit (before + length bodies) (length frames) bytes refusal is) in
-        rw append-nil at (session_stopped [] (spoken.Refused (refusal_code refusal) ∷ []) (Some code) code takes (written _ (Some code)))
-
-    -- the daemon had given up before the frame was asked
-    pub session_given_up : (body : Body) → Encodes bytes (length frames) body → medium ≡ Connection
-        → IsSession medium limit before start next (frames ++ bytes ∷ []) bodies answers (Some 41)
-    session_given_up body encoded connected =
-        rw (append-nil bodies, append-nil answers) at (session_stopped [] [] (Some 41) 41 (given_up body encoded connected) (written [] (Some 41)))
-
-    -- the daemon gave up after the frame was asked, and no reply came
-    pub session_given_up_after : (body : Body) → Encodes bytes (length frames) body → before + length bodies < limit → medium ≡ Connection
-        → IsSession medium limit before start next (frames ++ bytes ∷ []) (bodies ++ body ∷ []) answers (Some 41)
-    session_given_up_after body encoded room connected =
-        rw (append-nil answers) at (session_stopped (body ∷ []) [] (Some 41) 41 (given_up_after body encoded room connected) (written [] (Some 41)))
 
   -- ---- the end where a frame is to be read
 

@@ -41,17 +41,6 @@ module _ {W : Type 0} {device : Drain W} where
   pub Took-as : {s t : LineWriter W} {a b : List ℕ} → a ≡ b → Took device s t a → Took device s t b
   Took-as {s} {t} e p = subst (Took device s t) e p
 
-  -- a text that is held back
-  pub Took-pending : {s t : LineWriter W} {text : List ℕ} → t.writer ≡ s.writer → t.pending ≡ s.pending ++ text → t.dots ≡ s.dots → Took device s t text
-  Took-pending {s} {t} {text} writer pending dots = record {
-    text_taken = λ start before taken. record {
-      front = taken.front;
-      split = ap (λ front. front ++ text) taken.split ∙ append_assoc taken.front s.pending text ∙ ap (λ more. taken.front ++ more) (sym pending);
-      written = subst (λ now. Writes device start now taken.front) (sym writer) taken.written;
-    };
-    dots_kept = dots;
-  }
-
   -- a text that is written after what was held back
   pub Took-written : {s t u : LineWriter W} {text : List ℕ} → Settled device s t → Writes device t.writer u.writer text → u.pending ≡ t.pending → u.dots ≡ t.dots → Took device s u text
   Took-written {s} {t} {u} {text} settled wrote pending dots = record {

@@ -60,9 +60,6 @@ same_failed false = refl
 
 -- a collector that has stopped has what it had, but its book may be another one
 module _ {B : Type 0} (keeper : Keeper B) where
-  stopped_start : (old new : Desk B) → HasStopped keeper old new → new.start ≡ old.start
-  stopped_start old new (inl same) = ap (λ (desk : Desk B). desk.start) same
-  stopped_start old new (inr unkept) = ap (λ (desk : Desk B). desk.start) unkept.5
 
   stopped_requests : (old new : Desk B) → HasStopped keeper old new → new.requests ≡ old.requests
   stopped_requests old new (inl same) = ap (λ (desk : Desk B). desk.requests) same

@@ -11,7 +11,7 @@ use Rattle.crossbeam_channel.specs.Fifo.{Pushes, Pops, Forks, Merges, Learns}
 use Rattle.dsn_outcome.specs.Agents.{from_agent}
 use Rattle.dsn_crew.proofs.lane.AgentLemmas.{get_seam, mine, not_mine, more, more_mine, more_not_mine, seam_mine, numbered_more, numbered_none}
 use Rattle.dsn_crew.specs.lane.Lane.{IsLane, IsNumbered, Knows, back_from}
-use Rattle.dsn_crew.specs.lane.Step.{opened, after_room, after_split, split_off, after_send, after_take, after_join, known_after, IsNext, Settles, IsSettled}
+use Rattle.dsn_crew.specs.lane.Step.{opened, after_room, after_split, split_off, after_send, after_take, after_join, known_after, IsNext, Settles, IsLaneSettled}
 use Rattle.dsn_crew.specs.declared.lane.lane_knowledge.Sending.{Sending}
 use Rattle.dsn_crew.specs.declared.lane.lane_knowledge.Taking.{Taking}
 use Rattle.dsn_crew.specs.declared.lane.lane_knowledge.LaneKnowledge.{LaneKnowledge}
@@ -340,7 +340,7 @@ module _ {T : Type 0} (agent number : T → ℕ) where
 
   -- ---- reading the joined pass
 
-  settles_at : (capacity pass : ℕ) (known : Taking T) → Learns (IsLane agent number) pass (Takes capacity known) (IsSettled agent number (Takes capacity known))
+  settles_at : (capacity pass : ℕ) (known : Taking T) → Learns (IsLane agent number) pass (Takes capacity known) (IsLaneSettled agent number (Takes capacity known))
   settles_at capacity pass known waiting tokens h at =
       let own = h.passes pass (Takes capacity known) at in
       let most : capacity ≡ h.capacity = own.0 in
@@ -353,5 +353,5 @@ module _ {T : Type 0} (agent number : T → ℕ) where
       } in
       subst (λ (it : Taking T). Settles agent number capacity it waiting) own.2 here
 
-  pub settles : (pass : ℕ) (token : LaneKnowledge T) (capacity : ℕ) (known : Taking T) → token ≡ Takes capacity known → Learns (IsLane agent number) pass token (IsSettled agent number token)
-  settles pass token capacity known is = subst (λ (it : LaneKnowledge T). Learns (IsLane agent number) pass it (IsSettled agent number it)) (sym is) (settles_at capacity pass known)
+  pub settles : (pass : ℕ) (token : LaneKnowledge T) (capacity : ℕ) (known : Taking T) → token ≡ Takes capacity known → Learns (IsLane agent number) pass token (IsLaneSettled agent number token)
+  settles pass token capacity known is = subst (λ (it : LaneKnowledge T). Learns (IsLane agent number) pass it (IsLaneSettled agent number it)) (sym is) (settles_at capacity pass known)

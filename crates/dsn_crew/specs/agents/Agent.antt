@@ -53,8 +53,8 @@ taken_more out answer =
     record { lane = out.lane; first = out.first; past = out.past; taken = out.taken ++ answer ∷ [] }
 
 -- the halves once a body is sent, and once its reply has come
-abbrev pub after_send : LaneHalves → Body → LaneHalves
-after_send halves body =
+abbrev pub with_sent : LaneHalves → Body → LaneHalves
+with_sent halves body =
     record { requests = sent_more halves.requests (request_with halves body); answers = halves.answers }
 
 abbrev pub after_reply : LaneHalves → Body → Replied → LaneHalves
@@ -67,7 +67,7 @@ after_reply halves body replied =
 -- a body that has no answer is not sent, and handed back; or it is sent
 abbrev pub IsUnanswered : LaneHalves → Body → LaneHalves → Option Body.Body → Type 0
 IsUnanswered old body new (Some back) = (body_of back ≡ body) × (new ≡ old)
-IsUnanswered old body new None = new ≡ after_send old body
+IsUnanswered old body new None = new ≡ with_sent old body
 
 -- what a body that is sent comes to: the answer to it, or none
 abbrev pub IsExchange : LaneHalves → Body → LaneHalves → Result Answer Unanswered → Type 0
@@ -109,7 +109,7 @@ IsAsk old body new (Ok answer) =
 IsAsk old body new (Err (Lost (Some back))) =
     (old.lost ≡ false → length old.halves.requests.sent < old.limit) × (body_of back ≡ body)
     × (new ≡ losing old old.halves)
-IsAsk old body new (Err (Lost None)) = MayAsk old × (new ≡ losing old (after_send old.halves body))
+IsAsk old body new (Err (Lost None)) = MayAsk old × (new ≡ losing old (with_sent old.halves body))
 IsAsk old body new (Err (Limit back)) =
     (old.lost ≡ false) × (length old.halves.requests.sent ≡ old.limit) × (body_of back ≡ body)
     × (new ≡ old)

@@ -79,7 +79,7 @@ module _ {T : Type 0} where
           ≡ record { agent = a; sent = from_agent agent a (known.taken ++ waiting) } ∷ [])
       pub numbered : (a : ℕ) → IsNumbered number (from_agent agent a (known.taken ++ waiting))
 
-    abbrev pub IsSettled : LaneKnowledge T → List T → Type 0
-    IsSettled (Takes capacity known) waiting = Settles capacity known waiting
-    IsSettled (Sends capacity half) waiting = Unit {0}
-    IsSettled Spent waiting = Unit {0}
+    abbrev pub IsLaneSettled : LaneKnowledge T → List T → Type 0
+    IsLaneSettled (Takes capacity known) waiting = Settles capacity known waiting
+    IsLaneSettled (Sends capacity half) waiting = Unit {0}
+    IsLaneSettled Spent waiting = Unit {0}

@@ -90,7 +90,7 @@ impl<T> Lesson<T, LaneKnowledge<T>> for Removes {
 pub struct ReadsOff;
 
 impl<T: Carried> Lesson<T, LaneKnowledge<T>> for ReadsOff {
-    ghost use Rattle.dsn_crew.specs.lane.Step.{IsSettled};
+    ghost use Rattle.dsn_crew.specs.lane.Step.{IsLaneSettled};
 
-    ghost fact = { IsSettled T.agent T.number };
+    ghost fact = { IsLaneSettled T.agent T.number };
 }

@@ -14,7 +14,7 @@ use Rattle.dsn_postfix_notices.specs.declared.requests.untold.Untold.TheVariants
 abbrev pub hand_in_of : List ℕ → Letter → Result (List ℕ) HandInFault → Deed
 hand_in_of host letter answer = HandedIn (return_path_of letter) (mail_data host letter) answer
 
-pub record IsAccepted (host : List ℕ) (letter : Letter) (deed : Deed) : Type 0 where
+pub record IsNoticeAccepted (host : List ℕ) (letter : Letter) (deed : Deed) : Type 0 where
   pub reply : List ℕ
   pub deed_is : deed ≡ hand_in_of host letter (Ok reply)
 
@@ -22,7 +22,7 @@ pub record IsAccepted (host : List ℕ) (letter : Letter) (deed : Deed) : Type 0
 abbrev pub AreAccepted : List ℕ → List Letter → List Deed → Type 0
 AreAccepted host [] gained = gained ≡ []
 AreAccepted host (letter ∷ letters) [] = ⊥
-AreAccepted host (letter ∷ letters) (deed ∷ gained) = IsAccepted host letter deed × AreAccepted host letters gained
+AreAccepted host (letter ∷ letters) (deed ∷ gained) = IsNoticeAccepted host letter deed × AreAccepted host letters gained
 
 -- whether the letter after these is the first of a request
 abbrev pub is_first_after : List Letter → Bool

@@ -33,15 +33,9 @@ kept-next : (a b c : Option (List ℕ)) (next : Option (List ℕ)) → Keeps a b
 kept-next a b c None kept reads = (kept-end a b kept reads.0, reads.1)
 kept-next a b c (Some body) kept reads = (reads.0, kept-consumed a b c (frame body) kept reads.1)
 
-kept-none : (a b c : Option (List ℕ)) (fault : FrameFault) → Keeps a b → ReadsNone b c fault → ReadsNone a c fault
-kept-none a b c fault kept none = record { part = none.part; consumed = kept-consumed a b c none.part kept none.consumed; stops = none.stops; ends = none.ends }
-
 -- ---- a frame that was sent
 
 module _ {S : Type 0} (source : Source S) (drain : Drain S) (held_is_written : (s : S) → source.holds s ≡ drain.contents s) (left_is_unread : (s : S) → drain.left s ≡ source.remaining s) (place : ℕ) (bytes text : List ℕ) (whole : text ≡ frame bytes) where
-  -- not all of it was written
-  pub ask-not-sent : (old new : S) → AppendsPart (drain.contents old) (drain.contents new) text → Keeps (drain.left old) (drain.left new) → IsAsked place bytes (drain.contents old) (drain.contents new) (source.remaining old) (source.remaining new) (Err faults.NotSent)
-  ask-not-sent old new part unread = (rw whole at part, keeps-as drain.left source.remaining left_is_unread old new unread)
 
   module _ (old mid new : S) (written : Appends (drain.contents old) (drain.contents mid) text) (unread : Keeps (drain.left old) (drain.left mid)) (held : Keeps (source.holds mid) (source.holds new)) where
     sent : Appends (drain.contents old) (drain.contents new) (frame bytes)
@@ -53,15 +47,7 @@ module _ {S : Type 0} (source : Source S) (drain : Drain S) (held_is_written : (
     reads : (next : Option (List ℕ)) → ReadsNext (source.remaining mid) (source.remaining new) next → ReadsNext (source.remaining old) (source.remaining new) next
     reads next = kept-next (source.remaining old) (source.remaining mid) (source.remaining new) next still
 
-    pub ask-unanswered : ReadsNext (source.remaining mid) (source.remaining new) None → IsAsked place bytes (drain.contents old) (drain.contents new) (source.remaining old) (source.remaining new) (Err faults.Unanswered)
-    ask-unanswered ends = (sent, reads None ends)
-
-    pub ask-unreadable : (fault : FrameFault) → ReadsNone (source.remaining mid) (source.remaining new) fault → IsAsked place bytes (drain.contents old) (drain.contents new) (source.remaining old) (source.remaining new) (Err (faults.AnswerFrame fault))
-    ask-unreadable fault none = (sent, kept-none (source.remaining old) (source.remaining mid) (source.remaining new) fault still none)
-
     module _ (body : List ℕ) (next : ReadsNext (source.remaining mid) (source.remaining new) (Some body)) where
-      pub ask-faulty : (fault : AnswerFault) → first_answer_fault body ≡ Some fault → IsAsked place bytes (drain.contents old) (drain.contents new) (source.remaining old) (source.remaining new) (Err (faults.Answer fault))
-      ask-faulty fault first = (sent, record { body = body; got = reads (Some body) next; first = first })
 
       came : (number : ℕ) (answer : Spoken) → body ≡ answer_body number answer → FitsAnswer number answer → IsAnswer number (source.remaining old) (source.remaining new) answer
       unfolding answer_bytes

@@ -327,7 +327,7 @@ module _ {D M P S W N : Type 0} (disk : Disk.Ghosts D) (marks_disk : Disk.Ghosts
     pub crash : LeavesStart disk limits journal last
 
   -- a run over a ledger that the disk held, after the letters that were still to be posted
-  pub record IsStarted : Type 0 where
+  pub record IsDaemonStarted : Type 0 where
     pub ledger : Ledger D
     pub poster : Outgoing (MarkedOutbox W M)
     pub start : IsStartOver disk marks_disk drain host limits journal marks outbox ledger poster
@@ -336,7 +336,7 @@ module _ {D M P S W N : Type 0} (disk : Disk.Ghosts D) (marks_disk : Disk.Ghosts
 
   -- a run over these ports, these disks and this outbox
   abbrev pub IsServeOver : Type 0
-  IsServeOver = IsNotStarted ⊎ IsStarted
+  IsServeOver = IsNotStarted ⊎ IsDaemonStarted
 
 -- a run over so many ports of a socket, each with so many uses, and over these disks; or one that found
 -- no memory for the list of its ports, or was asked for no crew, so that nothing began and no disk was

@@ -70,7 +70,7 @@ module _ {P S W N : Type 0} (port : Port P S) (drain : Drain W) (notes_device : 
     (end : ServeEnd W) where
   -- a run that ended well: all that is true of its crew, and its notes, over the logs that the
   -- requests taken leave open
-  pub record IsServed : Type 0 where
+  pub record IsDaemonServed : Type 0 where
     pub account : Account W Book
     pub crew : IsAccount port drain host limits ports start account
     pub count : (1 ≤ length ports) × (length ports ≤ most_ports)
@@ -88,7 +88,7 @@ module _ {P S W N : Type 0} (port : Port P S) (drain : Drain W) (notes_device : 
 
   -- a run over these ports
   abbrev pub IsServe : Type 0
-  IsServe = IsServed ⊎ IsFaulted
+  IsServe = IsDaemonServed ⊎ IsFaulted
 
 -- a run over so many ports of a socket, each with so many uses; or one for 1 to `most_ports` of them
 -- that found no memory for their list, so that nothing began. `may_end` says whether a watch may end

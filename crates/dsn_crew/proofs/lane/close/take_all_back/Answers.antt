@@ -6,7 +6,7 @@ use Rattle.std.specs.Vec.Iter.{into_iter_items}
 use Rattle.dsn_crew.proofs.lane.CloseLemmas.{all_joined, few_more, joined_more, joined_takes, total_more}
 use Rattle.dsn_crew.proofs.lane.RuleLemmas.{joins, settles}
 use Rattle.dsn_crew.specs.lane.Halves.{Half, lane_at, sending_of}
-use Rattle.dsn_crew.specs.lane.Step.{IsSettled}
+use Rattle.dsn_crew.specs.lane.Step.{IsLaneSettled}
 use Rattle.dsn_crew.specs.declared.lane.lane_knowledge.LaneKnowledge.{LaneKnowledge}
 use Rattle.dsn_crew.specs.declared.lane.lane_knowledge.LaneKnowledge.TheVariants.{Sends}
 use Rattle.dsn_crew.proofs.lane.close.take_all_back.Goals as goal
@@ -34,4 +34,4 @@ learn_as-requires-clause-rule g c =
 pub returns-clause-settled : goal.returns-clause-settled
 returns-clause-settled g c =
     let is = all_joined _ _ _ _ _ _ _ (into_iter_items c.loop-half.half-iterator) c.in-Some.last c.args.halves.items c.requires.receiver c.loop-half.invariant.joined (search rules) (c.last.invariant.1 ∙ ap (λ (half : Half g.row.T.Denot). Sends (ruled_capacity (sends_on c.last.inside.sender)) (sending_of half)) c.last.view_is) c.absorb.ensures.rule (search rules) in
-    (c.learn_as.ensures.rule.0, subst (λ (it : LaneKnowledge g.row.T.Denot). IsSettled g.T.Carried.agent g.T.Carried.number it c.learn_as.ensures.rule.0) is c.learn_as.ensures.rule.1)
+    (c.learn_as.ensures.rule.0, subst (λ (it : LaneKnowledge g.row.T.Denot). IsLaneSettled g.T.Carried.agent g.T.Carried.number it c.learn_as.ensures.rule.0) is c.learn_as.ensures.rule.1)

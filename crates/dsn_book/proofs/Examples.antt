@@ -5,7 +5,7 @@ use Rattle.std.specs.declared.cmp.Ordering.TheVariants.{Less, Greater}
 use Rattle.dsn_text.specs.declared.key.Key.{Key}
 use Rattle.dsn_text.specs.declared.service.Service.TheVariants.{Bounce, Defer, Trace}
 use Rattle.dsn_book.specs.Entry.{entry_with}
-use Rattle.dsn_book.specs.Index.{open_lines_by}
+use Rattle.dsn_book.specs.inner.Index.{open_lines_by}
 use Rattle.dsn_text.specs.Key.{key_cmp}
 use Rattle.dsn_book.specs.OpenLine.{line_of, open_lines_in}
 use Rattle.dsn_book.specs.Held.{Entry, Open, Closed}

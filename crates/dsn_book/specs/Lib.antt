@@ -8,4 +8,4 @@ pub mod Limits
 pub mod NotKept
 pub mod OpenLine
 pub mod Step
-pub mod Table
+pub mod inner

@@ -6,9 +6,9 @@ use Rattle.std.proofs.Math.Bool.{or-false}
 use mathlib.Core.Bool.{or_assoc}
 use Rattle.std.proofs.lemmas.List.{append-nil, nil_from_length}
 use Rattle.dsn_crew.specs.agents.Agent.{LaneHalves}
-use Rattle.dsn_crew.specs.AgentsResult.{AreEnded}
+use Rattle.dsn_crew.specs.inner.AgentsResult.{AreEnded}
 use Rattle.dsn_crew.specs.declared.agents.agent_line.AgentLine.{AgentLine}
-use Rattle.dsn_crew.specs.agents.PortEnd.{PortEnd}
+use Rattle.dsn_crew.specs.inner.PortEnd.{PortEnd}
 
 -- with these lines and agents, any that end what is left end all
 abbrev pub EndedSoFar : List (Option PortEnd) → List (Option PortEnd) → List AgentLine → List LaneHalves → Type 0
@@ -41,4 +41,3 @@ module _ {A : Type 0} (test : A → Bool) where
       so_far
       ∙ (ap (λ (l : List A). found || list_any test l) left_is
       ∙ (sym (or_assoc found (test one) (list_any test then)) ∙ λ i. (ap (λ (p : Bool). found || p) is ∙ sym now_is) i || list_any test then))
-

@@ -25,7 +25,8 @@ use Rattle.dsn_outcome.specs.declared.answer.Answer.{Answer}
 use Rattle.dsn_outcome.specs.declared.answer.Reply.TheVariants.{Gone}
 use Rattle.dsn_crew.specs.post.LetterSink.{LetterSink, TakesLetter}
 use Rattle.dsn_device.proofs.ThroughoutLemmas.{stands_still}
-use Rattle.dsn_crew.specs.post.Posting.{IsPosted, IsUntouched}
+use Rattle.dsn_crew.specs.inner.Posting.{IsPosted}
+use Rattle.dsn_crew.specs.post.Posting.{IsUntouched}
 use Rattle.dsn_crew.specs.declared.post.posted.Posted.{Posted}
 use Rattle.dsn_crew.proofs.post.LetterSinkLemmas.{handed_letters}
 use Rattle.dsn_crew.proofs.post.ParcelLemmas.{option_few}
@@ -33,18 +34,21 @@ use Rattle.dsn_report.specs.Outgoing as outgoing
 use Rattle.dsn_report.specs.Outgoing.{Delivered, IsOutbox, Outgoing}
 use Rattle.dsn_crew.specs.agents.Agent.{Agent, LaneHalves, after_reply}
 use Rattle.dsn_crew.specs.desk.Close.{IsHeard}
-use Rattle.dsn_crew.specs.Breach.{stop_cause}
-use Rattle.dsn_crew.specs.CollectorResult.{IsCollectorResult}
-use Rattle.dsn_crew.specs.Conclude.{Concludes, MayClose, account_of, fault_of, missing_cause}
+use Rattle.dsn_crew.specs.inner.Breach.{stop_cause}
+use Rattle.dsn_crew.specs.inner.CollectorResult.{IsCollectorResult}
+use Rattle.dsn_crew.specs.inner.Conclude.{Concludes, MayClose, account_of, fault_of, missing_cause}
 use Rattle.dsn_crew.specs.Crew.{Account, AreAgentAccounts, AreSealedAfter, CrewFault, HasAccount, HasFault, IsAccount, IsAccountAfter, IsAgentAccount, IsBrokenOff, IsCrewFault, IsFaultWith, IsHandedBack, IsPostedBy, MayCrashWithin, PostedBefore, StandsAtFault, none_posted}
-use Rattle.dsn_crew.specs.desk.Desk.{AreNextOf, BeginsWith, Desk, IsDesk, IsRun, IsStopped, StandsOrRefused, all_gone, history, letter_kept, missing as missing_more, places_of}
+use Rattle.dsn_crew.specs.KeeperHistory.{AreNextOf, BeginsWith, StandsOrRefused}
+use Rattle.dsn_crew.specs.desk.Desk.{Desk, IsDesk, IsRun, all_gone, history, letter_kept, missing as missing_more, places_of}
+use Rattle.dsn_crew.specs.inner.Desk.{IsStopped}
 use Rattle.dsn_crew.specs.desk.Intake.{goodbyes}
-use Rattle.dsn_crew.specs.AgentsResult.{AreEnded, IsAgentsResult}
+use Rattle.dsn_crew.specs.inner.AgentsResult.{AreEnded, IsAgentsResult}
 use Rattle.dsn_crew.specs.desk.Open.{IsOpened, opened_agent}
 use Rattle.dsn_crew.specs.agents.Place.{place_at, place_of}
-use Rattle.dsn_crew.specs.agents.Port.{AreOverPort, Conn, Given, HasGiven, IsPortServed, Session, answers_of, bodies_of}
+use Rattle.dsn_crew.specs.agents.Port.{AreOverPort, Conn, Given, HasGiven, Session, answers_of, bodies_of}
+use Rattle.dsn_crew.specs.inner.Agent.{IsPortServed}
 use Rattle.dsn_crew.specs.agents.Serve.{after_requests, answers_from, numbered_answer, numbered_from, numbered_request, requests_from}
-use Rattle.dsn_crew.specs.StartServing.{AreServed, AreStarted, IsJoined, missing_threads}
+use Rattle.dsn_crew.specs.inner.StartServing.{AreServed, AreStarted, IsJoined, missing_threads}
 use Rattle.dsn_crew.specs.declared.agents.agent_line.AgentLine.{AgentLine}
 use Rattle.dsn_crew.specs.declared.collector_result.CollectorResult.{CollectorResult}
 use Rattle.dsn_crew.specs.declared.collector_result.CollectorResult.TheVariants.{Whole, Failed}
@@ -56,7 +60,7 @@ use Rattle.dsn_crew.specs.declared.desk.stop_cause.StopCause.TheVariants as stop
 use Rattle.dsn_crew.specs.declared.agents_result.AgentsResult.{AgentsResult}
 use Rattle.dsn_crew.specs.declared.agents_result.AgentsResult.TheVariants as gathered
 use Rattle.dsn_crew.specs.declared.agents.port.Port.{Ghosts as Port}
-use Rattle.dsn_crew.specs.agents.PortEnd.{PortEnd}
+use Rattle.dsn_crew.specs.inner.PortEnd.{PortEnd}
 use Rattle.dsn_crew.specs.declared.start_serving.Serves.{Serves}
 use Rattle.dsn_crew.proofs.agents.ServeLemmas.{numbered-length}
 use Rattle.dsn_crew.proofs.desk.CloseLemmas.{going_on}

@@ -4,9 +4,11 @@ use Rattle.std.proofs.Math.Nat.{mod-add-mod}
 use native.Mathlib.Decide.{ℕ_discrete, dec_le}
 use Rattle.dsn_outcome.specs.Agents.{from_agent}
 use Rattle.dsn_crew.proofs.lane.AgentLemmas.{more_mine, more_not_mine, numbered_more, numbered_none}
-use Rattle.dsn_crew.specs.lane.Halves.{Identity, Half, Out, IsSending, IsReceiving, sending, taking, fresh, fresh_halves, passed_over}
+use Rattle.dsn_crew.specs.lane.Halves.{Identity, Half, Out, fresh_halves}
+use Rattle.dsn_crew.specs.inner.Halves.{IsSending, IsReceiving, sending, taking, fresh, passed_over}
 use Rattle.dsn_crew.specs.lane.Lane.{IsNumbered}
-use Rattle.dsn_crew.specs.lane.Step.{after_room, with_sent, after_take, after_join, after_split, split_off, IsNext}
+use Rattle.dsn_crew.specs.inner.Step.{after_room, after_take, after_join, after_split, split_off, IsNext}
+use Rattle.dsn_crew.specs.inner.Step.{after_send}
 use Rattle.dsn_crew.specs.declared.lane.lane_knowledge.Sending.{Sending}
 use Rattle.dsn_crew.specs.declared.lane.lane_knowledge.Taking.{Taking}
 use Rattle.dsn_crew.specs.declared.lane.lane_knowledge.LaneKnowledge.{LaneKnowledge}
@@ -56,10 +58,10 @@ keeps_sending_at {T} agent number half count item is next before = record {
 }
 
 -- the knowledge of a sending half, after a send
-pub keeps_sending : {T : Type 0} (agent number : T → ℕ) (capacity : ℕ) (old new : LaneKnowledge T) (count : ℕ) (item : T) → old ≡ Sends capacity (sending old) → new ≡ with_sent old item → agent item ≡ (sending old).agent → number item ≡ length (sending old).sent → IsSending agent number (sending old) count → (new ≡ Sends capacity (sending new)) × IsSending agent number (sending new) (count + 1)
+pub keeps_sending : {T : Type 0} (agent number : T → ℕ) (capacity : ℕ) (old new : LaneKnowledge T) (count : ℕ) (item : T) → old ≡ Sends capacity (sending old) → new ≡ after_send old item → agent item ≡ (sending old).agent → number item ≡ length (sending old).sent → IsSending agent number (sending old) count → (new ≡ Sends capacity (sending new)) × IsSending agent number (sending new) (count + 1)
 keeps_sending {T} agent number capacity old new count item is step own next before =
     let half : Sending T = sending old in
-    let now : new ≡ with_sent (Sends capacity half) item = step ∙ ap (λ (it : LaneKnowledge T). with_sent it item) is in
+    let now : new ≡ after_send (Sends capacity half) item = step ∙ ap (λ (it : LaneKnowledge T). after_send it item) is in
     subst (λ (it : LaneKnowledge T). (it ≡ Sends capacity (sending it)) × IsSending agent number (sending it) (count + 1)) (sym now) (refl, keeps_sending_at agent number half count item own next before)
 
 -- ---- a take

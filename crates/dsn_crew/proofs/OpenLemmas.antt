@@ -14,8 +14,10 @@ use Rattle.dsn_outcome.specs.History.{Exchange, answers_to, history_after}
 use Rattle.dsn_outcome.specs.Request.{Request}
 use Rattle.dsn_outcome.specs.declared.answer.Answer.{Answer}
 use Rattle.dsn_crew.specs.agents.Agent.{Agent}
-use Rattle.dsn_crew.specs.desk.Desk.{BeginsWith, Desk, IsDesk, desk_seen}
-use Rattle.dsn_crew.specs.desk.Intake.{Intake}
+use Rattle.dsn_crew.specs.KeeperHistory.{BeginsWith}
+use Rattle.dsn_crew.specs.desk.Desk.{Desk, IsDesk}
+use Rattle.dsn_crew.specs.inner.Desk.{desk_seen}
+use Rattle.dsn_crew.specs.inner.Desk.{Intake}
 use Rattle.dsn_crew.specs.desk.Close.{AreCrew}
 use Rattle.dsn_crew.specs.desk.Open.{AreLines, IsLine, IsOpened, opened_agent}
 use Rattle.dsn_crew.specs.agents.Place.{place_at, place_of}

@@ -5,10 +5,10 @@ use Rattle.std.specs.List.{AllZip}
 use Rattle.std.specs.declared.thread.PromisedHandle.{PromisedHandle}
 use Rattle.std.proofs.lemmas.List.{append-nil, nil_from_length}
 use Rattle.dsn_crew.specs.agents.Agent.{Agent}
-use Rattle.dsn_crew.specs.agents.Port.{IsPortServed}
-use Rattle.dsn_crew.specs.StartServing.{AreServed, AreStarted, IsStarted, IsJoined}
+use Rattle.dsn_crew.specs.inner.Agent.{IsPortServed}
+use Rattle.dsn_crew.specs.inner.StartServing.{AreServed, AreStarted, IsStarted, IsJoined}
 use Rattle.dsn_crew.specs.declared.agents.port.Port.{Ghosts as Port}
-use Rattle.dsn_crew.specs.agents.PortEnd.{PortEnd}
+use Rattle.dsn_crew.specs.inner.PortEnd.{PortEnd}
 use Rattle.dsn_crew.specs.declared.start_serving.Serves.{Serves}
 
 -- ---- results that are made one after another
@@ -18,7 +18,6 @@ abbrev pub Completes : {X B : Type 0} → (X → List B → Type 0) → X → X 
 Completes {X} {B} fits whole left done = (more : List B) → fits left more → fits whole (done ++ more)
 
 module _ {X B : Type 0} (fits : X → List B → Type 0) (whole : X) where
-
   pub completes-more : (left then : X) (done new : List B) (one : B) → ((more : List B) → fits then more → fits left (one ∷ more)) → new ≡ done ++ one ∷ [] → Completes fits whole left done → Completes fits whole then new
   completes-more left then done new one step is so_far = λ more fit.
       subst (λ l. fits whole (l ++ more)) (sym is) (subst (fits whole) (sym (append_assoc done (one ∷ []) more)) (so_far (one ∷ more) (step more fit)))

@@ -20,7 +20,7 @@ use Rattle.dsn_report.specs.Outgoing.{Delivered, IsOutbox, Outgoing}
 use Rattle.dsn_crew.specs.agents.Agent.{LaneHalves}
 use Rattle.dsn_crew.specs.agents.Port.{AreOverPort, AreSessions, Conn, Given, HasGiven, Session, answers_of, bodies_of, faults_of, most_connections}
 use Rattle.dsn_crew.specs.agents.Serve.{answers_from, numbered_answer, numbered_request, requests_from}
-use Rattle.dsn_crew.specs.desk.Desk.{AreNextOf, StandsOrRefused}
+use Rattle.dsn_crew.specs.KeeperHistory.{AreNextOf, StandsOrRefused}
 use Rattle.dsn_crew.specs.desk.Intake.{most_together}
 use Rattle.dsn_crew.specs.declared.agents.agent_line.AgentLine.{AgentLine}
 use Rattle.dsn_crew.specs.declared.crew_cause.CrewCause.{CrewCause}

@@ -1,12 +1,7 @@
-pub mod AgentsResult
-pub mod Breach
-pub mod CollectorResult
-pub mod Conclude
 pub mod Crew
-pub mod CrewMemory
-pub mod StartServing
-pub mod TakenBy
+pub mod KeeperHistory
 pub mod agents
 pub mod desk
+pub mod inner
 pub mod lane
 pub mod post

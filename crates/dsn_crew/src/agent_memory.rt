@@ -1,6 +1,6 @@
 //! Room for what comes of each agent.
 ghost use Rattle.std.specs.Prelude.{IfOk};
-ghost use Rattle.dsn_crew.specs.CrewMemory.{AreSlots};
+ghost use Rattle.dsn_crew.specs.inner.CrewMemory.{AreSlots};
 
 use crate::agents::{AgentLine, Finished, Port, PortEnd};
 use crate::start_serving::Serves;

@@ -1,6 +1,6 @@
 //! What came of the agents' threads, taken together.
 ghost use Rattle.std.specs.Prelude.{◌≡◌, ◌≤◌, [], length, vec_capacity};
-ghost use Rattle.dsn_crew.specs.AgentsResult.{IsAgentsResult};
+ghost use Rattle.dsn_crew.specs.inner.AgentsResult.{IsAgentsResult};
 
 use crate::agents::{AgentLine, Finished, PortEnd, Unheard};
 

@@ -1,6 +1,6 @@
 //! Why a crew's run ended with a fault, with what shows it.
 ghost use Rattle.std.specs.Prelude.{◌≡◌};
-ghost use Rattle.dsn_crew.specs.Breach.{cause_of};
+ghost use Rattle.dsn_crew.specs.inner.Breach.{cause_of};
 
 use crate::agents::Unheard;
 use crate::crew_cause::CrewCause;

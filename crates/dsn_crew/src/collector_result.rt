@@ -1,8 +1,8 @@
 //! How the collector's part of a run ended.
 ghost use Rattle.std.specs.Prelude.{List};
 ghost use Rattle.dsn_outcome.specs.History.{Exchange};
-ghost use Rattle.dsn_crew.specs.CollectorResult.{IsCollectorResult};
-ghost use Rattle.dsn_crew.specs.desk.Desk.{BeginsWith};
+ghost use Rattle.dsn_crew.specs.inner.CollectorResult.{IsCollectorResult};
+ghost use Rattle.dsn_crew.specs.KeeperHistory.{BeginsWith};
 
 use crate::desk::{Desk, StopCause};
 use crate::post::LetterSink;

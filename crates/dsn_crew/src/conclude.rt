@@ -1,6 +1,6 @@
 //! The end of a run: an account of it, or its fault.
 ghost use Rattle.std.specs.Prelude.{◌≡◌, ◌↔◌, true, None};
-ghost use Rattle.dsn_crew.specs.Conclude.{Concludes, MayClose};
+ghost use Rattle.dsn_crew.specs.inner.Conclude.{Concludes, MayClose};
 
 use crate::agents_result::AgentsResult;
 use crate::breach::{Breach, Loss};

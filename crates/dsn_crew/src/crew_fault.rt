@@ -2,7 +2,7 @@
 //! It returns what carried the requests out, so that a later run or a repair has its disk.
 ghost use Rattle.std.specs.Prelude.{◌≡◌, [], ◌∷◌, ◌++◌, None, Some};
 ghost use Rattle.dsn_book.specs.Step.{letters_in};
-ghost use Rattle.dsn_crew.specs.Breach.{cause_of, IsShown};
+ghost use Rattle.dsn_crew.specs.inner.Breach.{cause_of, IsShown};
 ghost use Rattle.dsn_crew.specs.Crew.{crew_cause_code};
 
 use crate::breach::Breach;
@@ -35,9 +35,9 @@ pub struct CrewFault<W, B: Keeper = Book> {
 
 impl<W, B: Keeper> Model for CrewFault<W, B> {
     ghost use Rattle.std.specs.Prelude.{◌≡◌};
-    ghost use Rattle.dsn_crew.specs.Breach.{cause_of, IsShown};
+    ghost use Rattle.dsn_crew.specs.inner.Breach.{cause_of, IsShown};
     ghost use Rattle.dsn_crew.specs.Crew.{CrewFault};
-    ghost use Rattle.dsn_crew.specs.TakenBy.{behind_of, taken_by};
+    ghost use Rattle.dsn_crew.specs.inner.TakenBy.{behind_of, taken_by};
 
     ghost Value = { CrewFault W B };
 

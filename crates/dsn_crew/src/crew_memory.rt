@@ -2,8 +2,8 @@
 ghost use Rattle.std.specs.Prelude.{◌≡◌, ◌^◌, ◌<◌, ◌≤◌, List, [], IfErr, IfOk};
 ghost use Rattle.dsn_crew.specs.lane.Lane.{most_agents};
 ghost use Rattle.dsn_outcome.specs.History.{Exchange};
-ghost use Rattle.dsn_crew.specs.CrewMemory.{IsRoom};
-ghost use Rattle.dsn_crew.specs.desk.Desk.{BeginsWith};
+ghost use Rattle.dsn_crew.specs.inner.CrewMemory.{IsRoom};
+ghost use Rattle.dsn_crew.specs.KeeperHistory.{BeginsWith};
 
 use crate::agent_memory::AgentMemory;
 use crate::agents::{Agent, Port};

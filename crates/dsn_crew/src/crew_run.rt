@@ -5,7 +5,7 @@ ghost use Rattle.dsn_book.specs.Keeper.{MayCrash};
 ghost use Rattle.dsn_book.specs.declared.not_kept.NotKept.{NotKept};
 ghost use Rattle.dsn_outcome.specs.History.{Exchange, history_of};
 ghost use Rattle.dsn_crew.specs.Crew.{HasAccount, HasFault, IsAccount, IsCrewFault, IsPostedBy, MayCrashWithin, PostedBefore, most_ports};
-ghost use Rattle.dsn_crew.specs.desk.Desk.{BeginsWith};
+ghost use Rattle.dsn_crew.specs.KeeperHistory.{BeginsWith};
 
 use crate::agent_memory::AgentMemory;
 use crate::agents::{Gate, Port};

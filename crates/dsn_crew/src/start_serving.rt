@@ -1,7 +1,7 @@
 //! The starts and the ends of the agents' threads.
 ghost use Rattle.std.specs.Prelude.{◌≡◌, ◌≤◌, [], All, length, IfSome, vec_capacity};
 ghost use Rattle.std.specs.List.{AllZip};
-ghost use Rattle.dsn_crew.specs.StartServing.{AreStarted, IsStarted, IsJoined, missing_threads};
+ghost use Rattle.dsn_crew.specs.inner.StartServing.{AreStarted, IsStarted, IsJoined, missing_threads};
 
 use crate::agents::{Agent, Gate, Port, PortEnd, serve_port};
 use std::alloc::Global;
@@ -17,7 +17,7 @@ pub(crate) struct Serves<P> {
 }
 
 impl<P: Port> Promise<PortEnd> for Serves<P> {
-    ghost use Rattle.dsn_crew.specs.agents.Port.{IsPortServed};
+    ghost use Rattle.dsn_crew.specs.inner.Agent.{IsPortServed};
 
     ghost kept_by = { λ p r. IsPortServed (P.conns p.port.value) (P.may_give p.port.value) p.agent.value r };
 }

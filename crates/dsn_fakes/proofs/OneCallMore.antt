@@ -3,7 +3,8 @@ use Rattle.std.proofs.Common.{◌≡◌, inl, inr, ℕ, ◌+◌, ◌≤◌, List
 use Rattle.std.proofs.lemmas.Bool.{cases_lt}
 use Rattle.std.proofs.lemmas.List.{take_all, take-append-le}
 use Rattle.std.specs.declared.alloc.Global.{Global}
-use Rattle.dsn_journal.specs.Disk.{Torn, written_over, Elapses, length-over}
+use Rattle.dsn_journal.specs.Disk.{Torn, written_over, Elapses}
+use Rattle.dsn_journal.specs.inner.Disk.{length-over}
 use Rattle.dsn_fakes.specs.MemoryDisk.{seen_after, LeftAfter, LeftGoesOn}
 use Rattle.dsn_fakes.specs.declared.memory_disk.Call.{Call}
 use Rattle.dsn_fakes.specs.declared.memory_disk.Call.TheVariants.{Write, Sync, Replace}

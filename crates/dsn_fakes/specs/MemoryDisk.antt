@@ -3,7 +3,8 @@
 use Rattle.std.specs.Prelude.{◌≡◌, ℕ, ◌≤◌, List, [], ◌∷◌, length, take, refl}
 use Rattle.std.proofs.Common.{inr, subst, sym, arith}
 use Rattle.std.proofs.lemmas.List.{take_all}
-use Rattle.dsn_journal.specs.Disk.{Mixes, Torn, written_over, length-over}
+use Rattle.dsn_journal.specs.Disk.{Mixes, Torn, written_over}
+use Rattle.dsn_journal.specs.inner.Disk.{length-over}
 use Rattle.dsn_fakes.specs.declared.memory_disk.Call.{Call}
 use Rattle.dsn_fakes.specs.declared.memory_disk.Call.TheVariants.{Write, Sync, Replace}
 use Rattle.dsn_fakes.specs.declared.memory_disk.MemoryDisk.{MemoryDisk}

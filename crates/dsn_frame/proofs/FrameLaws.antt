@@ -6,7 +6,8 @@ use Rattle.std.proofs.KnownBytes.{Consumes-trans}
 use Rattle.std.proofs.lemmas.List.{length-append, take_all}
 use Rattle.std.proofs.lemmas.Nat.{from_be_bytes-to_be_bytes_4}
 use Rattle.dsn_frame.specs.bodies.FrameBody.{IsFrameLength, IsFrameBody}
-use Rattle.dsn_frame.specs.Frame.{declared_length, length_prefix, IsPartOfFrame, StopsAt, ReadsNext, ReadsNone, ConsumesLength, MissesLength, LengthMissing, MissesBody, BodyMissing}
+use Rattle.dsn_frame.specs.Frame.{declared_length, length_prefix, IsPartOfFrame, StopsAt, ReadsNext, ReadsNone, ConsumesLength}
+use Rattle.dsn_frame.specs.inner.FrameBuffer.{MissesLength, LengthMissing, MissesBody, BodyMissing}
 use Rattle.dsn_frame.specs.declared.frame_fault.FrameFault.{FrameFault}
 use Rattle.dsn_frame.specs.declared.frame_fault.FrameFault.TheVariants.{NoMemory, TooLong, Empty, CutShort, Read}
 

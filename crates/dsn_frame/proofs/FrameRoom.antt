@@ -2,7 +2,8 @@
 use Rattle.std.proofs.Common.{◌≡◌, ◌≢◌, ℕ, ◌+◌, ◌^◌, ◌<◌, List, ◌++◌, length, Option, refl, arith}
 use Rattle.std.specs.Int.{w32, to_be_bytes}
 use Rattle.std.proofs.KnownBytes.{Consumes-trans}
-use Rattle.dsn_frame.specs.Frame.{length_prefix, ConsumesLength, MissesLength, LengthMissing, MissesBody, BodyMissing}
+use Rattle.dsn_frame.specs.Frame.{length_prefix, ConsumesLength}
+use Rattle.dsn_frame.specs.inner.FrameBuffer.{MissesLength, LengthMissing, MissesBody, BodyMissing}
 use Rattle.dsn_frame.specs.FrameBuffer.{RoomFor, RoomAfterPart, RoomAtFault, LeavesRoom}
 use Rattle.dsn_frame.specs.declared.frame_fault.FrameFault.{FrameFault}
 use Rattle.dsn_frame.specs.declared.frame_fault.FrameFault.TheVariants.{NoMemory, TooLong, Empty, CutShort, Read}

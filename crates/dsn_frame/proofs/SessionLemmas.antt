@@ -18,7 +18,8 @@ use Rattle.dsn_frame.specs.declared.bodies.spoken.Spoken.TheVariants as spoken
 use Rattle.dsn_frame.specs.Frame.{ReadsNext, ReadsNone}
 use Rattle.dsn_frame.specs.FrameFault.{frame_fault_code}
 use Rattle.dsn_frame.specs.Refusal.{refusal_code, refusal_end, IsFrameRefused}
-use Rattle.dsn_frame.specs.Session.{Medium, Input, Connection, unwritten_code, Takes, faulty, out_of_memory, out_of_turn, used_up, asked, given_up, given_up_after, GoesOn, written, unwritten, begun, taken, stopped, well, cut, too_many, no_memory_for_book, IsSession, IsOpenSession}
+use Rattle.dsn_frame.specs.Session.{Medium, Input, Connection, unwritten_code, Takes, faulty, out_of_memory, out_of_turn, used_up, asked, given_up, given_up_after, GoesOn, written, unwritten, begun, taken, stopped, well, cut, too_many, no_memory_for_book, IsSession}
+use Rattle.dsn_frame.specs.inner.Session.{IsOpenSession}
 use Rattle.dsn_frame.specs.declared.frame_fault.FrameFault.{FrameFault}
 use Rattle.dsn_frame.specs.declared.refusal.Refusal.{Refusal}
 use Rattle.dsn_frame.specs.declared.refusal.Refusal.TheVariants as refusals

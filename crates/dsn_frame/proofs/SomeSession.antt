@@ -23,7 +23,8 @@ use Rattle.dsn_frame.specs.declared.bodies.spoken.Spoken.TheVariants as spoken
 use Rattle.dsn_frame.proofs.bodies.Existence.{accepted_is_encoded}
 use Rattle.dsn_frame.proofs.bodies.FieldLaws.{IsBytes, IsBytes-take, IsBytes-after}
 use Rattle.dsn_frame.specs.Frame.{FramesEnd, ReadsNext}
-use Rattle.dsn_frame.specs.Session.{Medium, faulty, out_of_turn, used_up, asked, written, IsSession, IsOpenSession}
+use Rattle.dsn_frame.specs.Session.{Medium, faulty, out_of_turn, used_up, asked, written, IsSession}
+use Rattle.dsn_frame.specs.inner.Session.{IsOpenSession}
 use Rattle.dsn_frame.specs.SessionLaws.{is_from_outside, IsDecided, RepliesAre, SessionWith, HasSomeSession}
 use Rattle.dsn_frame.specs.declared.frame_fault.FrameFault.{FrameFault}
 use Rattle.dsn_frame.specs.declared.frame_fault.FrameFault.TheVariants.{NoMemory, TooLong, Empty, CutShort, Read}

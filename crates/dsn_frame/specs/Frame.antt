@@ -1,6 +1,6 @@
 -- Frames: how bodies follow one another in an input, and how an input ends (this project's
 -- profile).
-use Rattle.std.specs.Prelude.{◌≡◌, ℕ, ◌+◌, ◌<◌, ◌≤◌, List, [], ◌++◌, length, take, drop, Option, Some, None}
+use Rattle.std.specs.Prelude.{◌≡◌, ℕ, ◌+◌, ◌<◌, ◌≤◌, List, [], ◌++◌, length, take, Option, Some, None}
 use Rattle.std.specs.Io.KnownBytes.{Consumes, IsAtEnd}
 use Rattle.std.specs.Int.{w32, to_be_bytes, from_be_bytes}
 use Rattle.std.specs.List.{flat_map, AllByRecursion}
@@ -15,11 +15,6 @@ length_prefix = 4
 -- the longest frame, in bytes: the length and the longest body
 abbrev pub longest_frame : ℕ
 longest_frame = length_prefix + longest_body
-
--- bytes that are a frame, whose body stands after the first four
-pub record IsHeld (bytes : List ℕ) : Type 0 where
-  pub legal : IsFrameBody (drop length_prefix bytes)
-  pub whole : bytes ≡ frame (drop length_prefix bytes)
 
 -- the length that the first four bytes declare
 abbrev pub declared_length : List ℕ → ℕ
@@ -78,21 +73,6 @@ pub record ReadsNone (old new : Option (List ℕ)) (fault : FrameFault) : Type 0
   pub stops : StopsAt fault part
   pub ends : fault ≡ CutShort → IsAtEnd new
 
--- a frame's length could not be read, or is none that a frame has
-abbrev pub MissesLength : FrameFault → List ℕ → Type 0
-MissesLength TooLong part = (length part ≡ length_prefix) × (longest_body < declared_length part)
-MissesLength Empty part = (length part ≡ length_prefix) × (declared_length part ≡ 0)
-MissesLength CutShort part = (0 < length part) × (length part < length_prefix)
-MissesLength Read part = length part < length_prefix
-MissesLength NoMemory part = ⊥
-
--- no length of a frame could be read: these bytes were
-pub record LengthMissing (old new : Option (List ℕ)) (fault : FrameFault) : Type 0 where
-  pub part : List ℕ
-  pub consumed : Consumes old new part
-  pub misses : MissesLength fault part
-  pub ends : fault ≡ CutShort → IsAtEnd new
-
 -- the four bytes of a frame's length
 pub record ConsumesLength (old new : Option (List ℕ)) (size : ℕ) : Type 0 where
   pub consumed : Consumes old new (to_be_bytes w32 size)
@@ -103,22 +83,3 @@ pub record LacksRoom (room : ℕ) (old new : Option (List ℕ)) : Type 0 where
   pub size : ℕ
   pub consumed : ConsumesLength old new size
   pub lacks : room < length_prefix + size
-
--- the length of the next frame, or none at the end
-abbrev pub ReadsLength : Option (List ℕ) → Option (List ℕ) → Option ℕ → Type 0
-ReadsLength old new None = IsAtEnd old × IsAtEnd new
-ReadsLength old new (Some size) = ConsumesLength old new size
-
--- a body of this size could not be read: nothing of it, or less than all of it
-abbrev pub MissesBody : FrameFault → ℕ → List ℕ → Type 0
-MissesBody NoMemory size part = part ≡ []
-MissesBody CutShort size part = length part < size
-MissesBody Read size part = length part < size
-MissesBody TooLong size part = ⊥
-MissesBody Empty size part = ⊥
-
-pub record BodyMissing (old new : Option (List ℕ)) (size : ℕ) (fault : FrameFault) : Type 0 where
-  pub part : List ℕ
-  pub consumed : Consumes old new part
-  pub misses : MissesBody fault size part
-  pub ends : fault ≡ CutShort → IsAtEnd new

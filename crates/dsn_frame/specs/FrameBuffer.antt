@@ -1,7 +1,7 @@
 -- A buffer for frames: the frame that it holds, and how much room it has.
-use Rattle.std.specs.Prelude.{◌≡◌, ℕ, ◌+◌, ◌*◌, ◌<◌, ◌≤◌, min, max, List, length, take, drop, Option, Some, None}
+use Rattle.std.specs.Prelude.{◌≡◌, ℕ, ◌+◌, ◌*◌, ◌<◌, ◌≤◌, min, max, List, length, Option, Some, None}
 use Rattle.std.specs.Io.KnownBytes.{Consumes}
-use Rattle.dsn_frame.specs.Frame.{IsHeld, declared_length, length_prefix, longest_frame}
+use Rattle.dsn_frame.specs.Frame.{declared_length, length_prefix, longest_frame}
 use Rattle.dsn_frame.specs.declared.frame_fault.FrameFault.{FrameFault}
 use Rattle.dsn_frame.specs.declared.frame_fault.FrameFault.TheVariants.{NoMemory, TooLong, Empty, CutShort, Read}
 
@@ -10,16 +10,6 @@ use Rattle.dsn_frame.specs.declared.frame_fault.FrameFault.TheVariants.{NoMemory
 pub record Buffered : Type 0 where
   pub room : ℕ
   pub held : Option (List ℕ)
-
--- the body of the frame at the front of these bytes, which has so many of them
-abbrev pub body_at_front : List ℕ → Option ℕ → Option (List ℕ)
-body_at_front bytes None = None
-body_at_front bytes (Some whole) = Some (drop length_prefix (take whole bytes))
-
--- so many bytes at the front of these are a frame
-abbrev pub IsAtFront : List ℕ → Option ℕ → Type 0
-IsAtFront bytes None = Unit {0}
-IsAtFront bytes (Some whole) = (whole ≤ length bytes) × IsHeld (take whole bytes)
 
 -- room that was too little for a frame of so many bytes, and now is enough: twice what it was, or
 -- the frame where that is longer, and no more than the longest frame

@@ -8,3 +8,4 @@ pub mod Session
 pub mod SessionLaws
 pub mod WholeInput
 pub mod bodies
+pub mod inner

@@ -83,13 +83,6 @@ pub data SessionSoFar (medium : Medium) (limit before : ℕ) : List (List ℕ) �
       → SessionSoFar medium limit before (frames ++ bytes ∷ []) (bodies ++ more)
       (answers ++ said) last
 
--- a session that hasn't ended: these frames were read from a source, from `start` to what it has
--- left, and taken
-pub record IsOpenSession (medium : Medium) (limit before : ℕ) (start left : Option (List ℕ))
-    (frames : List (List ℕ)) (bodies : List Body) (answers : List Spoken) : Type 0 where
-  pub takes : SessionSoFar medium limit before frames bodies answers None
-  pub read : Consumes start left (flat_map frame frames)
-
 -- how a session ends after so many frames, from what was then to be read and what is at last: with
 -- the end that the last frame made; well at the input's end; or with the number of a fault
 pub data SessionEnds (medium : Medium) (limit count : ℕ) (made : Option ℕ)

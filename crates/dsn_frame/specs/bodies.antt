@@ -1,6 +1,5 @@
 pub mod AnswerFault
 pub mod BodyFault
-pub mod BodyParts
 pub mod FrameBody
 pub mod Laws
 pub mod Request

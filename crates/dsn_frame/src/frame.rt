@@ -5,7 +5,8 @@ ghost use Rattle.std.specs.Int.{w32, from_be_bytes, to_be_bytes};
 ghost use Rattle.std.specs.Io.KnownBytes.{Consumes, IsAtEnd, Keeps};
 ghost use Rattle.dsn_device.specs.Failures.{counted};
 ghost use Rattle.dsn_frame.specs.bodies.FrameBody.{IsFrameLength, IsFrameBody, frame};
-ghost use Rattle.dsn_frame.specs.Frame.{BodyMissing, IsHeld, LengthMissing, ReadsLength, ReadsNext, ReadsNone, length_prefix};
+ghost use Rattle.dsn_frame.specs.inner.FrameBuffer.{BodyMissing, IsHeld, LengthMissing, ReadsLength};
+ghost use Rattle.dsn_frame.specs.Frame.{ReadsNext, ReadsNone, length_prefix};
 ghost use Rattle.dsn_frame.specs.FrameFault.{source_failed};
 
 use crate::frame_fault::FrameFault;
@@ -28,7 +29,8 @@ pub struct Frame {
 
 impl Model for Frame {
     ghost use Rattle.std.specs.Prelude.{ℕ, List, drop};
-    ghost use Rattle.dsn_frame.specs.Frame.{IsHeld, length_prefix};
+    ghost use Rattle.dsn_frame.specs.inner.FrameBuffer.{IsHeld};
+    ghost use Rattle.dsn_frame.specs.Frame.{length_prefix};
 
     ghost Value = { List ℕ };
 

@@ -4,8 +4,10 @@ ghost use Rattle.std.specs.Prelude.{◌≡◌, ◌≢◌, ◌+◌, ◌<◌, ◌�
 ghost use Rattle.std.specs.Io.KnownBytes.{Consumes, Keeps};
 ghost use Rattle.dsn_device.specs.Failures.{counted};
 ghost use Rattle.dsn_frame.specs.bodies.FrameBody.{IsFrameLength};
-ghost use Rattle.dsn_frame.specs.Frame.{BodyMissing, IsHeld, LacksRoom, ReadsNext, ReadsNone, length_prefix, longest_frame};
-ghost use Rattle.dsn_frame.specs.FrameBuffer.{IsAtFront, LeavesRoom, RoomAfter, RoomFor, body_at_front};
+ghost use Rattle.dsn_frame.specs.inner.FrameBuffer.{BodyMissing, IsHeld};
+ghost use Rattle.dsn_frame.specs.Frame.{LacksRoom, ReadsNext, ReadsNone, length_prefix, longest_frame};
+ghost use Rattle.dsn_frame.specs.inner.FrameBuffer.{IsAtFront, body_at_front};
+ghost use Rattle.dsn_frame.specs.FrameBuffer.{LeavesRoom, RoomAfter, RoomFor};
 ghost use Rattle.dsn_frame.specs.FrameFault.{source_failed};
 
 use crate::frame::{LENGTH, LONGEST_BODY, fill_frame, read_length};
@@ -33,7 +35,8 @@ pub struct FrameBuffer {
 impl Model for FrameBuffer {
     ghost use Rattle.std.specs.Prelude.{length, ◌≤◌};
     ghost use Rattle.dsn_frame.specs.Frame.{longest_frame};
-    ghost use Rattle.dsn_frame.specs.FrameBuffer.{Buffered, IsAtFront, body_at_front};
+    ghost use Rattle.dsn_frame.specs.FrameBuffer.{Buffered};
+    ghost use Rattle.dsn_frame.specs.inner.FrameBuffer.{IsAtFront, body_at_front};
 
     ghost Value = { Buffered };
 

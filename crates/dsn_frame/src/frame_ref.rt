@@ -14,7 +14,8 @@ pub struct FrameRef<'a> {
 
 impl<'a> Model for FrameRef<'a> {
     ghost use Rattle.std.specs.Prelude.{ℕ, List, drop};
-    ghost use Rattle.dsn_frame.specs.Frame.{IsHeld, length_prefix};
+    ghost use Rattle.dsn_frame.specs.inner.FrameBuffer.{IsHeld};
+    ghost use Rattle.dsn_frame.specs.Frame.{length_prefix};
 
     ghost Value = { List ℕ };
 

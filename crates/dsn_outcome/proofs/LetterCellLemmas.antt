@@ -3,7 +3,7 @@ use Rattle.std.proofs.Common.{◌≡◌, ℕ, suc, ◌==◌, Bool, true, false, 
 use Rattle.std.specs.Prelude.{Option, Some, None, Box, is_none, is_some, All}
 use Rattle.std.specs.declared.alloc.Global.{Global}
 use Rattle.std.proofs.lemmas.List.Elements.{All-tail}
-use Rattle.dsn_outcome.specs.LetterCell.{letter_in, letters_from, letters_along, letters_linked, IsUnlinked}
+use Rattle.dsn_outcome.specs.inner.LetterCell.{letter_in, letters_from, letters_along, letters_linked, IsUnlinked}
 use Rattle.dsn_outcome.specs.Letter.{IsLetter}
 use Rattle.dsn_outcome.specs.declared.letter_cell.LetterCell.{LetterCell, LetterCell', None', Some', out-LetterCell}
 use Rattle.dsn_outcome.specs.declared.letter_cell.LetterCell.TheViews.{roll-LetterCell}

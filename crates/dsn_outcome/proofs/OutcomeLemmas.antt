@@ -7,7 +7,8 @@ use Rattle.std.proofs.lemmas.Bool.{and_parts, false≢true, leb-true}
 use Rattle.std.proofs.Math.Seq.{drop-append_seam, take-append_seam}
 use Rattle.std.proofs.lemmas.Grind.{common_steps}
 use Rattle.dsn_text.specs.Action.{action_of_byte, fits_class, fits_retry}
-use Rattle.dsn_outcome.specs.Outcome.{Fields, Outcome, first_failed, first_outcome_fault, outcome_checks, is_type_of, AreDated, IsLegalOutcome, IsOutcomeOf}
+use Rattle.dsn_outcome.specs.Outcome.{Fields, Outcome, first_failed, first_outcome_fault, outcome_checks, is_type_of, IsLegalOutcome, IsOutcomeOf}
+use Rattle.dsn_outcome.specs.inner.OutcomeTexts.{AreDated}
 use Rattle.dsn_text.specs.Extension.{is_extension_text, longest_extension_text}
 use Rattle.dsn_text.specs.Optional.{unless_empty, is_none_or}
 use Rattle.dsn_text.specs.Service.{takes}

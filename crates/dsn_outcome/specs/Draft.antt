@@ -1,9 +1,8 @@
 -- Drafts: what a flush says of the notice that it asks for, before the outcomes are added.
-use Rattle.std.specs.Prelude.{ℕ, ◌-◌, ◌^◌, ◌≤◌, nat_le, nat_lt, Bool, false, not, ◌==◌, List, [], ◌∷◌, length, Option, Some, None, is_some, IsTrue}
+use Rattle.std.specs.Prelude.{ℕ, ◌-◌, ◌^◌, nat_le, nat_lt, Bool, false, not, ◌==◌, List, [], ◌∷◌, length, Option, Some, None, is_some}
 use Rattle.dsn_outcome.specs.Outcome.{first_failed}
 use Rattle.dsn_text.specs.Extension.{is_extension_text}
 use Rattle.dsn_text.specs.Optional.{is_none_or, unless_empty}
-use Rattle.dsn_text.specs.Stamp.{last_moment}
 use Rattle.dsn_text.specs.Text.{is_address, is_envelope_id, longest_header}
 use Rattle.dsn_outcome.specs.declared.draft_fault.DraftFault.{DraftFault}
 use Rattle.dsn_outcome.specs.declared.draft_fault.DraftFault.TheVariants as faults
@@ -35,16 +34,6 @@ is_count count = nat_lt count (2 ^ 32 - 1)
 abbrev pub differs : Option ℕ → ℕ → Bool
 differs None count = false
 differs (Some expected) count = not (expected == count)
-
--- a legal draft: each moment has a date of four digits of years, and each text is within its bounds, and so is the number of outcomes
-pub record IsLegalDraft (draft : Draft) : Type 0 where
-  pub moment_dated : draft.moment ≤ last_moment
-  pub arrival_dated : draft.arrival ≤ last_moment
-  pub return_path_legal : IsTrue (is_none_or is_address draft.return_path)
-  pub envelope_id_legal : IsTrue (is_none_or is_envelope_id draft.envelope_id)
-  pub header_short : length draft.header ≤ longest_header
-  pub extensions_legal : IsTrue (is_extension_text draft.extensions)
-  pub expected_counted : IsTrue (is_none_or is_count draft.expected)
 
 -- the fields of a draft that are judged, as they are handed in
 pub record DraftFields : Type 0 where

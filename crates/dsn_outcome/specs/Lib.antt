@@ -7,14 +7,13 @@ pub mod Expecting
 pub mod Forgetting
 pub mod History
 pub mod Letter
-pub mod LetterCell
 pub mod LinkedOutcome
+pub mod Node
 pub mod Outcome
 pub mod OutcomeFault
-pub mod Node
 pub mod OutcomeParts
-pub mod OutcomeTexts
 pub mod Outcomes
 pub mod Request
 pub mod Returned
 pub mod Wording
+pub mod inner

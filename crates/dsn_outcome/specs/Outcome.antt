@@ -114,11 +114,6 @@ pub record IsOutcomeOf (service : Service) (fields : Fields) (outcome : Outcome)
   pub retry_until_is : outcome.retry_until ≡ fields.retry_until
   pub extensions_is : outcome.extensions ≡ fields.extensions
 
--- each of the two moments of an outcome's fields has a date, where there is one
-pub record AreDated (fields : Fields) : Type 0 where
-  pub last_attempt : IsTrue (is_none_or is_moment fields.last_attempt)
-  pub retry_until : IsTrue (is_none_or is_moment fields.retry_until)
-
 -- a legal outcome (RFC 3464 sections 2.3.1 to 2.3.9): the service takes the action, the status is a
 -- code whose class fits the action, and each text is within its bounds; a diagnostic or a reason
 -- that is there says something; the two moments have dates, and only a delayed recipient's delivery

@@ -32,7 +32,7 @@ pub struct Draft {
 
 impl Model for Draft {
     ghost use Rattle.dsn_outcome.specs.Draft.{Draft};
-    ghost use Rattle.dsn_outcome.specs.LetterCell.{letter_in, IsUnlinked};
+    ghost use Rattle.dsn_outcome.specs.inner.LetterCell.{letter_in, IsUnlinked};
 
     ghost Value = { Draft };
 

@@ -18,7 +18,7 @@ pub struct Letter {
 
 impl Model for Letter {
     ghost use Rattle.dsn_outcome.specs.Letter.{Letter, IsLetter};
-    ghost use Rattle.dsn_outcome.specs.LetterCell.{letter_in, IsUnlinked};
+    ghost use Rattle.dsn_outcome.specs.inner.LetterCell.{letter_in, IsUnlinked};
 
     ghost Value = { Letter };
 

@@ -14,7 +14,7 @@ pub(crate) struct LetterCells {
 impl Model for LetterCells {
     ghost use Rattle.std.specs.Prelude.{List, All};
     ghost use Rattle.dsn_outcome.specs.Letter.{Letter, IsLetter};
-    ghost use Rattle.dsn_outcome.specs.LetterCell.{letters_linked};
+    ghost use Rattle.dsn_outcome.specs.inner.LetterCell.{letters_linked};
 
     ghost Value = { List Letter };
 

@@ -29,7 +29,7 @@ pub struct Outcome {
 
 impl Model for Outcome {
     ghost use Rattle.dsn_outcome.specs.Outcome.{Outcome, IsLegalOutcome};
-    ghost use Rattle.dsn_outcome.specs.OutcomeTexts.{outcome_of};
+    ghost use Rattle.dsn_outcome.specs.inner.OutcomeTexts.{outcome_of};
 
     ghost Value = { Outcome };
 

@@ -33,7 +33,7 @@ pub(crate) struct OutcomeTexts {
 }
 
 impl Model for OutcomeTexts {
-    ghost use Rattle.dsn_outcome.specs.OutcomeTexts.{OutcomeTexts, AreInOrder, texts_in};
+    ghost use Rattle.dsn_outcome.specs.inner.OutcomeTexts.{OutcomeTexts, AreInOrder, texts_in};
 
     ghost Value = { OutcomeTexts };
 

@@ -2,7 +2,7 @@
 use Rattle.std.proofs.Common.{◌≡◌, ℕ, List, [], ◌∷◌, ◌++◌, refl}
 use Rattle.std.specs.Prelude.{codes}
 use Rattle.dsn_postfix.specs.ListBuffer.{HasNoList}
-use Rattle.dsn_postfix.specs.ListPlace.{step_over}
+use Rattle.dsn_postfix.specs.inner.ListPlace.{step_over}
 use Rattle.dsn_postfix.specs.declared.list_place.ListPlace.TheVariants.{Front, Name, Value}
 use Rattle.dsn_postfix.specs.declared.list_place.ListStep.TheVariants.{Ended, Within}
 

@@ -4,7 +4,7 @@ use Rattle.std.specs.Option.{option_map}
 use Rattle.std.proofs.lemmas.List.{drop_all, length-drop}
 use Rattle.dsn_postfix.specs.Attribute.{Attribute, BeginsWithList, attributes_after, text_attribute}
 use Rattle.dsn_postfix.specs.ListBuffer.{HasMore, HasNoList, IsList}
-use Rattle.dsn_postfix.specs.ListPlace.{further, step_over}
+use Rattle.dsn_postfix.specs.inner.ListPlace.{further, step_over}
 use Rattle.dsn_postfix.specs.declared.list_place.ListPlace.{ListPlace}
 use Rattle.dsn_postfix.specs.declared.list_place.ListPlace.TheVariants.{Front, Name, Value}
 use Rattle.dsn_postfix.specs.declared.list_place.ListStep.{ListStep}

@@ -4,8 +4,9 @@ use Rattle.std.specs.Io.KnownBytes.{Consumes}
 use Rattle.std.proofs.KnownBytes.{Consumes-trans}
 use Rattle.std.proofs.Math.Seq.{take-add}
 use Rattle.std.proofs.lemmas.List.{length-take, nil_from_length}
-use Rattle.dsn_postfix.specs.ListBuffer.{ReadsList, ReadsNoList, ReadsNoPiece, ReadsPiece, RoomAfterBytes, StopsAtPiece, StopsReading, longest_list}
-use Rattle.dsn_postfix.specs.ListPlace.{further, step_over}
+use Rattle.dsn_postfix.specs.ListBuffer.{ReadsList, ReadsNoList, RoomAfterBytes, StopsReading, longest_list}
+use Rattle.dsn_postfix.specs.inner.ListPlace.{ReadsNoPiece, ReadsPiece, StopsAtPiece}
+use Rattle.dsn_postfix.specs.inner.ListPlace.{further, step_over}
 use Rattle.dsn_postfix.specs.declared.list_fault.ListFault.{ListFault}
 use Rattle.dsn_postfix.specs.declared.list_fault.ListFault.TheVariants.{NoMemory, Nothing, CutShort, TooLong, Trailing, Read}
 use Rattle.dsn_postfix.specs.declared.list_place.ListPlace.{ListPlace}

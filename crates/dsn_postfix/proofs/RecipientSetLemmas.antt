@@ -13,7 +13,7 @@ use Rattle.std.proofs.lemmas.Cmp.{nat_eq_equiv, nat_list_eq_equiv}
 use Rattle.std.proofs.lemmas.Map.Text.{is_eq-slice_cmp}
 use Rattle.dsn_postfix_files.specs.LogRecord.{LoggedFields, logged_fields_in}
 use Rattle.dsn_postfix.specs.NoticePlan.{is_same_outcome}
-use Rattle.dsn_postfix.specs.RecipientSet.{HasOutcomes, OutcomeKey, is_of_outcome, outcome_cmp}
+use Rattle.dsn_postfix.specs.inner.RecipientSet.{HasOutcomes, OutcomeKey, is_of_outcome, outcome_cmp}
 use Rattle.dsn_postfix_files.specs.declared.log_record.LogRecord.{LogRecord}
 
 -- without a place no other record is of the outcome

@@ -8,7 +8,7 @@ use Rattle.dsn_text.specs.declared.service.Service.{Service}
 use Rattle.dsn_postfix_files.specs.LogRecord.{LoggedFields, logged_fields_in}
 use Rattle.dsn_postfix.specs.NoticePlan.{is_same_outcome, is_wanted, last_of_each, told_as, wanted_of}
 use Rattle.dsn_postfix_files.specs.QueueRecipients.{RecipientFacts}
-use Rattle.dsn_postfix.specs.RecipientSet.{HasOutcomes, OutcomeKey}
+use Rattle.dsn_postfix.specs.inner.RecipientSet.{HasOutcomes, OutcomeKey}
 use Rattle.dsn_postfix_files.specs.declared.log_record.LogRecord.{LogRecord}
 use Rattle.dsn_postfix.specs.declared.postfix_request.PostfixRequest.{PostfixRequest}
 

@@ -2,15 +2,14 @@ pub mod Attribute
 pub mod AttributeValues
 pub mod ListBuffer
 pub mod ListDialogue
-pub mod ListPlace
 pub mod LoggedAppend
 pub mod NoticePlan
 pub mod PlannedNotice
 pub mod PostfixAnswer
 pub mod PostfixRequest
 pub mod QuotedAddress
-pub mod RecipientSet
 pub mod RequestFlags
 pub mod RequestReading
 pub mod VerpPath
 pub mod Wanted
+pub mod inner

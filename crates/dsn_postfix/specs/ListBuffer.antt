@@ -1,6 +1,6 @@
 -- Lists of attributes that are read from a device in pieces: what a buffer holds, how much room it has, and how reading
 -- ends.
-use Rattle.std.specs.Prelude.{◌≡◌, ℕ, ◌+◌, ◌*◌, ◌<◌, ◌≤◌, max, Bool, true, false, List, [], length, take, drop, Option, Some, None, Result, Ok, Err}
+use Rattle.std.specs.Prelude.{◌≡◌, ℕ, ◌*◌, ◌<◌, ◌≤◌, max, Bool, true, false, List, [], length, Option, Some, None, Result, Ok, Err}
 use Rattle.std.specs.Io.KnownBytes.{Consumes, IsAtEnd}
 use Rattle.dsn_postfix.specs.Attribute.{Attribute, BeginsWithList, attributes_at}
 use Rattle.dsn_postfix.specs.declared.list_fault.ListFault.{ListFault}
@@ -36,16 +36,6 @@ HasNoList bytes = attributes_at bytes ≡ None
 pub record BufferedList : Type 0 where
   pub room : ℕ
   pub held : Option (List ℕ)
-
--- the list at the front of these bytes, which has so many of them
-abbrev pub list_at_front : List ℕ → Option ℕ → Option (List ℕ)
-list_at_front bytes None = None
-list_at_front bytes (Some size) = Some (take size bytes)
-
--- so many bytes at the front of these are a list
-abbrev pub IsListAtFront : List ℕ → Option ℕ → Type 0
-IsListAtFront bytes None = Unit {0}
-IsListAtFront bytes (Some size) = (size ≤ length bytes) × IsList (take size bytes)
 
 -- the room after so many bytes were read: no less than there was, and no more but for twice these bytes
 pub record RoomAfterBytes (size before after : ℕ) : Type 0 where
@@ -92,26 +82,6 @@ pub record ReadsNoList (old new : Option (List ℕ)) (before after : ℕ) (fault
   pub stops : StopsReading fault after part
   pub ends : EndsInput fault new
   pub room : RoomAfterBytes (length part) before after
-
--- no piece could be read after so many bytes
-abbrev pub StopsAtPiece : ListFault → ℕ → ℕ → Type 0
-StopsAtPiece NoMemory size room = size ≡ room
-StopsAtPiece Nothing size room = size ≡ 0
-StopsAtPiece CutShort size room = 0 < size
-StopsAtPiece TooLong size room = ⊥
-StopsAtPiece Trailing size room = ⊥
-StopsAtPiece Read size room = Unit {0}
-
-pub record ReadsNoPiece (old new : Option (List ℕ)) (size room : ℕ) (fault : ListFault) : Type 0 where
-  pub consumed : Consumes old new []
-  pub stops : StopsAtPiece fault size room
-  pub ends : EndsInput fault new
-
--- a piece that was read after so many bytes at the front of a buffer
-pub record ReadsPiece (old new : Option (List ℕ)) (size : ℕ) (bytes : List ℕ) (count : ℕ) : Type 0 where
-  pub some : 0 < count
-  pub fits : size + count ≤ length bytes
-  pub consumed : Consumes old new (take count (drop size bytes))
 
 -- whether a result says that the device failed
 abbrev pub device_failed : {T : Type 0} → Result T ListFault → Bool

@@ -4,7 +4,8 @@ ghost use Rattle.std.specs.Prelude.{◌≡◌, ◌<◌, ◌≤◌, length, take,
 ghost use Rattle.std.specs.Option.{option_map};
 ghost use Rattle.std.specs.Io.KnownBytes.{Keeps};
 ghost use Rattle.dsn_device.specs.Failures.{counted};
-ghost use Rattle.dsn_postfix.specs.ListBuffer.{HoldsList, IsList, IsListAtFront, ReadsList, ReadsNoList, ReadsNoPiece, ReadsPiece, RoomAfterBytes, device_failed, longest_list};
+ghost use Rattle.dsn_postfix.specs.ListBuffer.{HoldsList, IsList, ReadsList, ReadsNoList, RoomAfterBytes, device_failed, longest_list};
+ghost use Rattle.dsn_postfix.specs.inner.ListPlace.{IsListAtFront, ReadsNoPiece, ReadsPiece};
 
 use crate::list_fault::ListFault;
 use crate::list_place::{ListPlace, ListStep};
@@ -31,7 +32,8 @@ pub struct ListBuffer {
 
 impl Model for ListBuffer {
     ghost use Rattle.std.specs.Prelude.{length, ◌≤◌};
-    ghost use Rattle.dsn_postfix.specs.ListBuffer.{BufferedList, IsListAtFront, list_at_front, longest_list};
+    ghost use Rattle.dsn_postfix.specs.ListBuffer.{BufferedList, longest_list};
+    ghost use Rattle.dsn_postfix.specs.inner.ListPlace.{IsListAtFront, list_at_front};
 
     ghost Value = { BufferedList };
 

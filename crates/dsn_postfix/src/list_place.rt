@@ -1,7 +1,7 @@
 //! Where reading stands within a list of attributes whose bytes come in pieces.
 //! Implements docs/FORMATS.md, "What Postfix's programs send".
 ghost use Rattle.std.specs.Prelude.{◌≡◌};
-ghost use Rattle.dsn_postfix.specs.ListPlace.{IsStepWithin, place_after, step_over};
+ghost use Rattle.dsn_postfix.specs.inner.ListPlace.{IsStepWithin, place_after, step_over};
 
 /// Where reading stands within a list, before its next byte.
 #[derive(Clone, Copy)]

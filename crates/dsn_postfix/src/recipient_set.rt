@@ -7,7 +7,7 @@ ghost use Rattle.dsn_text.specs.declared.service.Service.TheVariants.{Defer};
 ghost use Rattle.dsn_postfix_files.specs.LogRecord.{LoggedFields, logged_fields_in};
 ghost use Rattle.dsn_postfix.specs.NoticePlan.{is_same_outcome};
 ghost use Rattle.dsn_postfix_files.specs.QueueRecipients.{recipient_facts_in};
-ghost use Rattle.dsn_postfix.specs.RecipientSet.{HasOutcomes, HasPast};
+ghost use Rattle.dsn_postfix.specs.inner.RecipientSet.{HasOutcomes, HasPast};
 
 use dsn_postfix_files::{LogRecord, QueuedRecipient, RecipientState};
 use dsn_text::Service;

@@ -5,7 +5,7 @@ ghost use Rattle.std.specs.List.{list_all, list_any};
 ghost use Rattle.dsn_postfix_files.specs.LogRecord.{LoggedFields, logged_fields_in};
 ghost use Rattle.dsn_postfix.specs.NoticePlan.{has_known_action, is_known_action, is_same_outcome, is_wanted, told_as, told_of};
 ghost use Rattle.dsn_postfix_files.specs.QueueRecipients.{RecipientFacts, recipient_facts_in};
-ghost use Rattle.dsn_postfix.specs.RecipientSet.{HasOutcomes, HasPast};
+ghost use Rattle.dsn_postfix.specs.inner.RecipientSet.{HasOutcomes, HasPast};
 
 use crate::postfix_request::PostfixRequest;
 use crate::recipient_set::{OutcomeKey, is_outcome_again, past_places};

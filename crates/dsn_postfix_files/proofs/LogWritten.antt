@@ -12,7 +12,8 @@ use Rattle.dsn_postfix_files.specs.LogFile.{goes_on, is_blank, is_older, names_r
 use Rattle.dsn_postfix_files.specs.LogLine.{is_line_feed, is_nul, is_space, all_lines, before_nul, field_name, old_parts, text_in, value_named, without_outer_spaces, without_trailing_spaces}
 use Rattle.dsn_postfix_files.specs.LogRecord.{said_text, said_line, said_bytes, can_stand_in_line, is_loggable}
 use Rattle.dsn_postfix_files.proofs.LogPartLemmas.{feed-by}
-use Rattle.dsn_postfix_files.specs.LogParts.{more_after, more_ended, more_size, with_its_feed}
+use Rattle.dsn_postfix_files.specs.inner.LogParts.{more_after, more_ended, more_size}
+use Rattle.dsn_postfix_files.specs.LogParts.{with_its_feed}
 
 abbrev Said : Type 0
 Said = LogField × List ℕ

@@ -1,7 +1,8 @@
 -- What a queue file says of its message, read off its records one after another.
 use Rattle.std.proofs.Common.{◌≡◌, ℕ, List, [], ◌∷◌, Option, Some, None, refl, ◌∙◌, ap}
 use Rattle.std.specs.List.{cons_option, filter_map, last_or}
-use Rattle.dsn_postfix_files.specs.MessageFacts.{MessageLeft, SaidOfMessage, arrival_in, earliest, envelope_id_in, first_or, return_flags_in, said_with, sender_in, with_record}
+use Rattle.dsn_postfix_files.specs.inner.QueueReading.{MessageLeft, said_with, with_record}
+use Rattle.dsn_postfix_files.specs.MessageFacts.{SaidOfMessage, arrival_in, earliest, envelope_id_in, first_or, return_flags_in, sender_in}
 use Rattle.dsn_postfix_files.specs.QueueListing.{QueueEnding, ending_step}
 use Rattle.dsn_postfix_files.specs.QueueRecord.{PlacedBytes}
 use Rattle.dsn_postfix_files.specs.QueueWalk.{QueuePlace, RecordThere, StepsTo}

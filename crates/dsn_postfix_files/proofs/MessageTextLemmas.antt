@@ -3,7 +3,8 @@ use Rattle.std.proofs.Common.{◌≡◌, ◌<◌, ◌≤◌, ◌-◌, ◌+◌, B
 use Rattle.std.specs.Prelude.{◌==◌, nat_lt, if◌then◌else◌}
 use Rattle.std.proofs.Math.Seq.{take-append-add}
 use Rattle.std.proofs.lemmas.List.{append-nil, take-append-le}
-use Rattle.dsn_postfix_files.specs.MessageText.{TextLeft, is_of_text, text_from, text_of_record}
+use Rattle.dsn_postfix_files.specs.inner.QueueReading.{TextLeft}
+use Rattle.dsn_postfix_files.specs.MessageText.{is_of_text, text_from, text_of_record}
 use Rattle.dsn_postfix_files.specs.QueueListing.{QueueEnding, ending_step}
 use Rattle.dsn_postfix_files.specs.QueueRecord.{PlacedBytes}
 use Rattle.dsn_postfix_files.specs.QueueWalk.{QueuePlace, RecordThere, StepsTo}

@@ -5,7 +5,8 @@ use Rattle.dsn_postfix_files.specs.QueueRecord.{PlacedBytes, QueuedBytes, placed
 use Rattle.std.specs.Borrow.{Bor}
 use Rattle.dsn_postfix_files.specs.declared.queue_step.QueueStep.{QueueStep}
 use Rattle.dsn_postfix_files.specs.declared.queue_step.QueueStep.TheVariants as steps
-use Rattle.dsn_postfix_files.specs.QueueWalk.{IsNextStep, step_in, QueuePlace, WalkStep, RecordThere, PointerTo, EndThere, BrokenThere, back_step, pointer_step, pointer_target, step_of_record, step_at, pointed_at, pointed_from, PointersLead, steps_left}
+use Rattle.dsn_postfix_files.specs.inner.QueueReading.{IsNextStep, step_in}
+use Rattle.dsn_postfix_files.specs.QueueWalk.{QueuePlace, WalkStep, RecordThere, PointerTo, EndThere, BrokenThere, back_step, pointer_step, pointer_target, step_of_record, step_at, pointed_at, pointed_from, PointersLead, steps_left}
 
 -- what is left after some bytes were read is shorter
 abbrev ShorterRest : {X : Type 0} → List ℕ → Option (X × List ℕ) → Type 0

@@ -11,3 +11,4 @@ pub mod QueueRecipients
 pub mod QueueRecord
 pub mod QueueWalk
 pub mod ZeroFree
+pub mod inner

@@ -5,9 +5,8 @@ use Rattle.std.specs.List.{before_first, filter_map, last_or}
 use Rattle.std.specs.Option.{option_map}
 use Rattle.dsn_postfix_files.specs.LogLine.{is_space, value_named}
 use Rattle.dsn_postfix_files.specs.LogRecord.{written_number}
-use Rattle.dsn_postfix_files.specs.QueueListing.{BrokenOff, QueueEnding, RecordsFrom, WholeFile}
+use Rattle.dsn_postfix_files.specs.QueueListing.{BrokenOff, QueueEnding, WholeFile}
 use Rattle.dsn_postfix_files.specs.QueueRecord.{PlacedBytes}
-use Rattle.dsn_postfix_files.specs.QueueWalk.{QueueReading}
 use Rattle.dsn_postfix_files.specs.declared.broken_message.BrokenMessage.{BrokenMessage}
 use Rattle.dsn_postfix_files.specs.declared.message_facts.MessageFacts.{MessageFacts}
 
@@ -95,28 +94,3 @@ ReadsMessage result records ending =
     (λ broken. (ending ≡ BrokenOff) × (message_facts_in broken.before ≡ said_of_message records))
 
 -- ---- after some records
-
-abbrev pub nothing_said : SaidOfMessage
-nothing_said = record { arrival = None; sender = None; envelope_id = None; return_flags = None }
-
-unfoldable pub with_record : SaidOfMessage → PlacedBytes → SaidOfMessage
-with_record before placed = record {
-  arrival = first_or before.arrival (arrival_in placed);
-  sender = first_or before.sender (sender_in placed);
-  envelope_id = first_or (envelope_id_in placed) before.envelope_id;
-  return_flags = first_or (return_flags_in placed) before.return_flags;
-}
-
-abbrev pub said_with : SaidOfMessage → List PlacedBytes → SaidOfMessage
-said_with before records = record {
-  arrival = first_or before.arrival (earliest arrival_in records);
-  sender = first_or before.sender (earliest sender_in records);
-  envelope_id = last_or before.envelope_id (filter_map envelope_id_in records);
-  return_flags = last_or before.return_flags (filter_map return_flags_in records);
-}
-
--- records come from here on, and with what was said before they say this
-pub record MessageLeft (reading : QueueReading) (before said : SaidOfMessage) (ending : QueueEnding) : Type 0 where
-  pub records : List PlacedBytes
-  pub come : RecordsFrom reading.file reading.place records ending
-  pub are : said ≡ said_with before records

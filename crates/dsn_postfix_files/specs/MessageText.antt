@@ -1,8 +1,6 @@
 -- The text of a queue file's message: where it begins and ends, and what its records say of it.
-use Rattle.std.specs.Prelude.{◌≡◌, ◌||◌, Bool, true, false, ℕ, List, [], ◌∷◌, ◌++◌, ◌==◌, if◌then◌else◌}
-use Rattle.dsn_postfix_files.specs.QueueListing.{QueueEnding, RecordsFrom}
+use Rattle.std.specs.Prelude.{◌||◌, Bool, true, false, ℕ, List, [], ◌∷◌, ◌++◌, ◌==◌, if◌then◌else◌}
 use Rattle.dsn_postfix_files.specs.QueueRecord.{PlacedBytes}
-use Rattle.dsn_postfix_files.specs.QueueWalk.{QueueReading}
 
 -- `N` is a line, or what is left of one, and its end; `L` is a part of a line, which the next record goes
 -- on with; `w` fills a place and says nothing
@@ -23,9 +21,3 @@ text_from true (placed ∷ records) =
 
 abbrev pub message_text : List PlacedBytes → List ℕ
 message_text records = text_from false records
-
--- records come from here on, and with what was read before they have this text
-pub record TextLeft (reading : QueueReading) (before : List ℕ) (within : Bool) (text : List ℕ) (ending : QueueEnding) : Type 0 where
-  pub records : List PlacedBytes
-  pub come : RecordsFrom reading.file reading.place records ending
-  pub are : text ≡ before ++ text_from within records

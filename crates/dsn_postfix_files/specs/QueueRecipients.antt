@@ -1,17 +1,14 @@
 -- What a queue file says of its recipients: a record of each, and before it records that say more of that one.
-use Rattle.std.specs.Prelude.{◌≡◌, ◌<◌, ◌≤◌, ℕ, List, [], ◌∷◌, length, Option, Some, None, Result, MatchOption, MatchResult, ◌==◌, codes, if◌then◌else◌}
+use Rattle.std.specs.Prelude.{◌≡◌, ℕ, List, [], ◌∷◌, Option, Some, None, Result, MatchOption, MatchResult, ◌==◌, codes, if◌then◌else◌}
 use Rattle.dsn_postfix_files.specs.LogLine.{value_named}
 use Rattle.dsn_postfix_files.specs.LogRecord.{number_if_said, number_or_0, written_number}
 use Rattle.dsn_postfix_files.specs.QueueListing.{BrokenOff, QueueEnding, RecordsFrom, WholeFile}
 use Rattle.dsn_postfix_files.specs.QueueRecord.{PlacedBytes}
-use Rattle.dsn_postfix_files.specs.QueueWalk.{QueuePlace, QueueReading, steps_left}
+use Rattle.dsn_postfix_files.specs.QueueWalk.{QueueReading}
 use Rattle.dsn_postfix_files.specs.declared.log_field.LogField.TheVariants.{NotifyFlags}
 use Rattle.dsn_postfix_files.specs.declared.queue_broken.QueueBroken.{QueueBroken}
 use Rattle.dsn_postfix_files.specs.declared.queued_recipient.QueuedRecipient.{QueuedRecipient}
-use Rattle.dsn_postfix_files.specs.declared.queued_recipient.RecipientStep.{RecipientStep}
-use Rattle.dsn_postfix_files.specs.declared.queued_recipient.RecipientStep.TheVariants as steps
 use Rattle.dsn_postfix_files.specs.declared.recipient_state.RecipientState.{RecipientState}
-use Rattle.dsn_postfix_files.specs.declared.said_before.SaidBefore.{SaidBefore as WhatWasSaid}
 use Rattle.dsn_postfix_files.specs.declared.recipient_state.RecipientState.TheVariants.{Waiting, Done, Removed}
 
 -- the state of a recipient is the type of its record: `R`, `D`, `/`
@@ -35,10 +32,6 @@ with_original before text = record { original = text; dsn_original = before.dsn_
 
 abbrev pub with_dsn_original : SaidBefore → List ℕ → SaidBefore
 with_dsn_original before text = record { original = before.original; dsn_original = text; notify_flags = before.notify_flags }
-
--- the texts that the program's references point to
-abbrev pub said_before_in : WhatWasSaid → SaidBefore
-said_before_in before = record { original = before.original.now; dsn_original = before.dsn_original.now; notify_flags = before.notify_flags }
 
 -- flags that aren't known say nothing
 abbrev pub with_notify : SaidBefore → List ℕ → SaidBefore
@@ -125,17 +118,3 @@ ReadsRecipients result recipients ending later =
     ((recipients ≡ []) × (ending ≡ WholeFile))
     (λ recipient. BeginsRecipients (recipient_facts_in recipient) recipients ending later))
     (λ broken. (recipients ≡ []) × (ending ≡ BrokenOff))
-
--- a step, as the program has it
-abbrev pub StepsRecipients : List ℕ → RecipientStep → List RecipientFacts → QueueEnding → Type 0
-StepsRecipients file (steps.Recipient found rest jumps) recipients ending =
-    BeginsRecipients (recipient_facts_in found) recipients ending (record { file = file; place = record { rest = rest.now; jumps = jumps } })
-StepsRecipients file steps.End recipients ending = (recipients ≡ []) × (ending ≡ WholeFile)
-StepsRecipients file steps.Broken recipients ending = (recipients ≡ []) × (ending ≡ BrokenOff)
-
--- the place after it is within the file, and fewer steps are left from there
-abbrev pub IsLaterPlace : List ℕ → QueuePlace → RecipientStep → Type 0
-IsLaterPlace file start (steps.Recipient found rest jumps) =
-    (steps_left (length file) (record { rest = rest.now; jumps = jumps }) < steps_left (length file) start) × (length rest.now ≤ length file)
-IsLaterPlace file start steps.End = Unit {0}
-IsLaterPlace file start steps.Broken = Unit {0}

@@ -1,11 +1,9 @@
 -- The records of a queue file in the order in which they count: one after another, but for pointers,
 -- which lead to another place.
-use Rattle.std.specs.Prelude.{◌≡◌, ◌<◌, ◌≤◌, ℕ, zero, suc, ◌+◌, ◌-◌, ◌*◌, List, length, drop, Option, Some, None, ◌==◌, nat_le, if◌then◌else◌}
+use Rattle.std.specs.Prelude.{◌≡◌, ℕ, zero, suc, ◌+◌, ◌-◌, ◌*◌, List, length, drop, Option, Some, None, ◌==◌, nat_le, if◌then◌else◌}
 use Rattle.dsn_postfix_files.specs.LogLine.{without_leading_spaces}
 use Rattle.dsn_postfix_files.specs.LogRecord.{written_number}
-use Rattle.dsn_postfix_files.specs.QueueRecord.{PlacedBytes, QueuedBytes, placed_at, placed_bytes_in, queue_record_at}
-use Rattle.dsn_postfix_files.specs.declared.queue_step.QueueStep.{QueueStep}
-use Rattle.dsn_postfix_files.specs.declared.queue_step.QueueStep.TheVariants as steps
+use Rattle.dsn_postfix_files.specs.QueueRecord.{PlacedBytes, QueuedBytes, placed_at, queue_record_at}
 
 -- a place in a file: the bytes from there on, and how many jumps back may still come
 pub record QueuePlace : Type 0 where
@@ -63,14 +61,6 @@ abbrev pub after_pointers : ℕ → List ℕ → QueuePlace → Option QueuePlac
 after_pointers zero file place = Some place
 after_pointers (suc count) file place = pointed_from file (after_pointers count file place)
 
--- a step, as the program has it
-abbrev pub step_in : QueueStep → WalkStep
-step_in (steps.Record queue_record rest jumps) =
-    RecordThere (placed_bytes_in queue_record) (record { rest = rest.now; jumps = jumps })
-step_in (steps.Pointer rest jumps) = PointerTo (record { rest = rest.now; jumps = jumps })
-step_in steps.End = EndThere
-step_in steps.Broken = BrokenThere
-
 -- the place at which some pointers end
 pub record PointersLead (file : List ℕ) (start here : QueuePlace) : Type 0 where
   pub count : ℕ
@@ -85,14 +75,6 @@ pub record StepsTo (file : List ℕ) (start : QueuePlace) (step : WalkStep) : Ty
 -- how many records and pointers may still come in a file of this size
 abbrev pub steps_left : ℕ → QueuePlace → ℕ
 steps_left size place = place.jumps * (size + 1) + length place.rest
-
--- no pointer, and after a record a place within the file, from which fewer steps are left
-abbrev pub IsNextStep : List ℕ → QueuePlace → WalkStep → Type 0
-IsNextStep file start (PointerTo place) = ⊥
-IsNextStep file start (RecordThere bytes place) =
-    (steps_left (length file) place < steps_left (length file) start) × (length place.rest ≤ length file)
-IsNextStep file start EndThere = Unit {0}
-IsNextStep file start BrokenThere = Unit {0}
 
 -- a file that is being read, and the place that comes next
 pub record QueueReading : Type 0 where

@@ -4,7 +4,8 @@ ghost use Rattle.std.specs.Prelude.{◌≡◌, List};
 ghost use Rattle.std.specs.List.{before_first};
 ghost use Rattle.std.specs.Option.{option_map};
 ghost use Rattle.dsn_postfix_files.specs.LogLine.{is_space};
-ghost use Rattle.dsn_postfix_files.specs.MessageFacts.{ReadsMessage, arrival_in, message_facts_in, return_flags_in, said_as, sender_in, with_record};
+ghost use Rattle.dsn_postfix_files.specs.MessageFacts.{ReadsMessage, arrival_in, message_facts_in, return_flags_in, said_as, sender_in};
+ghost use Rattle.dsn_postfix_files.specs.inner.QueueReading.{with_record};
 ghost use Rattle.dsn_postfix_files.specs.QueueListing.{QueueEnding, RecordsFrom};
 ghost use Rattle.dsn_postfix_files.specs.QueueRecord.{PlacedBytes, placed_bytes_in};
 ghost use Rattle.dsn_postfix_files.specs.QueueWalk.{first_place};
@@ -86,7 +87,7 @@ fn return_flags_in(found: PlacedRecord<'_>) -> Option<u8>
 
 impl<'a> MessageFacts<'a> {
     /// With what a record says.
-    #[tactic(auto, unfolding(crate::specs::MessageFacts::with_record))]
+    #[tactic(auto, unfolding(crate::specs::inner::QueueReading::with_record))]
     fn with_record(self, found: PlacedRecord<'a>) -> MessageFacts<'a>
         ensures { message_facts_in result
             ≡ with_record (message_facts_in self.entry) (placed_bytes_in found.entry) }

@@ -6,7 +6,8 @@ ghost use Rattle.std.specs.Prelude.{◌≡◌, ◌<◌, ◌≤◌, List, length,
 ghost use Rattle.dsn_postfix_files.specs.QueueListing.{RecordsFrom, QueueEnding, ReadsListing};
 ghost use Rattle.dsn_postfix_files.specs.QueueRecipients.{ReadsRecipients, RecipientFacts, RecipientsLeft, nothing_before};
 ghost use Rattle.dsn_postfix_files.specs.QueueRecord.{PlacedBytes, placed_bytes_in};
-ghost use Rattle.dsn_postfix_files.specs.QueueWalk.{BrokenThere, EndThere, IsNextStep, RecordThere, StepsTo, first_place, step_in, steps_left};
+ghost use Rattle.dsn_postfix_files.specs.QueueWalk.{BrokenThere, EndThere, RecordThere, StepsTo, first_place, steps_left};
+ghost use Rattle.dsn_postfix_files.specs.inner.QueueReading.{IsNextStep, step_in};
 
 use crate::placed_record::PlacedRecord;
 use crate::queue_broken::QueueBroken;

@@ -1,7 +1,8 @@
 //! What stands at a place of a queue file.
 //! Implements docs/FORMATS.md, "Postfix's queue files".
 ghost use Rattle.std.specs.Prelude.{◌≡◌, ◌≤◌, drop, length};
-ghost use Rattle.dsn_postfix_files.specs.QueueWalk.{pointer_step, step_at, step_in};
+ghost use Rattle.dsn_postfix_files.specs.QueueWalk.{pointer_step, step_at};
+ghost use Rattle.dsn_postfix_files.specs.inner.QueueReading.{step_in};
 
 use crate::log_line::without_leading_spaces;
 use crate::log_record::written_number;

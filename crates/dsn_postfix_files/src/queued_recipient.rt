@@ -2,7 +2,8 @@
 //! Implements docs/FORMATS.md, "Postfix's queue files".
 ghost use Rattle.std.specs.Prelude.{◌≤◌, List, length};
 ghost use Rattle.dsn_postfix_files.specs.QueueListing.{QueueEnding};
-ghost use Rattle.dsn_postfix_files.specs.QueueRecipients.{IsLaterPlace, RecipientFacts, RecipientsLeft, StepsRecipients, nothing_before};
+ghost use Rattle.dsn_postfix_files.specs.inner.QueueReading.{IsLaterPlace, StepsRecipients};
+ghost use Rattle.dsn_postfix_files.specs.QueueRecipients.{RecipientFacts, RecipientsLeft, nothing_before};
 
 use crate::queue_reader::next_step;
 use crate::queue_step::QueueStep;

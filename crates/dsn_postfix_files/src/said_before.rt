@@ -2,7 +2,8 @@
 //! Implements docs/FORMATS.md, "Postfix's queue files".
 ghost use Rattle.std.specs.Prelude.{◌≡◌};
 ghost use Rattle.dsn_postfix_files.specs.LogRecord.{number_if_said, number_or_0, written_number};
-ghost use Rattle.dsn_postfix_files.specs.QueueRecipients.{after_record, nothing_before, recipient_facts_in, recipient_with, said_before_in, with_attribute};
+ghost use Rattle.dsn_postfix_files.specs.QueueRecipients.{after_record, nothing_before, recipient_facts_in, recipient_with, with_attribute};
+ghost use Rattle.dsn_postfix_files.specs.inner.QueueReading.{said_before_in};
 ghost use Rattle.dsn_postfix_files.specs.QueueRecord.{placed_bytes_in};
 ghost use Rattle.dsn_postfix_files.specs.declared.log_field.LogField.TheVariants.{NotifyFlags};
 

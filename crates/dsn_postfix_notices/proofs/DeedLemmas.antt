@@ -20,9 +20,11 @@ use Rattle.dsn_postfix_notices.specs.requests.Deed.{Answer, Appended, Deed, Hand
 use Rattle.dsn_postfix_notices.specs.requests.Finishing.{AreMarked, FailsToMark, FinishesAt, StopsAtPlace, marking}
 use Rattle.dsn_postfix_notices.specs.requests.Gains.{Gains, with_deeds}
 use Rattle.dsn_postfix_notices.specs.requests.HandingIn.{AreAccepted, IsNotAccepted, StopsAtLetter, hand_in_of, is_first_after, refusal_of, refused}
-use Rattle.dsn_postfix_notices.specs.requests.MailFound.{FailsToRead, MailRead, ReadsLog, log_reading, log_unread, message_reading, message_unread, readings}
+use Rattle.dsn_postfix_notices.specs.requests.MailFound.{FailsToRead, MailRead, log_reading, log_unread, message_reading, message_unread, readings}
+use Rattle.dsn_postfix_notices.specs.inner.MailFound.{ReadsLog}
 use Rattle.dsn_postfix_notices.specs.requests.NoticeDeeds.{EndsTelling, IsNotified, Tells, accepted, no_memory, unsayable}
-use Rattle.dsn_postfix_notices.specs.requests.RequestLetters.{AreLettersAsked, CantBeSaid, IsReason, places_done}
+use Rattle.dsn_postfix_notices.specs.requests.RequestLetters.{AreLettersAsked, CantBeSaid, places_done}
+use Rattle.dsn_postfix_notices.specs.inner.RequestLetters.{IsReason}
 use Rattle.dsn_postfix_notices.specs.requests.RequestStatus.{RequestAnswer, carried_out, is_carried_out, status_after}
 use Rattle.dsn_postfix_notices.specs.requests.Task.{Task, Terms}
 use Rattle.dsn_postfix_notices.specs.declared.requests.untold.Untold.{Untold}

@@ -14,7 +14,8 @@ use Rattle.dsn_postfix_files.specs.QueueWalk.{QueueReading}
 use Rattle.dsn_postfix_notices.specs.declared.requests.untold.Untold.{Untold}
 use Rattle.dsn_postfix_notices.specs.declared.requests.untold.Untold.TheVariants.{Failed, NoMemory, PassedOn}
 use Rattle.dsn_postfix_notices.specs.letters.ReportedMessage.{MessageSaid}
-use Rattle.dsn_postfix_notices.specs.requests.RequestLetters.{AreLettersOf, IsReason, has_fault, of_plan}
+use Rattle.dsn_postfix_notices.specs.requests.RequestLetters.{AreLettersOf, has_fault}
+use Rattle.dsn_postfix_notices.specs.inner.RequestLetters.{IsReason, of_plan}
 
 -- ---- results
 

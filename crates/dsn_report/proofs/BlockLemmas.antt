@@ -9,7 +9,7 @@ use Rattle.dsn_text.specs.declared.service.Service.{Service}
 use Rattle.dsn_text.specs.declared.service.Service.TheVariants.{Bounce, Defer, Trace}
 use Rattle.dsn_outcome.specs.declared.wording.Wording.{Wording}
 use Rattle.dsn_outcome.specs.declared.wording.Wording.TheVariants.{ByService, ByOutcome}
-use Rattle.dsn_report.specs.LineWriter.{IsBlock, begins_plainly}
+use Rattle.dsn_report.specs.inner.LineWriter.{IsBlock, begins_plainly}
 use Rattle.dsn_report.specs.Lines.{begins_with_dot, text_of_lines}
 use Rattle.dsn_report.specs.Notice.{words_by}
 

@@ -12,8 +12,9 @@ use Rattle.std.proofs.lemmas.List.Sums.{fails_before_first}
 use Rattle.std.proofs.lemmas.Slice.Eq.{starts_is}
 use Rattle.dsn_outcome.specs.Letter.{Letter}
 use Rattle.dsn_text.specs.Text.{is_printable}
-use Rattle.dsn_report.specs.Boundary.{IsBoundaryNumber, boundary_front, boundary_text, four_digits, is_dashed, is_delimiter, is_ruled_out, returned_lines, rules_out}
-use Rattle.dsn_report.specs.ReturnedLines.{byte_shown, line_shown, lines_shown, taken_lines}
+use Rattle.dsn_report.specs.Boundary.{IsBoundaryNumber, boundary_front, boundary_text, four_digits, is_delimiter, is_ruled_out, returned_lines}
+use Rattle.dsn_report.specs.inner.Boundary.{is_dashed, rules_out}
+use Rattle.dsn_report.specs.inner.NoticeLines.{byte_shown, line_shown, lines_shown, taken_lines}
 
 -- a text that begins with another
 begins-with : (front text : List ℕ) → starts_with nat_eq text front ≡ true → text ≡ front ++ drop (length front) text

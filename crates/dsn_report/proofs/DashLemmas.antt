@@ -6,8 +6,9 @@ use Rattle.std.specs.Str.Lines.{lines, lines_of_parts, strip_carriage_return}
 use Rattle.std.proofs.lemmas.Bool.{false_from_ne_true, false≢true, or_parts, or_from}
 use Rattle.std.proofs.lemmas.Bool.Decides.{Decides-eqb}
 use Rattle.std.proofs.lemmas.Slice.Eq.{starts_is}
-use Rattle.dsn_report.specs.Boundary.{header_lines, is_dashed}
-use Rattle.dsn_report.specs.ReturnedLines.{taken_lines}
+use Rattle.dsn_report.specs.Boundary.{header_lines}
+use Rattle.dsn_report.specs.inner.Boundary.{is_dashed}
+use Rattle.dsn_report.specs.inner.NoticeLines.{taken_lines}
 
 abbrev has_dash : List ℕ → Bool
 has_dash text = list_any (λ byte. byte == 45) text

@@ -12,7 +12,7 @@ use Rattle.dsn_outcome.specs.Draft.{Draft}
 use Rattle.dsn_report.specs.Boundary.{header_lines, is_message, returned_lines, returns_message, shown_line, stands_whole}
 use Rattle.dsn_report.specs.LegalLines.{is_mail_byte, is_mail_line}
 use Rattle.dsn_report.specs.Notice.{part_of, returned_part}
-use Rattle.dsn_report.specs.ReturnedLines.{byte_shown, line_shown, lines_shown}
+use Rattle.dsn_report.specs.inner.NoticeLines.{byte_shown, line_shown, lines_shown}
 
 -- a part before other parts is a line, since there is always a part after it
 part-before : (test : Bool) (x : List ℕ) (b : ℕ) (parts : List (List ℕ))

@@ -9,7 +9,7 @@ use Rattle.std.proofs.lemmas.List.{map-append, take_rest}
 use Rattle.dsn_device.proofs.UntilFailureLemmas.{writes-none, writes-then}
 use Rattle.dsn_device.specs.QuietWriter.{Writes}
 use Rattle.dsn_device.specs.declared.drain.Drain.{Ghosts as Drain}
-use Rattle.dsn_report.specs.LineWriter.{HasTakenText, IsBlock, Settled, Took, Wrote, lines_sent, sent_of_dotted}
+use Rattle.dsn_report.specs.inner.LineWriter.{HasTakenText, IsBlock, Settled, Took, Wrote, lines_sent, sent_of_dotted}
 use Rattle.dsn_report.specs.Lines.{text_of_lines, dot_stuffed, begins_with_dot}
 use Rattle.dsn_report.specs.declared.line_writer.LineWriter.{LineWriter}
 

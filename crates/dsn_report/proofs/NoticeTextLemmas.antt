@@ -2,7 +2,7 @@
 use Rattle.std.proofs.Common.{◌≡◌, ℕ, List, [], ◌∷◌, ◌++◌, map, codes, true, false, sym, ◌∙◌, append-nil}
 use Rattle.dsn_outcome.specs.Letter.{Letter}
 use Rattle.dsn_report.proofs.LineWriterLemmas.{text_of_lines-append}
-use Rattle.dsn_report.specs.LineWriter.{lines_sent}
+use Rattle.dsn_report.specs.inner.LineWriter.{lines_sent}
 use Rattle.dsn_report.specs.Lines.{dot_stuffed, text_of_lines}
 use Rattle.dsn_report.specs.Notice.{notice_lines, notice_of}
 use Rattle.dsn_report.specs.Outbox.{mail_data}

@@ -8,7 +8,7 @@ use Rattle.dsn_outcome.specs.Letter.{Letter}
 use Rattle.dsn_outcome.specs.declared.returned.Returned.{Returned}
 use Rattle.dsn_outcome.specs.declared.returned.Returned.TheVariants.{Header, Message}
 use Rattle.dsn_text.specs.Service.{service_letter}
-use Rattle.dsn_text.specs.Text.{is_printable, longest_queue_id, most_digits}
+use Rattle.dsn_text.specs.Text.{is_printable}
 use Rattle.dsn_report.specs.LegalLines.{is_mail_line}
 use Rattle.dsn_report.specs.Lines.{longest_line}
 
@@ -60,11 +60,6 @@ letter_name letter =
     (service_letter letter.key.service ∷ []) ++ codes "." ++ letter.key.id ++ codes "."
     ++ decimal letter.draft.moment
 
--- the longest name of a letter, in bytes: the service's letter, two dots, a queue id of at most 32
--- and a moment of at most 20 digits
-abbrev pub longest_letter_name : ℕ
-longest_letter_name = 3 + longest_queue_id + most_digits
-
 -- what the boundaries of a letter begin with, whatever their number
 abbrev pub boundary_front : Letter → List ℕ
 boundary_front letter = letter_name letter ++ codes "."
@@ -76,14 +71,6 @@ boundary_text letter number = boundary_front letter ++ four_digits number
 -- a line that would be taken for a delimiter (RFC 2046 section 5.1.1)
 abbrev pub is_delimiter : List ℕ → List ℕ → Bool
 is_delimiter boundary line = starts_with nat_eq line (codes "--" ++ boundary)
-
--- a line that some boundary's delimiter could be: it begins with two dashes
-abbrev pub is_dashed : List ℕ → Bool
-is_dashed line = starts_with nat_eq line (codes "--")
-
--- some of these lines is taken for a delimiter of the boundary that begins so and has this number
-abbrev pub rules_out : List ℕ → List (List ℕ) → ℕ → Bool
-rules_out front returned number = list_any (is_delimiter (front ++ four_digits number)) returned
 
 -- some returned line rules this number out
 unfoldable pub is_ruled_out : Letter → ℕ → Bool

@@ -2,8 +2,9 @@
 //! Implements RFC 2046 section 5.1.1 and docs/FORMATS.md, "The boundary".
 ghost use Rattle.std.specs.Prelude.{◌≡◌, ◌<◌};
 ghost use Rattle.std.specs.List.{list_any};
-ghost use Rattle.dsn_report.specs.Boundary.{IsBoundaryNumber, boundary_number, boundary_numbers, is_dashed, returned_lines};
-ghost use Rattle.dsn_report.specs.ReturnedLines.{lines_shown, taken_lines};
+ghost use Rattle.dsn_report.specs.Boundary.{IsBoundaryNumber, boundary_number, boundary_numbers, returned_lines};
+ghost use Rattle.dsn_report.specs.inner.Boundary.{is_dashed};
+ghost use Rattle.dsn_report.specs.inner.NoticeLines.{lines_shown, taken_lines};
 
 use crate::letter_boundary::boundary_front;
 use crate::returned_text::ReturnedText;

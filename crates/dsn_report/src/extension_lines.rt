@@ -1,7 +1,7 @@
 //! The lines of a text of extension fields.
 //! Implements RFC 3464 section 2.4.
 ghost use Rattle.std.specs.Iterator.{YieldsFirstRef, item_count};
-ghost use Rattle.dsn_report.specs.ExtensionLines.{extensions_left};
+ghost use Rattle.dsn_report.specs.inner.NoticeLines.{extensions_left};
 
 use dsn_text::first_ended_line;
 

@@ -1,7 +1,8 @@
 //! The name and the serial of a letter, and the boundaries made of its name.
 //! Implements docs/FORMATS.md, "The boundary".
 ghost use Rattle.std.specs.Prelude.{◌≡◌, ◌+◌, ◌<◌, ◌≤◌, decimal, length};
-ghost use Rattle.dsn_report.specs.Boundary.{letter_name, boundary_front, boundary_numbers, boundary_text, longest_letter_name};
+ghost use Rattle.dsn_report.specs.Boundary.{letter_name, boundary_front, boundary_numbers, boundary_text};
+ghost use Rattle.dsn_report.specs.inner.Boundary.{longest_letter_name};
 
 use dsn_outcome::{Letter, ShortText};
 

@@ -3,7 +3,7 @@
 ghost use Rattle.std.specs.Prelude.{◌≡◌, ◌<◌, false, ℕ, List, [], ◌∷◌, ◌++◌, codes, length};
 ghost use Rattle.std.specs.List.{flat_map};
 ghost use Rattle.dsn_device.specs.QuietWriter.{Flushes, MarksLetter};
-ghost use Rattle.dsn_report.specs.LineWriter.{IsBlock, Settled, Took, Wrote, sent_of_dotted};
+ghost use Rattle.dsn_report.specs.inner.LineWriter.{IsBlock, Settled, Took, Wrote, sent_of_dotted};
 
 use crate::pending_bytes::PendingBytes;
 use dsn_device::{Drain, QuietWriter};

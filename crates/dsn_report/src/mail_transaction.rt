@@ -2,7 +2,7 @@
 //! Implements RFC 5321 section 3.3 and docs/FORMATS.md, "The outbox".
 ghost use Rattle.std.specs.Prelude.{◌≡◌, true, [], ◌++◌, if◌then◌else◌};
 ghost use Rattle.dsn_device.specs.QuietWriter.{Writes};
-ghost use Rattle.dsn_report.specs.LineWriter.{Took};
+ghost use Rattle.dsn_report.specs.inner.LineWriter.{Took};
 ghost use Rattle.dsn_report.specs.Outbox.{greeting, goodbye, mail_transaction};
 
 use crate::line_writer::LineWriter;

@@ -10,10 +10,10 @@ ghost use Rattle.dsn_text.specs.Extension.{lines_ended_by_lf, is_extension_text}
 ghost use Rattle.dsn_text.specs.Stamp.{date_text};
 ghost use Rattle.dsn_report.specs.Boundary.{boundary_front};
 ghost use Rattle.dsn_report.specs.DeliveryStatus.{delivery_status, line_if_any, per_message_fields, per_recipient_fields, recipient_group, typed, usual_address_type, usual_diagnostic_type};
-ghost use Rattle.dsn_report.specs.LineWriter.{Wrote, begins_plainly};
+ghost use Rattle.dsn_report.specs.inner.LineWriter.{Wrote, begins_plainly};
 ghost use Rattle.dsn_report.specs.Notice.{notice_header, notice_lines, notification, outcome_lines, part_header, recipient_told, returned_description, returned_part, returned_type, words_of};
-ghost use Rattle.dsn_report.specs.NoticeWording.{words_in};
-ghost use Rattle.dsn_report.specs.ReturnedLines.{lines_shown};
+ghost use Rattle.dsn_report.specs.inner.NoticeLines.{words_in};
+ghost use Rattle.dsn_report.specs.inner.NoticeLines.{lines_shown};
 
 use crate::boundary_number::boundary_beside;
 use crate::extension_lines::ExtensionLines;

@@ -1,7 +1,7 @@
 //! A notice in memory.
 //! Implements docs/FORMATS.md, "The notice".
 ghost use Rattle.std.specs.Prelude.{◌≡◌, ◌++◌, [], codes, IfOk, if◌then◌else◌};
-ghost use Rattle.dsn_report.specs.LineWriter.{lines_sent};
+ghost use Rattle.dsn_report.specs.inner.LineWriter.{lines_sent};
 ghost use Rattle.dsn_report.specs.Lines.{text_of_lines};
 ghost use Rattle.dsn_report.specs.Notice.{notice_lines, notice_of};
 ghost use Rattle.dsn_report.specs.Outbox.{mail_data};

@@ -6,7 +6,7 @@ ghost use Rattle.std.specs.Option.{option_copied};
 ghost use Rattle.dsn_outcome.specs.declared.wording.Wording.TheVariants.{ByOutcome};
 ghost use Rattle.dsn_text.specs.declared.service.Service.TheVariants.{Trace};
 ghost use Rattle.dsn_report.specs.Notice.{has_arrived, origin_told, returned_description, returned_type, with_bounce_names, words_by, words_of};
-ghost use Rattle.dsn_report.specs.NoticeWording.{words_in};
+ghost use Rattle.dsn_report.specs.inner.NoticeLines.{words_in};
 
 use dsn_outcome::{Action, Letter, Outcome, Service, Wording};
 

@@ -4,7 +4,7 @@ ghost use Rattle.std.specs.Prelude.{◌≡◌, ◌+◌, ◌≤◌, ◌==◌, [],
 ghost use Rattle.std.specs.Iterator.{YieldsFirstRef, item_count};
 ghost use Rattle.std.specs.Str.Lines.{lines, strip_carriage_return};
 ghost use Rattle.dsn_report.specs.Boundary.{header_lines, shown_byte};
-ghost use Rattle.dsn_report.specs.ReturnedLines.{byte_shown, line_shown, lines_left};
+ghost use Rattle.dsn_report.specs.inner.NoticeLines.{byte_shown, line_shown, lines_left};
 
 use bstr::ByteSlice;
 

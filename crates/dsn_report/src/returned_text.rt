@@ -4,7 +4,7 @@ ghost use Rattle.std.specs.Prelude.{◌≡◌, ◌==◌, length};
 ghost use Rattle.std.specs.List.{list_all};
 ghost use Rattle.dsn_report.specs.Boundary.{is_message, returned_lines, returns_message, stands_whole};
 ghost use Rattle.dsn_report.specs.LegalLines.{is_mail_byte, is_mail_line};
-ghost use Rattle.dsn_report.specs.ReturnedLines.{lines_shown};
+ghost use Rattle.dsn_report.specs.inner.NoticeLines.{lines_shown};
 
 use crate::returned_lines::{LONGEST_LINE, ReturnedLines, first_line};
 use dsn_outcome::{Letter, Returned};

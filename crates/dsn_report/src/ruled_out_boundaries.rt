@@ -2,8 +2,9 @@
 //! Implements docs/FORMATS.md, "The boundary".
 ghost use Rattle.std.specs.Prelude.{◌≡◌, ◌≢◌, ◌+◌, ◌*◌, ◌<◌, ℕ, ◌++◌, IsTrue, IsFalse, IfNone, IfSome, slice_index_or, nat_eq, false, not, position};
 ghost use Rattle.std.specs.List.{starts_with};
-ghost use Rattle.dsn_report.specs.Boundary.{boundary_numbers, four_digits, is_delimiter, rules_out};
-ghost use Rattle.dsn_report.specs.ReturnedLines.{lines_shown};
+ghost use Rattle.dsn_report.specs.Boundary.{boundary_numbers, four_digits, is_delimiter};
+ghost use Rattle.dsn_report.specs.inner.Boundary.{rules_out};
+ghost use Rattle.dsn_report.specs.inner.NoticeLines.{lines_shown};
 
 use crate::returned_lines::{LINE_ROOM, show_line};
 use crate::returned_text::ReturnedText;

@@ -4,7 +4,8 @@ use Rattle.std.specs.Prelude.{codes, nat_le}
 use Rattle.std.specs.List.{list_all}
 use Rattle.std.proofs.lemmas.Bool.Decides.{nat_tests}
 use Rattle.dsn_text.specs.Text.{IsAddress, IsMtaName, is_address_byte, is_visible}
-use Rattle.dsn_smtp.specs.CommandLine.{IsCommandLine, hello_line, recipient_line}
+use Rattle.dsn_smtp.specs.inner.CommandLine.{IsCommandLine}
+use Rattle.dsn_smtp.specs.CommandLine.{hello_line, recipient_line}
 use Rattle.dsn_smtp.specs.Reply.{is_text_byte}
 
 all-append : (p : ℕ → Bool) (xs ys : List ℕ) → list_all p xs ≡ true → list_all p ys ≡ true → list_all p (xs ++ ys) ≡ true

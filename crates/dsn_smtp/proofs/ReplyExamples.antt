@@ -3,7 +3,7 @@ use Rattle.std.proofs.Common.{◌≡◌, ℕ, List, [], ◌∷◌, ◌++◌, Som
 use Rattle.std.specs.Prelude.{codes}
 use Rattle.dsn_smtp.specs.Reply.{IsServerReply, last_text_of}
 use Rattle.dsn_smtp.specs.ReplyCode.{class_of, is_reply_code}
-use Rattle.dsn_smtp.specs.ReplyPlace.{scan}
+use Rattle.dsn_smtp.specs.inner.ReplyPlace.{scan}
 use Rattle.dsn_smtp.specs.declared.reply_class.ReplyClass.TheVariants.{Positive, Intermediate, RefusedForNow, RefusedForGood}
 use Rattle.dsn_smtp.specs.declared.reply_place.ReplyPlace.TheVariants.{Front}
 use Rattle.dsn_smtp.specs.declared.reply_place.ReplyScan.TheVariants.{Open, Whole, Behind, Wrong}

@@ -8,7 +8,7 @@ use Rattle.dsn_text.specs.Text.{is_between}
 use Rattle.dsn_smtp.specs.Reply.{AreReplyTexts, HasFurtherBytes, HasNoReply, IsLastText, IsNoFrontOfReply, IsServerReply, IsReplyText, after_code, is_text_byte}
 use Rattle.dsn_smtp.specs.ReplyCode.{IsReplyCode, is_reply_code}
 use Rattle.dsn_smtp.specs.ReplyReading.{IsUnended}
-use Rattle.dsn_smtp.specs.ReplyPlace.{are_none, reply_place_after, scan, scan_on, step_if}
+use Rattle.dsn_smtp.specs.inner.ReplyPlace.{are_none, reply_place_after, scan, scan_on, step_if}
 use Rattle.dsn_smtp.specs.declared.reply_place.ReplyPlace.{ReplyPlace}
 use Rattle.dsn_smtp.specs.declared.reply_place.ReplyPlace.TheVariants.{Front, Second, Third, Mark, Text, LastText, LineFeed, LastLineFeed, FrontAgain, SecondAgain, ThirdAgain}
 use Rattle.dsn_smtp.specs.declared.reply_place.ReplyStep.{ReplyStep}

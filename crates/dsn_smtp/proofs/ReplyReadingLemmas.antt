@@ -5,8 +5,9 @@ use Rattle.std.proofs.KnownBytes.{Consumes-trans}
 use Rattle.std.proofs.Math.Seq.{take-add}
 use Rattle.std.proofs.lemmas.List.{nil_from_length}
 use Rattle.dsn_smtp.specs.Reply.{longest_server_reply}
-use Rattle.dsn_smtp.specs.ReplyPlace.{scan}
-use Rattle.dsn_smtp.specs.ReplyReading.{ReadsNoReplyPiece, ReadsNoReply, ReadsReplyPiece, ReadsReply, StopsAtReplyPiece, StopsReply}
+use Rattle.dsn_smtp.specs.inner.ReplyPlace.{scan}
+use Rattle.dsn_smtp.specs.inner.ReplyPlace.{ReadsNoReplyPiece, ReadsReplyPiece, StopsAtReplyPiece}
+use Rattle.dsn_smtp.specs.ReplyReading.{ReadsNoReply, ReadsReply, StopsReply}
 use Rattle.dsn_smtp.specs.declared.reply_fault.ReplyFault.{ReplyFault}
 use Rattle.dsn_smtp.specs.declared.reply_fault.ReplyFault.TheVariants.{Nothing, CutShort, NoReply, TooLong, Trailing, Read}
 use Rattle.dsn_smtp.specs.declared.reply_place.ReplyPlace.TheVariants.{Front}

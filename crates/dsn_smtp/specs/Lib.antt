@@ -5,6 +5,6 @@ pub mod HandIn
 pub mod QueueIdIn
 pub mod Reply
 pub mod ReplyCode
-pub mod ReplyPlace
 pub mod ReplyReading
 pub mod Session
+pub mod inner

@@ -1,6 +1,6 @@
 -- Replies that are read from a device in pieces: what was read, and how reading ends. Of a device that doesn't tell its bytes
 -- it is said what the reply is, and not where it came from.
-use Rattle.std.specs.Prelude.{◌≡◌, ℕ, ◌+◌, ◌<◌, ◌≤◌, Bool, true, false, List, [], length, take, drop, Option, Result, Ok, Err}
+use Rattle.std.specs.Prelude.{◌≡◌, ℕ, ◌<◌, ◌≤◌, Bool, true, false, List, [], length, Option, Result, Ok, Err}
 use Rattle.std.specs.Io.KnownBytes.{Consumes, IsAtEnd}
 use Rattle.dsn_smtp.specs.Reply.{HasFurtherBytes, HasNoReply, IsFrontOfReply, IsNoFrontOfReply, IsServerReply, longest_server_reply}
 use Rattle.dsn_smtp.specs.declared.reply_fault.ReplyFault.{ReplyFault}
@@ -42,26 +42,6 @@ pub record ReadsNoReply (old new : Option (List ℕ)) (fault : ReplyFault) : Typ
   pub consumed : Consumes old new part
   pub stops : StopsReply fault part
   pub ends : EndsBeforeReply fault new
-
--- no piece could be read after so many bytes
-abbrev pub StopsAtReplyPiece : ReplyFault → ℕ → Type 0
-StopsAtReplyPiece Nothing size = size ≡ 0
-StopsAtReplyPiece CutShort size = 0 < size
-StopsAtReplyPiece NoReply size = ⊥
-StopsAtReplyPiece TooLong size = ⊥
-StopsAtReplyPiece Trailing size = ⊥
-StopsAtReplyPiece Read size = Unit {0}
-
-pub record ReadsNoReplyPiece (old new : Option (List ℕ)) (size : ℕ) (fault : ReplyFault) : Type 0 where
-  pub consumed : Consumes old new []
-  pub stops : StopsAtReplyPiece fault size
-  pub ends : EndsBeforeReply fault new
-
--- a piece that was read after so many bytes at the front of a buffer
-pub record ReadsReplyPiece (old new : Option (List ℕ)) (size : ℕ) (bytes : List ℕ) (count : ℕ) : Type 0 where
-  pub some : 0 < count
-  pub fits : size + count ≤ length bytes
-  pub consumed : Consumes old new (take count (drop size bytes))
 
 -- whether a result says that the device failed
 abbrev pub reply_device_failed : {T : Type 0} → Result T ReplyFault → Bool

@@ -1,7 +1,8 @@
 //! The command lines of a mail transaction.
 //! Implements RFC 5321 section 4.1.1.
 ghost use Rattle.std.specs.Prelude.{◌≡◌, ◌+◌, ◌≤◌, ◌++◌, [], length};
-ghost use Rattle.dsn_smtp.specs.CommandLine.{IsCommandLine, hello_line, longest_command_line, recipient_line};
+ghost use Rattle.dsn_smtp.specs.inner.CommandLine.{IsCommandLine, longest_command_line};
+ghost use Rattle.dsn_smtp.specs.CommandLine.{hello_line, recipient_line};
 
 use dsn_text::{Address, MtaName};
 use std::marker::Model;
@@ -25,7 +26,7 @@ pub(crate) struct CommandLine {
 
 impl Model for CommandLine {
     ghost use Rattle.std.specs.Prelude.{ℕ, List, ◌≤◌, take};
-    ghost use Rattle.dsn_smtp.specs.CommandLine.{longest_command_line};
+    ghost use Rattle.dsn_smtp.specs.inner.CommandLine.{longest_command_line};
 
     ghost Value = { List ℕ };
 

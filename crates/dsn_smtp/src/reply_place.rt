@@ -2,7 +2,7 @@
 //! Implements RFC 5321 section 4.2.
 ghost use Rattle.std.specs.Prelude.{◌≡◌, ◌==◌, if◌then◌else◌};
 ghost use Rattle.dsn_smtp.specs.ReplyCode.{is_reply_code};
-ghost use Rattle.dsn_smtp.specs.ReplyPlace.{reply_place_after, scan, step_if};
+ghost use Rattle.dsn_smtp.specs.inner.ReplyPlace.{reply_place_after, scan, step_if};
 
 use crate::reply_code::ReplyCode;
 

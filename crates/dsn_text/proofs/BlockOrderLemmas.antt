@@ -12,7 +12,8 @@ use Rattle.std.specs.declared.cmp.Ordering.TheVariants.{Less, Equal, Greater}
 use Rattle.std.proofs.lemmas.Cmp.{ranked}
 use Rattle.std.proofs.lemmas.Map.Text.{is_eq-slice_cmp}
 use Rattle.std.proofs.lemmas.List.{get_or-drop, drop-drop, length-drop}
-use Rattle.dsn_text.specs.Text.{is_letter_or_digit, longest_queue_id, IsQueueId, IsPadded}
+use Rattle.dsn_text.specs.Text.{is_letter_or_digit, longest_queue_id, IsQueueId}
+use Rattle.dsn_text.specs.inner.Kept.{IsPadded}
 
 abbrev pub AreBytes : List ℕ → Type 0
 AreBytes xs = (k : ℕ) → get_or xs k 0 < 256

@@ -9,7 +9,8 @@ use Rattle.std.proofs.lemmas.Bool.{and_parts, and_from, and_left, and_right, cas
 use Rattle.std.proofs.lemmas.List.{nil_from_length}
 use Rattle.std.proofs.lemmas.List.Sums.{split_at_first, passes_at_first}
 use Rattle.dsn_text.specs.Text.{is_digit, is_text}
-use Rattle.dsn_text.specs.Status.{IsNumberText, IsStatusCode, is_class, is_dot, has_leading_zero, is_number_text, is_class_text, is_number_pair, is_status_code, status_class, longest_status}
+use Rattle.dsn_text.specs.Status.{IsNumberText, IsStatusCode, is_class, is_dot, has_leading_zero, is_number_text, is_class_text, is_number_pair, is_status_code, status_class}
+use Rattle.dsn_text.specs.inner.Kept.{longest_status}
 
 -- the first dot of a text stands after bytes that are no dots
 position-dot : (front rest : List ℕ) → list_all (λ byte. not (is_dot byte)) front ≡ true → position_or_len is_dot (front ++ 46 ∷ rest) ≡ length front

@@ -5,7 +5,8 @@ use Rattle.std.proofs.Common.{arith, sym, ap}
 use Rattle.std.proofs.lemmas.Grind.{common_steps}
 use Rattle.std.proofs.lemmas.List.{length-map, drop-replicate}
 use Rattle.std.proofs.Math.Seq.{take-append_seam}
-use Rattle.dsn_text.specs.Text.{is_printable, clean_byte, clean_text, is_remark, longest_clean, IsClean, IsPadded}
+use Rattle.dsn_text.specs.Text.{is_printable, clean_byte, clean_text, is_remark, longest_clean, IsClean}
+use Rattle.dsn_text.specs.inner.Kept.{IsPadded}
 
 -- `?` is printable
 is_printable-if : (byte : ℕ) (test : Bool) → is_printable byte ≡ test → is_printable (if test then byte else 63) ≡ true

@@ -7,3 +7,4 @@ pub mod Service
 pub mod Stamp
 pub mod Status
 pub mod Text
+pub mod inner

@@ -1,6 +1,5 @@
 -- Dates: the civil date of a day number, and the text of a moment (RFC 5322 section 3.3).
-use Rattle.std.specs.Prelude.{ℕ, zero, suc, ◌+◌, ◌-◌, ◌/◌, ◌%◌, Bool, not, ◌&&◌, ◌||◌, ◌==◌, nat_le, nat_lt, if◌then◌else◌, List, [], ◌∷◌, ◌++◌, slice_index_or, codes, pos, ◌≡◌, Option, Some, None}
-use Rattle.jiff_core.specs.declared.civil.date.Date.{Date}
+use Rattle.std.specs.Prelude.{ℕ, zero, suc, ◌+◌, ◌-◌, ◌/◌, ◌%◌, Bool, not, ◌&&◌, ◌||◌, ◌==◌, nat_le, nat_lt, if◌then◌else◌, List, [], ◌∷◌, ◌++◌, slice_index_or, codes}
 
 -- the last second of the year 9999: a later year has more than four digits
 abbrev pub last_moment : ℕ
@@ -9,10 +8,6 @@ last_moment = 253_402_300_799
 -- a moment has a date of four digits of years
 abbrev pub is_moment : ℕ → Bool
 is_moment moment = nat_le moment last_moment
-
--- the moment of a number; one after the last moment means that there is none
-abbrev pub moment_within : ℕ → Option ℕ
-moment_within number = if is_moment number then Some number else None
 
 -- a day of the calendar; months and days count from 1
 pub record CivilDate : Type 0 where
@@ -47,11 +42,6 @@ civil_after (suc days) = next_day (civil_after days)
 -- the day of the week that day, from 0 for Monday: 1 January 1970 was a Thursday
 abbrev pub weekday_after : ℕ → ℕ
 weekday_after days = (days + 3) % 7
-
--- jiff's date is this day
-abbrev pub IsCivil : CivilDate → Date → Type 0
-IsCivil civil date =
-    (date.year ≡ pos civil.year) × (date.month ≡ civil.month) × (date.day ≡ civil.day)
 
 -- the names of the days, from 0 for Monday
 abbrev pub day_names : List (List ℕ)

@@ -23,10 +23,6 @@ pub record IsStatusCode (text : List ℕ) : Type 0 where
   pub detail_number : IsNumberText detail
   pub shape : text ≡ (class ∷ codes ".") ++ (subject ++ (codes "." ++ detail))
 
--- the longest status code, in bytes: a class, two dots and two numbers of three digits
-abbrev pub longest_status : ℕ
-longest_status = 9
-
 -- the tests of the same facts
 
 abbrev pub is_dot : ℕ → Bool

@@ -1,8 +1,6 @@
 -- The texts that requests carry: which bytes each may hold, and how many.
-use Rattle.std.specs.Prelude.{◌≡◌, ℕ, Bool, ◌&&◌, ◌||◌, not, ◌==◌, nat_le, List, ◌++◌, ◌-◌, length, take, replicate, map, IsTrue, if◌then◌else◌}
+use Rattle.std.specs.Prelude.{ℕ, Bool, ◌&&◌, ◌||◌, not, ◌==◌, nat_le, List, length, map, IsTrue, if◌then◌else◌}
 use Rattle.std.specs.List.{list_all}
-use Rattle.dsn_text.specs.declared.text.Alphabet.{Alphabet}
-use Rattle.dsn_text.specs.declared.text.Alphabet.TheVariants.{Digits, LettersAndDigits, AddressBytes, AtomBytes, Visible, Printable}
 
 -- whether a byte is between two others, both included
 abbrev pub is_between : ℕ → ℕ → ℕ → Bool
@@ -36,15 +34,6 @@ is_mail_special byte =
 -- what an atom may hold (RFC 5322 section 3.2.3, atext)
 abbrev pub is_atom_byte : ℕ → Bool
 is_atom_byte byte = is_visible byte && not (is_mail_special byte)
-
--- whether a text of this alphabet may hold the byte
-abbrev pub allows : Alphabet → ℕ → Bool
-allows Digits = is_digit
-allows LettersAndDigits = is_letter_or_digit
-allows AddressBytes = is_address_byte
-allows AtomBytes = is_atom_byte
-allows Visible = is_visible
-allows Printable = is_printable
 
 -- a text of at least so many and at most so many bytes, all of them allowed
 abbrev pub is_text : (ℕ → Bool) → ℕ → ℕ → List ℕ → Bool
@@ -139,9 +128,3 @@ IsEnvelopeId text = IsTrue (is_envelope_id text)
 
 abbrev pub IsClean : List ℕ → Type 0
 IsClean text = IsTrue (is_clean text)
-
--- a text held in place: a buffer of so much room begins with a text of this length, and the rest
--- of the buffer is zero
-pub record IsPadded (room : ℕ) (buffer : List ℕ) (len : ℕ) : Type 0 where
-  pub counted : length (take len buffer) ≡ len
-  pub padded : take len buffer ++ replicate (room - len) 0 ≡ buffer

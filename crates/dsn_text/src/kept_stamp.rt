@@ -15,7 +15,7 @@ pub struct KeptStamp {
 
 impl Model for KeptStamp {
     ghost use Rattle.std.specs.Prelude.{ℕ, Option};
-    ghost use Rattle.dsn_text.specs.Stamp.{moment_within};
+    ghost use Rattle.dsn_text.specs.inner.Kept.{moment_within};
 
     ghost Value = { Option ℕ };
 

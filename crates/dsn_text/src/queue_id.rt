@@ -26,7 +26,8 @@ pub struct QueueId {
 impl Model for QueueId {
     ghost use Rattle.std.specs.Prelude.{ℕ, List, ◌++◌, ◌-◌, take, length, replicate};
     ghost use Rattle.std.proofs.Common.{arith};
-    ghost use Rattle.dsn_text.specs.Text.{IsQueueId, IsPadded, longest_queue_id};
+    ghost use Rattle.dsn_text.specs.Text.{IsQueueId, longest_queue_id};
+    ghost use Rattle.dsn_text.specs.inner.Kept.{IsPadded};
 
     ghost Value = { List ℕ };
 

@@ -3,7 +3,8 @@
 ghost use Rattle.std.specs.Prelude.{◌≡◌, ◌/◌, ◌%◌, ◌<◌, ◌≤◌, ◌↔◌, IsSome, IfSome};
 ghost use Rattle.std.specs.Int.{IsInRange};
 ghost use Rattle.jiff.specs.Words.{monday_zero, weekday_of};
-ghost use Rattle.dsn_text.specs.Stamp.{IsCivil, last_moment, civil_after, weekday_after, day_name, month_name, two_digits, day_text, time_text, date_text};
+ghost use Rattle.dsn_text.specs.inner.Kept.{IsCivil};
+ghost use Rattle.dsn_text.specs.Stamp.{last_moment, civil_after, weekday_after, day_name, month_name, two_digits, day_text, time_text, date_text};
 
 use jiff::civil::{Date, Weekday};
 use std::marker::Model;

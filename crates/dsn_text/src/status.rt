@@ -22,8 +22,9 @@ pub struct Status {
 impl Model for Status {
     ghost use Rattle.std.specs.Prelude.{ℕ, List, ◌++◌, ◌-◌, take, length, replicate, IsTrue};
     ghost use Rattle.std.proofs.Common.{arith};
-    ghost use Rattle.dsn_text.specs.Text.{IsPadded};
-    ghost use Rattle.dsn_text.specs.Status.{is_status_code, longest_status};
+    ghost use Rattle.dsn_text.specs.inner.Kept.{IsPadded};
+    ghost use Rattle.dsn_text.specs.Status.{is_status_code};
+    ghost use Rattle.dsn_text.specs.inner.Kept.{longest_status};
 
     ghost Value = { List ℕ };
 

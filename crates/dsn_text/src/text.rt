@@ -2,7 +2,8 @@
 //! is kept.
 ghost use Rattle.std.specs.Prelude.{◌≡◌, IfOk};
 ghost use Rattle.std.specs.List.{list_all};
-ghost use Rattle.dsn_text.specs.Text.{allows, is_mail_special, is_text, is_visible, is_printable};
+ghost use Rattle.dsn_text.specs.inner.Kept.{allows};
+ghost use Rattle.dsn_text.specs.Text.{is_mail_special, is_text, is_visible, is_printable};
 
 use crate::no_memory::NoMemory;
 use std::alloc::Global;

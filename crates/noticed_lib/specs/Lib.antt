@@ -1,5 +1,6 @@
 pub mod batch_run
 pub mod client
 pub mod daemon
+pub mod inner
 pub mod listing
 pub mod notes

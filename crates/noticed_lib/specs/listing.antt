@@ -1,5 +1,3 @@
-pub mod CopiedDisk
-pub mod CopiedFolder
 pub mod Folder
 pub mod Listing
 pub mod ListingFault

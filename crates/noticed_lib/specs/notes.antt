@@ -1,3 +1,2 @@
-pub mod NotedAnswers
 pub mod Notes
 pub mod OpenLogs

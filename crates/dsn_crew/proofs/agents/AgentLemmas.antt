@@ -11,7 +11,8 @@ use Rattle.dsn_outcome.specs.declared.answer.Answer.{Answer}
 use Rattle.dsn_outcome.specs.declared.answer.Replied.{Replied}
 use Rattle.dsn_outcome.specs.declared.answer.Reply.TheVariants.{Gone}
 use Rattle.dsn_outcome.specs.declared.body.Body as Sent
-use Rattle.dsn_crew.specs.agents.Agent.{Agent, AreHalves, LaneHalves, IsAgent, IsFaultOf, IsFinished, IsGoodbye, IsLeave, IsUnanswered, Stays, after_reply, answer_with, losing, request_with, with_halves}
+use Rattle.dsn_crew.specs.agents.Agent.{Agent, AreHalves, LaneHalves, IsAgent, IsFinished, IsGoodbye, Stays, after_reply, answer_with, losing, request_with, with_halves}
+use Rattle.dsn_crew.specs.inner.Agent.{IsFaultOf, IsLeave, IsUnanswered}
 use Rattle.dsn_crew.specs.declared.agents.ask_fault.AskFault.{AskFault}
 use Rattle.dsn_crew.specs.declared.agents.ask_fault.AskFault.TheVariants.{Limit, Lost}
 use Rattle.dsn_crew.specs.declared.agents.unheard.Unheard.{Unheard}

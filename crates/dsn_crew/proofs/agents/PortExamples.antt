@@ -14,7 +14,8 @@ use Rattle.dsn_frame.specs.declared.bodies.spoken.Spoken.TheVariants.{Reply}
 use Rattle.dsn_frame.specs.Session.{asked, written, begun, taken, well, cut}
 use Rattle.dsn_frame.specs.declared.frame_fault.FrameFault.TheVariants.{Empty, CutShort}
 use Rattle.dsn_crew.specs.agents.Agent.{Agent}
-use Rattle.dsn_crew.specs.agents.Port.{Conn, connection, done, IsPortServed, Session}
+use Rattle.dsn_crew.specs.agents.Port.{Conn, connection, done, Session}
+use Rattle.dsn_crew.specs.inner.Agent.{IsPortServed}
 use Rattle.dsn_crew.specs.agents.Serve.{numbered_from}
 use Rattle.dsn_crew.proofs.agents.ServeExamples.{discard, discard_body, discard_is_encoded}
 

@@ -12,8 +12,10 @@ use Rattle.dsn_device.specs.Failures.{counted, most_failures}
 use Rattle.dsn_device.specs.declared.drain.Drain.{Ghosts as Drain}
 use Rattle.dsn_device.specs.declared.source.Source.{Ghosts as Source}
 use Rattle.dsn_frame.specs.declared.frame_fault.FrameFault.TheVariants as frames
-use Rattle.dsn_crew.specs.agents.Agent.{Agent, LaneHalves, IsLeave}
-use Rattle.dsn_crew.specs.agents.Port.{Conn, Given, connection, done, failed, Gives, GivesFirst, HasServed, HasServedOnly, IsLastGiven, IsPortServed, AreOverConns, AreOverPort, AreSessions, IsOver, IsSessionAt, Session, all_given, answers_of, bodies_of, faults_of}
+use Rattle.dsn_crew.specs.agents.Agent.{Agent, LaneHalves}
+use Rattle.dsn_crew.specs.inner.Agent.{IsLeave}
+use Rattle.dsn_crew.specs.agents.Port.{Conn, Given, connection, done, failed, Gives, GivesFirst, IsLastGiven, AreOverConns, AreOverPort, AreSessions, IsOver, IsSessionAt, Session, all_given, answers_of, bodies_of, faults_of}
+use Rattle.dsn_crew.specs.inner.Agent.{HasServed, HasServedOnly, IsPortServed}
 use Rattle.dsn_crew.specs.agents.Serve.{HasAsked, IsServed, is_lost, is_stream_failed, served_end}
 use Rattle.dsn_crew.specs.declared.agents.unheard.Unheard.{Unheard}
 use Rattle.dsn_crew.specs.declared.agents.agent_line.AgentLine.{AgentLine}

@@ -23,7 +23,8 @@ use Rattle.dsn_frame.specs.Session.{Connection, Takes, asked, used_up, given_up,
 use Rattle.dsn_frame.specs.declared.refusal.Refusal.{Refusal}
 use Rattle.dsn_frame.specs.declared.refusal.Refusal.TheVariants as refusals
 use Rattle.dsn_crew.specs.agents.Agent.{Agent, IsAsk}
-use Rattle.dsn_crew.specs.agents.Serve.{numbered_answer, numbered_from, numbered_request, requests_from, answers_from, after_requests, asked_turn, AreReplied, HasAsked, IsTurn}
+use Rattle.dsn_crew.specs.agents.Serve.{numbered_answer, numbered_from, numbered_request, requests_from, answers_from, after_requests, AreReplied, HasAsked}
+use Rattle.dsn_crew.specs.inner.Agent.{asked_turn, IsTurn}
 use Rattle.dsn_crew.specs.declared.agents.ask_fault.AskFault.{AskFault}
 use Rattle.dsn_crew.specs.declared.agents.ask_fault.AskFault.TheVariants.{Limit, Lost}
 

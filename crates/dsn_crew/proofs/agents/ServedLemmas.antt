@@ -16,11 +16,13 @@ use Rattle.dsn_frame.specs.bodies.Spoken.{answer_bytes, answer_frames_from, told
 use Rattle.dsn_frame.specs.declared.bodies.spoken.Spoken.{Spoken}
 use Rattle.dsn_frame.proofs.AnswerLemmas.{answer_frames_from-more, told-length, told-more, told-unanswered}
 use Rattle.dsn_frame.specs.Frame.{ReadsNext}
-use Rattle.dsn_frame.specs.Session.{Connection, IsOpenSession, IsSession, Takes, written}
+use Rattle.dsn_frame.specs.Session.{Connection, IsSession, Takes, written}
+use Rattle.dsn_frame.specs.inner.Session.{IsOpenSession}
 use Rattle.dsn_frame.proofs.SentAnswersLemmas.{length-more, sent-more, sent-lost}
 use Rattle.dsn_frame.proofs.SessionLemmas.{session_begun, session_more, session_stopped, session_unwritten}
 use Rattle.dsn_crew.specs.agents.Agent.{Agent}
-use Rattle.dsn_crew.specs.agents.Serve.{HasAsked, IsServed, IsTurn, is_lost, is_stream_failed, is_unwritten, served_end, answer_in, turn_end, has_lost}
+use Rattle.dsn_crew.specs.agents.Serve.{HasAsked, IsServed, is_lost, is_stream_failed, is_unwritten, served_end}
+use Rattle.dsn_crew.specs.inner.Agent.{IsTurn, answer_in, turn_end, has_lost}
 use Rattle.dsn_crew.specs.declared.agents.serve_fault.ServeFault.{ServeFault}
 use Rattle.dsn_crew.specs.declared.agents.serve_fault.ServeFault.TheVariants.{WriteBack, Number, Lost}
 use Rattle.dsn_crew.specs.declared.agents.served.Served.{Served}

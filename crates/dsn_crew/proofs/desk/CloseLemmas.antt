@@ -15,7 +15,8 @@ use Rattle.dsn_outcome.specs.Request.{Request}
 use Rattle.dsn_outcome.specs.declared.answer.Answer.{Answer}
 use Rattle.dsn_crew.specs.agents.Agent.{LaneHalves, IsFinished}
 use Rattle.dsn_crew.specs.desk.Close.{AreCrew, AreOf, IsHeard}
-use Rattle.dsn_crew.specs.desk.Desk.{Desk, IsDesk, IsEarlier, StandsAfter, all_gone, history}
+use Rattle.dsn_crew.specs.desk.Desk.{Desk, IsDesk, StandsAfter, all_gone, history}
+use Rattle.dsn_crew.specs.KeeperHistory.{IsEarlier}
 use Rattle.dsn_crew.specs.agents.Place.{Place, place_at, place_of}
 use Rattle.dsn_crew.proofs.desk.EarlierLemmas.{answered_as_asked}
 use Rattle.dsn_crew.proofs.desk.DeskLemmas.{first_half}

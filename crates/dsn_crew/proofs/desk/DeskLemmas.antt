@@ -17,8 +17,11 @@ use Rattle.dsn_outcome.specs.History.{Exchange, answer_of, answers_after, answer
 use Rattle.dsn_outcome.specs.Request.{Request}
 use Rattle.dsn_outcome.specs.declared.answer.Answer.{Answer}
 use Rattle.dsn_outcome.proofs.HistoryLaws.{answers_mine, answers_more, answers_other}
-use Rattle.dsn_crew.specs.desk.Desk.{AreLeft, AreNextOf, BeginsWith, Desk, IsDesk, StandsAfter, AreAnswered, IsAnswerSent, answered_more, desk_seen, history, next_exchange, places_of}
-use Rattle.dsn_crew.specs.desk.Intake.{Intake, goodbyes, taken_request}
+use Rattle.dsn_crew.specs.desk.Desk.{AreLeft, Desk, IsDesk, StandsAfter, AreAnswered, IsAnswerSent, answered_more, history, next_exchange, places_of}
+use Rattle.dsn_crew.specs.KeeperHistory.{AreNextOf, BeginsWith}
+use Rattle.dsn_crew.specs.inner.Desk.{desk_seen}
+use Rattle.dsn_crew.specs.inner.Desk.{Intake}
+use Rattle.dsn_crew.specs.desk.Intake.{goodbyes, taken_request}
 use Rattle.dsn_crew.specs.declared.desk.stop_cause.StopCause.{StopCause}
 use Rattle.dsn_crew.specs.agents.Place.{Place, place_at}
 use Rattle.dsn_crew.proofs.desk.EarlierLemmas.{more_after}

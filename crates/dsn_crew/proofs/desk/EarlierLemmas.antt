@@ -5,7 +5,7 @@ use Rattle.dsn_outcome.specs.Agents.{from_agent}
 use Rattle.dsn_outcome.specs.History.{Limits, Exchange, answer_of, answers_after, answers_to, exchange_of, history_after}
 use Rattle.dsn_outcome.specs.Request.{Request}
 use Rattle.dsn_outcome.proofs.HistoryLaws.{answers_mine, answers_other}
-use Rattle.dsn_crew.specs.desk.Desk.{IsEarlier}
+use Rattle.dsn_crew.specs.KeeperHistory.{IsEarlier}
 
 -- one more request has one more exchange
 pub more_after : (limits : Limits) (before : List Exchange) (requests : List Request) (request : Request) → history_after limits before (requests ++ request ∷ []) ≡ history_after limits before requests ++ exchange_of limits (history_after limits before requests) request ∷ []

@@ -13,7 +13,7 @@ use Rattle.dsn_crew.specs.lane.Lane.{IsNumbered}
 use Rattle.dsn_crew.proofs.lane.AgentLemmas.{get_seam, seam_mine}
 use Rattle.dsn_outcome.specs.Agents.{from_agent}
 use Rattle.dsn_outcome.specs.Request.{Request, Body, Append, Flush, Discard, Forget, Bye}
-use Rattle.dsn_crew.specs.desk.Desk.{AreNextOf}
+use Rattle.dsn_crew.specs.KeeperHistory.{AreNextOf}
 use Rattle.dsn_crew.specs.desk.Intake.{goodbyes, is_goodbye}
 
 -- ---- goodbyes

@@ -60,7 +60,6 @@ same_failed false = refl
 
 -- a collector that has stopped has what it had, but its book may be another one
 module _ {B : Type 0} (keeper : Keeper B) where
-
   stopped_requests : (old new : Desk B) → HasStopped keeper old new → new.requests ≡ old.requests
   stopped_requests old new (inl same) = ap (λ (desk : Desk B). desk.requests) same
   stopped_requests old new (inr unkept) = ap (λ (desk : Desk B). desk.requests) unkept.5

@@ -11,10 +11,13 @@ use Rattle.dsn_outcome.specs.History.{Exchange, answer_of, exchange_of, history_
 use Rattle.dsn_outcome.specs.Letter.{Letter}
 use Rattle.dsn_outcome.specs.Request.{Request}
 use Rattle.dsn_outcome.specs.declared.answer.Answer.{Answer}
-use Rattle.dsn_crew.specs.desk.Desk.{AreLeft, BeginsWith, Desk, IsDesk, IsRequestTaken, MayBeSent, StandsOrRefused, all_gone, history, next_exchange, with_failed, with_kept}
+use Rattle.dsn_crew.specs.desk.Desk.{AreLeft, Desk, IsDesk, IsRequestTaken, all_gone, history, next_exchange, with_failed}
+use Rattle.dsn_crew.specs.KeeperHistory.{BeginsWith, StandsOrRefused}
+use Rattle.dsn_crew.specs.inner.Desk.{MayBeSent, with_kept}
 use Rattle.dsn_crew.specs.declared.desk.desk_fault.DeskFault.{DeskFault}
 use Rattle.dsn_crew.specs.declared.desk.desk_fault.DeskFault.TheVariants.{Requests, Answers, Letters}
-use Rattle.dsn_crew.specs.desk.Intake.{Intake, goodbyes, taken_request}
+use Rattle.dsn_crew.specs.inner.Desk.{Intake}
+use Rattle.dsn_crew.specs.desk.Intake.{goodbyes, taken_request}
 use Rattle.dsn_crew.proofs.desk.CrashLemmas.{LeavesKept, done_on, none_done}
 use Rattle.dsn_crew.proofs.desk.EarlierLemmas.{more_after}
 use Rattle.dsn_crew.proofs.desk.IntakeLemmas.{AreNumbered, goodbyes-append}

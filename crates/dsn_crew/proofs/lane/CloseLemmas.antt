@@ -12,9 +12,10 @@ use Rattle.dsn_outcome.specs.Agents.{from_agent}
 use Rattle.dsn_crew.proofs.lane.AgentLemmas.{seam_mine}
 use Rattle.dsn_crew.proofs.LaneHalfLemmas.{fresh_one, fresh_past, length-fresh}
 use Rattle.dsn_crew.proofs.lane.SumLemmas.{sum_below, sum_below-same, by_agents, all_one, sum_by-one}
-use Rattle.dsn_crew.specs.lane.Halves.{Identity, Half, Out, IsAccepted, IsReceiving, capacity_of, fresh, lane_of, out_of, sending_of, taking}
+use Rattle.dsn_crew.specs.lane.Halves.{Identity, Half, Out, IsAccepted}
+use Rattle.dsn_crew.specs.inner.Halves.{IsReceiving, capacity_of, fresh, lane_of, out_of, sending_of, taking}
 use Rattle.dsn_crew.specs.lane.Lane.{back_from}
-use Rattle.dsn_crew.specs.lane.Step.{Settles, after_join, known_after}
+use Rattle.dsn_crew.specs.inner.Step.{Settles, after_join, known_after}
 use Rattle.dsn_crew.specs.declared.lane.lane_knowledge.Sending.{Sending}
 use Rattle.dsn_crew.specs.declared.lane.lane_knowledge.Taking.{Taking}
 use Rattle.dsn_crew.specs.declared.lane.lane_knowledge.LaneKnowledge.{LaneKnowledge}

@@ -11,7 +11,8 @@ use Rattle.crossbeam_channel.specs.Fifo.{Pushes, Pops, Forks, Merges, Learns}
 use Rattle.dsn_outcome.specs.Agents.{from_agent}
 use Rattle.dsn_crew.proofs.lane.AgentLemmas.{get_seam, mine, not_mine, more, more_mine, more_not_mine, seam_mine, numbered_more, numbered_none}
 use Rattle.dsn_crew.specs.lane.Lane.{IsLane, IsNumbered, Knows, back_from}
-use Rattle.dsn_crew.specs.lane.Step.{opened, after_room, after_split, split_off, after_send, after_take, after_join, known_after, IsNext, Settles, IsLaneSettled}
+use Rattle.dsn_crew.specs.lane.Step.{opened}
+use Rattle.dsn_crew.specs.inner.Step.{after_room, after_split, split_off, after_send, after_take, after_join, known_after, IsNext, Settles, IsLaneSettled}
 use Rattle.dsn_crew.specs.declared.lane.lane_knowledge.Sending.{Sending}
 use Rattle.dsn_crew.specs.declared.lane.lane_knowledge.Taking.{Taking}
 use Rattle.dsn_crew.specs.declared.lane.lane_knowledge.LaneKnowledge.{LaneKnowledge}

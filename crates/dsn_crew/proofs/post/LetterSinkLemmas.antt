@@ -13,7 +13,8 @@ use Rattle.dsn_outcome.specs.Agents.{from_agent}
 use Rattle.dsn_outcome.specs.Letter.{Letter}
 use Rattle.dsn_crew.specs.post.LetterSink.{LetterSink, TakesLetter}
 use Rattle.dsn_crew.specs.post.Sink.{Handed}
-use Rattle.dsn_crew.specs.post.Parcel.{Parcel, letters_of, parcels_of}
+use Rattle.dsn_crew.specs.post.Parcel.{Parcel}
+use Rattle.dsn_crew.specs.inner.LetterSource.{letters_of, parcels_of}
 use Rattle.dsn_crew.proofs.post.ParcelLemmas.{all_letters, all_of_one, few_letters, first_letters, length-parcels, letter_more, letters_of-append, mark_last, marked_all, parcel}
 
 -- a sink that took letters one after another has sent them, after those from before

@@ -4,8 +4,10 @@ use Rattle.std.specs.Prelude.{Some, None}
 use Rattle.dsn_crew.specs.lane.Halves.{Identity, Out}
 use Rattle.dsn_outcome.specs.Agents.{from_agent}
 use Rattle.dsn_outcome.specs.Letter.{Letter}
-use Rattle.dsn_crew.specs.post.LetterSource.{LetterSource, taken_parcels}
-use Rattle.dsn_crew.specs.post.Parcel.{Parcel, letters_of, parcels_of}
+use Rattle.dsn_crew.specs.post.LetterSource.{LetterSource}
+use Rattle.dsn_crew.specs.inner.LetterSource.{taken_parcels}
+use Rattle.dsn_crew.specs.post.Parcel.{Parcel}
+use Rattle.dsn_crew.specs.inner.LetterSource.{letters_of, parcels_of}
 use Rattle.dsn_crew.proofs.post.ParcelLemmas.{all_of_one, length-parcels, letter_more, letters_back, mark_last, parcel}
 
 abbrev pub out : Identity Parcel → ℕ → ℕ → List Parcel → Out Parcel

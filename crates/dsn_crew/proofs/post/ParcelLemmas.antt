@@ -7,7 +7,8 @@ use Rattle.std.proofs.lemmas.Option.{none-some, same_Some}
 use mathlib.Core.List.{IsPrefix}
 use Rattle.dsn_outcome.specs.Agents.{from_agent}
 use Rattle.dsn_outcome.specs.Letter.{Letter}
-use Rattle.dsn_crew.specs.post.Parcel.{Parcel, letters_of, parcels_from, parcels_of}
+use Rattle.dsn_crew.specs.post.Parcel.{Parcel}
+use Rattle.dsn_crew.specs.inner.LetterSource.{letters_of, parcels_from, parcels_of}
 
 abbrev pub parcel : ℕ → Option Letter → Parcel
 parcel number letter = record { number = number; letter = letter }

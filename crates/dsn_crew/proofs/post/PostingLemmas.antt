@@ -5,7 +5,8 @@ use Rattle.std.proofs.lemmas.Option.{none-some}
 use mathlib.Core.List.{IsPrefix}
 use Rattle.dsn_outcome.specs.Letter.{Letter}
 use Rattle.dsn_crew.specs.declared.lane.lane_gone.LaneGone.{LaneGone}
-use Rattle.dsn_crew.specs.post.LetterSource.{is_marked, lane_lost}
+use Rattle.dsn_crew.specs.post.LetterSource.{is_marked}
+use Rattle.dsn_crew.specs.inner.LetterSource.{lane_lost}
 use Rattle.dsn_crew.specs.declared.post.letters_end.LettersEnd.{LettersEnd}
 use Rattle.dsn_crew.specs.declared.post.letters_end.LettersEnd.TheVariants.{Marked, Gone}
 

@@ -1,5 +1,5 @@
 -- Agents: what contracts see of an agent and its halves, and what a request of it comes to.
-use Rattle.std.specs.Prelude.{◌≡◌, ◌≢◌, ℕ, ◌+◌, ◌<◌, ◌≤◌, Bool, true, false, List, [], ◌∷◌, ◌++◌, All, length, Option, Some, None, Result, Ok, Err}
+use Rattle.std.specs.Prelude.{◌≡◌, ◌≢◌, ℕ, ◌+◌, ◌<◌, ◌≤◌, Bool, true, false, List, [], ◌∷◌, ◌++◌, All, length, Some, None, Result, Ok, Err}
 use Rattle.dsn_text.specs.FaultCode.{lane_lost_code, used_up_code}
 use Rattle.dsn_crew.specs.lane.Halves.{Half, Out}
 use Rattle.dsn_outcome.specs.Agents.{from_agent}
@@ -9,13 +9,8 @@ use Rattle.dsn_outcome.specs.Request.{Request, Body, Bye}
 use Rattle.dsn_outcome.specs.declared.answer.Answer.{Answer}
 use Rattle.dsn_outcome.specs.declared.answer.Replied.{Replied}
 use Rattle.dsn_outcome.specs.declared.answer.Reply.TheVariants.{Gone}
-use Rattle.dsn_outcome.specs.declared.body.Body
 use Rattle.dsn_crew.specs.declared.agents.ask_fault.AskFault.{AskFault}
 use Rattle.dsn_crew.specs.declared.agents.ask_fault.AskFault.TheVariants.{Limit, Lost}
-use Rattle.dsn_crew.specs.declared.agents.unanswered.Unanswered.{Unanswered}
-use Rattle.dsn_crew.specs.declared.agents.unheard.Unheard.{Unheard}
-use Rattle.dsn_crew.specs.declared.agents.unheard.Cause.{Cause}
-use Rattle.dsn_crew.specs.declared.agents.unheard.Cause.TheVariants.{Unsent, Sent, Answered}
 
 -- how many requests an agent may make at most
 abbrev pub most_requests : ℕ
@@ -63,18 +58,6 @@ after_reply halves body replied =
       requests = sent_more halves.requests (request_with halves body);
       answers = taken_more halves.answers (answer_with halves replied);
     }
-
--- a body that has no answer is not sent, and handed back; or it is sent
-abbrev pub IsUnanswered : LaneHalves → Body → LaneHalves → Option Body.Body → Type 0
-IsUnanswered old body new (Some back) = (body_of back ≡ body) × (new ≡ old)
-IsUnanswered old body new None = new ≡ with_sent old body
-
--- what a body that is sent comes to: the answer to it, or none
-abbrev pub IsExchange : LaneHalves → Body → LaneHalves → Result Answer Unanswered → Type 0
-IsExchange old body new (Ok answer) =
-    (answer ≡ answer_with old (replied_in answer))
-    × (new ≡ after_reply old body (replied_in answer))
-IsExchange old body new (Err lost) = IsUnanswered old body new lost.body
 
 -- what both halves keep: the answer lane is the agent's own
 pub record AreHalves (halves : LaneHalves) : Type 0 where
@@ -134,26 +117,6 @@ IsGoodbye old (Ok finished) = (old.lost ≡ false) × (finished ≡ after_reply 
 IsGoodbye old (Err (Lost (Some back))) = body_of back ≡ Bye
 IsGoodbye old (Err (Lost None)) = old.lost ≡ false
 IsGoodbye old (Err (Limit back)) = ⊥
-
--- a goodbye that was not sent
-abbrev pub is_unsent : Cause → Bool
-is_unsent (Unsent gone) = true
-is_unsent (Sent gone) = false
-is_unsent Answered = false
-
-abbrev pub was_unsent : Unheard → Type 0
-was_unsent unheard = is_unsent unheard.cause ≡ true
-
--- what a goodbye that says why it was not heard comes to
-abbrev pub IsLeave : Agent → Result LaneHalves Unheard → Type 0
-IsLeave old (Ok finished) = (old.lost ≡ false) × (finished ≡ after_reply old.halves Bye (plain Gone))
-IsLeave old (Err unheard) = old.lost ≡ true → was_unsent unheard
-
--- the fault that a goodbye answers where it was not heard
-abbrev pub IsFaultOf : Unheard → AskFault → Type 0
-IsFaultOf unheard (Limit back) = ⊥
-IsFaultOf unheard (Lost (Some back)) = body_of back ≡ Bye
-IsFaultOf unheard (Lost None) = is_unsent unheard.cause ≡ false
 
 -- what the halves of an agent that said goodbye keep: what it sent ends with its only goodbye, what
 -- it was answered ends with Gone, and it has an answer to each request

@@ -1,21 +1,16 @@
 -- Ports: what a port gives, the connections that it tells, the sessions of the agent that serves
 -- them, and what the agent comes to.
-use Rattle.std.specs.Prelude.{◌≡◌, ◌≢◌, ℕ, ◌+◌, ◌<◌, ◌≤◌, ◌⊎◌, Bool, true, false, List, [], ◌∷◌, ◌++◌, All, length, filter, replicate, Option, Some, None, is_some, IfSome}
+use Rattle.std.specs.Prelude.{◌≡◌, ◌≢◌, ℕ, ◌+◌, ◌<◌, ◌⊎◌, Bool, true, false, List, [], ◌∷◌, ◌++◌, length, filter, replicate, Option, Some, None, is_some}
 use Rattle.std.specs.List.{AllZip, flat_map}
 use Rattle.dsn_device.specs.Failures.{most_failures}
 use Rattle.dsn_device.specs.declared.source.Source.{Ghosts as Source}
-use Rattle.dsn_text.specs.FaultCode.{connection_write_code, lane_lost_code, read_failed_code}
-use Rattle.dsn_outcome.specs.History.{plain}
-use Rattle.dsn_outcome.specs.Request.{Body, Bye}
-use Rattle.dsn_outcome.specs.declared.answer.Reply.TheVariants.{Gone}
+use Rattle.dsn_text.specs.FaultCode.{connection_write_code, read_failed_code}
+use Rattle.dsn_outcome.specs.Request.{Body}
 use Rattle.dsn_frame.specs.declared.bodies.spoken.Spoken.{Spoken}
 use Rattle.dsn_frame.specs.Session.{Connection, IsSession}
-use Rattle.dsn_crew.specs.agents.Agent.{Agent, LaneHalves, after_reply}
-use Rattle.dsn_crew.specs.agents.Serve.{HasAsked}
 use Rattle.dsn_crew.specs.declared.agents.agent_line.AgentLine.{AgentLine}
 use Rattle.dsn_crew.specs.declared.agents.next_connection.Next.{Next}
 use Rattle.dsn_crew.specs.declared.agents.next_connection.Next.TheVariants as next
-use Rattle.dsn_crew.specs.agents.PortEnd.{PortEnd}
 
 -- how many connections an agent serves at most
 abbrev pub most_connections : ℕ
@@ -153,40 +148,3 @@ AreOverPort None sessions lost port_failed = Unit {0}
 AreOverPort (Some conns) sessions lost port_failed = AreOverConns conns sessions lost port_failed
 
 -- ---- an agent that serves a port
-
--- what serving the connections of a port comes to, up to the goodbye: what the port gave, and these
--- sessions, one over each connection; what they asked, and the replies among their answers, are
--- what the agent asked and got, in order; its line counts them. Where it lost no lane, none of them
--- ended so
-pub record HasServed (conns : Option (List Conn)) (may_give : List Given → Type 0)
-    (old new : Agent)
-    (line : AgentLine) : Type 0 where
-  pub sessions : List Session
-  pub lost : Bool
-  pub follow : AreSessions old.limit (length old.halves.requests.sent) sessions
-  pub over : AreOverPort conns sessions lost line.port_failed
-  pub gave : HasGiven may_give line lost
-  pub asked : HasAsked old new (bodies_of sessions) (answers_of sessions) lost
-  pub heard : lost ≡ false → All (λ (session : Session). session.end ≢ Some lane_lost_code) sessions
-  pub few : length sessions ≤ most_connections
-  pub requests : line.requests ≡ length new.halves.requests.sent
-  pub connections : line.connections ≡ length sessions
-  pub faults : line.faults ≡ faults_of sessions
-
--- the same, and nothing beside was asked of the port: whatever it may give now it may have given
--- after all that is known
-pub record HasServedOnly (conns : Option (List Conn)) (may_give may_now : List Given → Type 0)
-    (old new : Agent)
-    (line : AgentLine) : Type 0 where
-  pub served : HasServed conns may_give old new line
-  pub only : (rest : List Given)
-      → may_now rest → may_give (all_given line.connections served.gave.last ++ rest)
-
--- what serving a port comes to: its connections were served, and then the agent said goodbye and
--- was heard; else a lane was lost, and the line says what was served before
-pub record IsPortServed (conns : Option (List Conn)) (may_give : List Given → Type 0)
-    (agent : Agent) (end : PortEnd) : Type 0 where
-  pub last : Agent
-  pub served : HasServed conns may_give agent last end.line
-  pub goodbye : IfSome end.finished
-      (λ (finished : LaneHalves). (served.lost ≡ false) × (finished ≡ after_reply last.halves Bye (plain Gone)))

@@ -1,12 +1,11 @@
 -- Sessions of an agent: what became of one connection, of the agent that served it, and of the
 -- answers' frames.
-use Rattle.std.specs.Prelude.{◌≡◌, ◌≢◌, ℕ, suc, Bool, true, false, ◌||◌, ◌⊎◌, List, [], ◌∷◌, ◌++◌, All, length, Option, Some, None, Result, Ok, Err, IfOk, if◌then◌else◌}
+use Rattle.std.specs.Prelude.{◌≡◌, ◌≢◌, ℕ, suc, Bool, true, false, ◌||◌, ◌⊎◌, List, [], ◌∷◌, ◌++◌, All, length, Option, Some, None, Result, Ok, Err, IfOk}
 use Rattle.std.specs.List.{flat_map}
 use Rattle.dsn_device.specs.Counts.{Counts}
 use Rattle.dsn_device.specs.declared.drain.Drain.{Ghosts as Drain}
 use Rattle.dsn_device.specs.declared.source.Source.{Ghosts as Source}
 use Rattle.dsn_text.specs.FaultCode.{connection_write_code, lane_lost_code, out_of_turn_code, too_many_frames_code, used_up_code}
-use Rattle.dsn_outcome.specs.History.{replied_in}
 use Rattle.dsn_outcome.specs.Request.{Request, Body}
 use Rattle.dsn_outcome.specs.declared.answer.Answer.{Answer}
 use Rattle.dsn_outcome.specs.declared.answer.Replied.{Replied}
@@ -14,15 +13,12 @@ use Rattle.dsn_frame.specs.bodies.Spoken.{answer_bytes, answer_frames_from, repl
 use Rattle.dsn_frame.specs.declared.bodies.spoken.Spoken.{Spoken}
 use Rattle.dsn_frame.specs.declared.bodies.spoken.Spoken.TheVariants as spoken
 use Rattle.dsn_frame.specs.FrameFault.{frame_fault_code, source_failed}
-use Rattle.dsn_frame.specs.Session.{Connection, IsSession, Takes}
+use Rattle.dsn_frame.specs.Session.{Connection, IsSession}
 use Rattle.dsn_frame.specs.SentAnswers.{AnswersSent}
 use Rattle.dsn_crew.specs.agents.Agent.{Agent}
-use Rattle.dsn_crew.specs.declared.agents.ask_fault.AskFault.{AskFault}
-use Rattle.dsn_crew.specs.declared.agents.ask_fault.AskFault.TheVariants as asks
 use Rattle.dsn_crew.specs.declared.agents.serve_fault.ServeFault.{ServeFault}
 use Rattle.dsn_crew.specs.declared.agents.serve_fault.ServeFault.TheVariants.{Frame, WriteBack, Number, Frames, Lost}
 use Rattle.dsn_crew.specs.declared.agents.served.Served.{Served}
-use Rattle.dsn_crew.specs.declared.agents.turn.Turn.{Turn}
 
 -- ---- how a session ends
 
@@ -144,30 +140,3 @@ pub record IsServed {S : Type 0} (source : Source S) (drain : Drain S) (old new 
   pub counts : Counts source.failures drain.flushes source.steady (is_stream_failed result) before after
 
 -- ---- of private parts: one frame of a session
-
--- what a frame is answered whose body was asked: none where the collector is gone
-abbrev pub asked_turn : Result Answer AskFault → Option Turn
-asked_turn (Ok answer) = Some (record { answer = spoken.Reply (replied_in answer); over = false })
-asked_turn (Err (asks.Limit body)) = Some (record { answer = spoken.Refused used_up_code; over = false })
-asked_turn (Err (asks.Lost back)) = None
-
--- the answers that one frame has: none where the collector is gone
-abbrev pub answer_in : Option Turn → List Spoken
-answer_in None = []
-answer_in (Some turn) = turn.answer ∷ []
-
--- the number with which one frame ends the session, if it does
-abbrev pub turn_end : Option Turn → Option ℕ
-turn_end None = Some lane_lost_code
-turn_end (Some turn) = if turn.over then Some out_of_turn_code else None
-
-abbrev pub has_lost : Option Turn → Bool
-has_lost None = true
-has_lost (Some turn) = false
-
--- what a frame at its place came to, and what it left of the agent
-pub record IsTurn (old new : Agent) (place : ℕ) (bytes : List ℕ) (turn : Option Turn) : Type 0 where
-  pub bodies : List Body
-  pub takes : Takes Connection old.limit (length old.halves.requests.sent) place bytes bodies
-      (answer_in turn) (turn_end turn)
-  pub asked : HasAsked old new bodies (answer_in turn) (has_lost turn)

@@ -1,5 +1,5 @@
 -- Desks: what contracts see of the collector, and what each request that it takes comes to.
-use Rattle.std.specs.Prelude.{◌≡◌, ◌≢◌, ◌⊎◌, ℕ, ◌+◌, ◌^◌, ◌<◌, ◌≤◌, Bool, true, false, ◌==◌, ◌&&◌, ◌||◌, not, List, [], ◌∷◌, ◌++◌, length, map, take, slice_set, All, Result, Ok, Err, is_err, Option, Some, None, is_some}
+use Rattle.std.specs.Prelude.{◌≡◌, ◌≢◌, ◌⊎◌, ℕ, ◌+◌, ◌^◌, ◌<◌, ◌≤◌, Bool, true, false, ◌==◌, ◌&&◌, ◌||◌, not, List, [], ◌∷◌, ◌++◌, length, map, take, slice_set, All, Result, Ok, Err, is_err, Option, Some, None}
 use mathlib.Core.List.{IsPrefix}
 use Rattle.std.specs.List.{slice_index_or}
 use Rattle.dsn_book.specs.Keeper.{MayCrash}
@@ -9,17 +9,16 @@ use Rattle.dsn_book.specs.Step.{letters_in}
 use Rattle.dsn_crew.specs.lane.Halves.{Half, Out}
 use Rattle.dsn_crew.specs.lane.Lane.{IsNumbered, most_agents}
 use Rattle.dsn_outcome.specs.Agents.{from_agent}
-use Rattle.dsn_outcome.specs.History.{Limits, Exchange, answer_of, answers_to, exchange_of, history_after, letter_of, sealed_letters}
+use Rattle.dsn_outcome.specs.History.{Exchange, answer_of, answers_to, exchange_of, history_after, letter_of, sealed_letters}
 use Rattle.dsn_outcome.specs.Letter.{Letter}
 use Rattle.dsn_outcome.specs.Request.{Request}
 use Rattle.dsn_outcome.specs.declared.answer.Answer.{Answer}
 use Rattle.dsn_crew.specs.post.Sink.{Handed}
 use Rattle.dsn_crew.specs.agents.Place.{Place, place_at}
-use Rattle.dsn_crew.specs.desk.Intake.{Intake, goodbyes, most_taken, most_together, taken_request}
+use Rattle.dsn_crew.specs.desk.Intake.{goodbyes, most_together, taken_request}
 use Rattle.dsn_crew.specs.declared.desk.desk_fault.DeskFault.{DeskFault}
 use Rattle.dsn_crew.specs.declared.desk.desk_fault.DeskFault.TheVariants.{Requests, Answers, Letters}
-use Rattle.dsn_crew.specs.declared.desk.stop_cause.StopCause.{StopCause}
-use Rattle.dsn_crew.specs.declared.desk.stop_cause.StopCause.TheVariants.{Gone, Refused, Full, Unkept}
+use Rattle.dsn_crew.specs.KeeperHistory.{BeginsWith, StandsOrRefused, AreNextOf}
 
 -- the collector: what carried requests out when it began, and what does so now; the half by which it
 -- takes requests, with those that it has carried out, and the requests behind these that it took
@@ -45,50 +44,6 @@ all_gone desk =
 abbrev pub AreLeft : {B : Type 0} → Desk B → List Request → Type 0
 AreLeft desk requests = goodbyes requests + desk.missed ≢ length desk.answers
 
--- a collector by its parts, with nothing behind what it carried out
-abbrev pub desk_of :
-    {B : Type 0} → B → B → Out Request → List (Half Answer) → ℕ → Bool → Desk B
-desk_of start book requests answers missed failed = record {
-  start = start;
-  book = book;
-  requests = requests;
-  behind = [];
-  answers = answers;
-  missed = missed;
-  failed = failed;
-  unkept = None;
-}
-
--- a history that a run may begin with: nothing in it is answered to an agent of the run
-abbrev pub IsEarlier : List Exchange → Type 0
-IsEarlier before = (agent : ℕ) → agent < most_agents → answers_to agent before ≡ []
-
--- what carries requests out stands for such a history, and awaits nothing
-abbrev pub BeginsWith : {B : Type 0} → Keeper B → B → List Exchange → Type 0
-BeginsWith keeper start before = keeper.has start before [] × IsEarlier before
-
--- why requests were not kept, where that is why a collector has failed
-abbrev pub unkept_of : Option StopCause → Option NotKept
-unkept_of None = None
-unkept_of (Some (Gone gone)) = None
-unkept_of (Some (Refused refused)) = None
-unkept_of (Some Full) = None
-unkept_of (Some (Unkept why)) = Some why
-
--- what is seen of a collector by its parts, with why it has failed
-abbrev pub desk_seen :
-    {B : Type 0} → B → B → Option StopCause → Intake → List (Half Answer) → ℕ → Desk B
-desk_seen start book stop intake answers missed = record {
-  start = start;
-  book = book;
-  requests = intake.requests;
-  behind = intake.behind;
-  answers = answers;
-  missed = missed;
-  failed = is_some stop;
-  unkept = unkept_of stop;
-}
-
 -- what the requests come to that it carried out, after the history that it began with; and so with
 -- these requests more
 abbrev pub history : {B : Type 0} → Keeper B → List Exchange → Desk B → List Exchange
@@ -109,15 +64,6 @@ AreAnswered halves exchanges =
     (a : ℕ) (d : Half Answer) → a < length halves
     → (slice_index_or halves a d).sent ≡ answers_to a exchanges
 
--- a keeper stands for a history, and has kept these requests behind it. Where they were not kept, it
--- stood for the history until it refused them, and is what it says of that; one at least was refused
-abbrev pub StandsOrRefused :
-    {B : Type 0} → Keeper B → Option NotKept → List Request → List Exchange → B → Type 0
-StandsOrRefused keeper None behind exchanges book = keeper.has book exchanges behind
-StandsOrRefused {B} keeper (Some why) behind exchanges book =
-    (was : B) × keeper.has was exchanges [] × keeper.refuses was behind why book
-    × (1 ≤ length behind)
-
 -- A collector that began with a history. Its book stands for what it carried out, and has kept those
 -- behind, or stood for that until it refused these. What it sent each agent are the first of the
 -- answers which that history gives the agent, and all of them unless it failed. At each moment since
@@ -131,25 +77,6 @@ pub record StandsAfter {B : Type 0} (keeper : Keeper B) (before : List Exchange)
   pub answered : desk.failed ≡ false → AreAnswered desk.answers (history keeper before desk)
   pub crash : MayCrash keeper desk.start desk.book (keeper.limits desk.start) before
       (desk.requests.taken ++ desk.behind)
-
--- An answer that may be sent after a history: it is that of the last request which was carried out.
--- What carries requests out has kept all behind it that were taken, so that a crash leaves them
-pub record MayBeSent {B : Type 0} (keeper : Keeper B) (limits : Limits) (before : List Exchange)
-    (intake : Intake) (book : B) (answer : Answer) : Type 0 where
-  pub earlier : List Request
-  pub last : Request
-  pub taken_are : intake.requests.taken ≡ earlier ++ last ∷ []
-  pub has : keeper.has book (history_after limits before intake.requests.taken) intake.behind
-  pub answers : answer
-      ≡ answer_of (history_after limits before earlier)
-      (exchange_of limits (history_after limits before earlier) last)
-
--- these requests are the next ones of so many agents, behind those that were carried out
-pub record AreNextOf (agents : ℕ) (taken requests : List Request) : Type 0 where
-  pub from : All (λ (request : Request). request.agent < agents) requests
-  pub numbered : (agent : ℕ)
-      → IsNumbered (λ (request : Request). request.number)
-      (from_agent (λ (request : Request). request.agent) agent (taken ++ requests))
 
 -- What every collector keeps. Each answer lane is of its agent, and the agents are numbered from 0,
 -- up to `most_agents`. What it took, those behind too, is of these agents, and numbered from 0 agent
@@ -182,27 +109,6 @@ pub record IsDesk {B : Type 0} (keeper : Keeper B) (desk : Desk B) : Type 0 wher
   pub stands : (before : List Exchange) → BeginsWith keeper desk.start before
       → StandsAfter keeper before desk
 
--- a collector whose keeper refused those behind for this reason
-pub record HasRefused {B : Type 0} (keeper : Keeper B) (desk : Desk B)
-    (why : NotKept) : Type 0 where
-  pub unkept : desk.unkept ≡ Some why
-  pub was : B
-  pub refuses : keeper.refuses was desk.behind why desk.book
-  pub some : 1 ≤ length desk.behind
-
--- why it has failed: a lane reported that its other side is gone; its sink handed a letter back; it
--- carried out all that it may; or its keeper refused requests
-abbrev pub IsStopped : {B : Type 0} → Keeper B → Desk B → StopCause → Type 0
-IsStopped keeper desk (Gone gone) = desk.unkept ≡ None
-IsStopped keeper desk (Refused refused) = desk.unkept ≡ None
-IsStopped keeper desk Full =
-    (desk.unkept ≡ None) × (length desk.requests.taken ≡ most_taken)
-IsStopped keeper desk (Unkept why) = HasRefused keeper desk why
-
--- what holds nothing yet, and has room for a half of each agent
-abbrev pub HasRoom : List (Half Answer) → List (Half Request) → ℕ → Type 0
-HasRoom answers held capacity = (held ≡ []) × (length answers ≤ capacity)
-
 -- an answer lane's half once an answer was sent, or was lost
 abbrev pub answered_more : Bool → Half Answer → Answer → Half Answer
 answered_more true half answer =
@@ -219,10 +125,6 @@ IsAnswerSent sent old answer new =
 -- a collector that failed, or not, with nothing else changed
 abbrev pub with_failed : {B : Type 0} → Desk B → Bool → Desk B
 with_failed desk failed = record desk { failed = failed }
-
--- one that has kept these requests behind what it carried out, over what its keeper is now
-abbrev pub with_kept : {B : Type 0} → Desk B → List Request → B → Desk B
-with_kept desk behind book = record desk { book = book; behind = behind }
 
 -- and one whose keeper refused them, and is now this one
 abbrev pub with_unkept : {B : Type 0} → Desk B → List Request → NotKept → B → Desk B

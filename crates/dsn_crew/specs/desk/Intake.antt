@@ -1,13 +1,7 @@
 -- Intakes: what the collector took from the request lane.
-use Rattle.std.specs.Prelude.{ℕ, Bool, true, false, List, ◌++◌, ◌∷◌, [], length, filter, take, drop}
+use Rattle.std.specs.Prelude.{ℕ, Bool, true, false, List, ◌++◌, ◌∷◌, [], length, filter}
 use Rattle.dsn_crew.specs.lane.Halves.{Out}
 use Rattle.dsn_outcome.specs.Request.{Request, Body, Append, Flush, Discard, Forget, Bye}
-
--- the half by which requests are taken, with those that were handed on, and those behind, which were
--- taken and not handed on so far
-pub record Intake : Type 0 where
-  pub requests : Out Request
-  pub behind : List Request
 
 -- how many requests are taken together at most: one of each agent of the largest crew
 abbrev pub most_together : ℕ
@@ -27,14 +21,6 @@ is_goodbye Bye = true
 -- how many of these requests are goodbyes
 abbrev pub goodbyes : List Request → ℕ
 goodbyes requests = length (filter (λ (request : Request). is_goodbye request.body) requests)
-
--- what is seen of a half of which so many requests were handed on
-abbrev pub intake_of : ℕ → Out Request → Intake
-intake_of count out = record {
-  requests =
-      record { lane = out.lane; first = out.first; past = out.past; taken = take count out.taken };
-  behind = drop count out.taken;
-}
 
 abbrev pub taken_request : Out Request → Request → Out Request
 taken_request out request =

@@ -1,5 +1,5 @@
 -- Letter sinks: what contracts see of the sending half of the lane of letters.
-use Rattle.std.specs.Prelude.{◌≡◌, ℕ, Bool, List, [], ◌∷◌, ◌++◌}
+use Rattle.std.specs.Prelude.{◌≡◌, ℕ, List, [], ◌∷◌, ◌++◌}
 use Rattle.dsn_crew.specs.lane.Halves.{Identity}
 use Rattle.dsn_outcome.specs.Letter.{Letter}
 use Rattle.dsn_crew.specs.post.Parcel.{Parcel}
@@ -16,9 +16,3 @@ pub record LetterSink : Type 0 where
 -- it takes a letter
 abbrev pub TakesLetter : LetterSink → Letter → LetterSink → Type 0
 TakesLetter old letter new = new ≡ record { lane = old.lane; letters = old.letters ++ letter ∷ [] }
-
--- the sending half at its end, after the end mark where that was sent
-pub record FinishedSink : Type 0 where
-  pub lane : Identity Parcel
-  pub letters : List Letter
-  pub marked : Bool

@@ -1,15 +1,14 @@
 -- Posting: what the poster's thread comes to, and the outbox at its end.
-use Rattle.std.specs.Prelude.{◌≡◌, ◌↔◌, ℕ, ◌+◌, ◌≤◌, Bool, true, List, [], ◌++◌, length, None}
+use Rattle.std.specs.Prelude.{◌≡◌, ℕ, ◌+◌, ◌≤◌, List, [], ◌++◌, length}
 use Rattle.std.specs.Io.KnownBytes.{Appends}
 use mathlib.Core.List.{IsPrefix}
 use Rattle.dsn_device.specs.UntilFailure.{TakesNoTime}
 use Rattle.dsn_device.specs.declared.drain.Drain.{Ghosts as Drain}
 use Rattle.dsn_crew.specs.lane.Halves.{Identity}
 use Rattle.dsn_outcome.specs.Letter.{Letter}
-use Rattle.dsn_report.specs.Outgoing.{Delivered, IsOutbox, Outgoing}
+use Rattle.dsn_report.specs.Outgoing.{Delivered, Outgoing}
 use Rattle.dsn_crew.specs.post.LetterSource.{is_marked}
 use Rattle.dsn_crew.specs.post.Parcel.{Parcel}
-use Rattle.dsn_crew.specs.declared.post.posted.Posted.{Posted}
 use Rattle.dsn_crew.specs.declared.post.posting.Posting.{Posting}
 
 -- what the promise of a poster's thread remembers: the poster as it was, and the lane of letters
@@ -37,20 +36,3 @@ pub record IsUntouched {W : Type 0} (drain : Drain W) (start end : W) : Type 0 w
   pub flushes : drain.flushes end ≡ drain.flushes start
   pub marked : drain.marked end ≡ drain.marked start
   pub no_moment : TakesNoTime drain start end
-
--- an outbox at its end, of letters that were sent in this order over a lane in which at most so
--- many wait: the first of them came to the poster, all but as many as wait; those are posted, or
--- unsent, and the outbox is theirs, after the letters that were posted before. The lane was not lost
--- exactly where the end mark came and all letters before it, and so it is said
-pub record IsPosted {W : Type 0} (drain : Drain W) (begun : Outgoing W) (waiting : ℕ)
-    (sent : List Letter) (end : Posted W) : Type 0 where
-  pub letters : List Letter
-  pub came : IsPrefix letters sent
-  pub few : length sent ≤ length letters + waiting
-  pub marked : Bool
-  pub whole : (end.all ≡ true) ↔ ((marked ≡ true) × (letters ≡ sent))
-  pub unlost : (end.all ≡ true) ↔ (end.lost ≡ None)
-  pub count : end.posted + length end.unsent ≡ length letters
-  pub outbox : (host : List ℕ) (start : W) (first : List Letter)
-      → Delivered drain host start begun first
-      → IsOutbox drain host start end.outbox end.whole end.unsent (first ++ letters)

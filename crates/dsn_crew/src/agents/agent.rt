@@ -2,7 +2,8 @@
 ghost use Rattle.std.specs.Prelude.{◌≡◌, ◌≢◌, ◌≤◌, ◌+◌, false, [], IfOk};
 ghost use Rattle.dsn_outcome.specs.Body.{body_of};
 ghost use Rattle.dsn_outcome.specs.Request.{Bye};
-ghost use Rattle.dsn_crew.specs.agents.Agent.{IsAgent, IsAsk, IsFinished, IsGoodbye, IsLeave, most_requests};
+ghost use Rattle.dsn_crew.specs.agents.Agent.{IsAgent, IsAsk, IsFinished, IsGoodbye, most_requests};
+ghost use Rattle.dsn_crew.specs.inner.Agent.{IsLeave};
 
 use crate::agents::ask_fault::AskFault;
 use crate::agents::finished_agent::Finished;

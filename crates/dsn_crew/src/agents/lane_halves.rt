@@ -2,7 +2,8 @@
 ghost use Rattle.std.specs.Prelude.{◌≡◌, ◌<◌, ◌+◌, [], length};
 ghost use Rattle.dsn_crew.specs.lane.Lane.{most_sent};
 ghost use Rattle.dsn_outcome.specs.Body.{body_of};
-ghost use Rattle.dsn_crew.specs.agents.Agent.{AreHalves, IsExchange};
+ghost use Rattle.dsn_crew.specs.agents.Agent.{AreHalves};
+ghost use Rattle.dsn_crew.specs.inner.Agent.{IsExchange};
 
 use crate::agents::unanswered::Unanswered;
 use crate::lane::{LaneIn, LaneOut};

@@ -19,7 +19,7 @@ pub(crate) struct PortEnd {
 
 impl Model for PortEnd {
     ghost use Rattle.std.specs.Prelude.{◌≡◌, is_none, is_some};
-    ghost use Rattle.dsn_crew.specs.agents.PortEnd.{PortEnd};
+    ghost use Rattle.dsn_crew.specs.inner.PortEnd.{PortEnd};
 
     ghost Value = { PortEnd };
 

@@ -1,7 +1,7 @@
 //! An agent's service of its port, from the first connection to the goodbye.
 ghost use Rattle.std.specs.Prelude.{◌≡◌, length};
 ghost use Rattle.dsn_crew.specs.agents.Agent.{IsAgent};
-ghost use Rattle.dsn_crew.specs.agents.Port.{HasServedOnly, IsPortServed};
+ghost use Rattle.dsn_crew.specs.inner.Agent.{HasServedOnly, IsPortServed};
 ghost use Rattle.dsn_crew.specs.agents.Serve;
 
 use crate::agents::agent::Agent;

@@ -5,7 +5,8 @@ ghost use Rattle.dsn_outcome.specs.Request.{Bye};
 ghost use Rattle.dsn_frame.specs.bodies.Request.{Encodes};
 ghost use Rattle.dsn_frame.specs.bodies.Spoken.{answer_bytes, told_to};
 ghost use Rattle.dsn_crew.specs.agents.Agent.{IsAgent};
-ghost use Rattle.dsn_crew.specs.agents.Serve.{IsServed, IsTurn};
+ghost use Rattle.dsn_crew.specs.agents.Serve.{IsServed};
+ghost use Rattle.dsn_crew.specs.inner.Agent.{IsTurn};
 
 use crate::agents::agent::Agent;
 use crate::agents::gate::Gate;

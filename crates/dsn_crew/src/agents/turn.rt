@@ -1,6 +1,6 @@
 //! What one frame of a connection is answered.
 ghost use Rattle.std.specs.Prelude.{◌≡◌};
-ghost use Rattle.dsn_crew.specs.agents.Serve.{asked_turn};
+ghost use Rattle.dsn_crew.specs.inner.Agent.{asked_turn};
 
 use crate::agents::ask_fault::AskFault;
 use dsn_frame::Spoken;

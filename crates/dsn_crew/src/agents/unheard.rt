@@ -4,7 +4,8 @@ ghost use Rattle.dsn_crew.specs.lane.Lane.{most_sent};
 ghost use Rattle.dsn_outcome.specs.History.{plain};
 ghost use Rattle.dsn_outcome.specs.declared.answer.Reply.TheVariants.{Gone};
 ghost use Rattle.dsn_outcome.specs.Request.{Bye};
-ghost use Rattle.dsn_crew.specs.agents.Agent.{IsFaultOf, IsFinished, Stays, after_reply, was_unsent};
+ghost use Rattle.dsn_crew.specs.inner.Agent.{IsFaultOf, was_unsent};
+ghost use Rattle.dsn_crew.specs.agents.Agent.{IsFinished, Stays, after_reply};
 
 use crate::agents::ask_fault::AskFault;
 use crate::agents::finished_agent::Finished;

@@ -6,7 +6,8 @@ ghost use mathlib.Core.List.{IsPrefix};
 ghost use Rattle.dsn_outcome.specs.History.{Exchange};
 ghost use Rattle.dsn_crew.specs.agents.Agent.{IsFinished};
 ghost use Rattle.dsn_crew.specs.desk.Close.{AreCrew, AreOf, IsHeard};
-ghost use Rattle.dsn_crew.specs.desk.Desk.{BeginsWith, all_gone, history};
+ghost use Rattle.dsn_crew.specs.KeeperHistory.{BeginsWith};
+ghost use Rattle.dsn_crew.specs.desk.Desk.{all_gone, history};
 
 use crate::agents::Finished;
 use crate::desk::answer_lane::AnswerLane;

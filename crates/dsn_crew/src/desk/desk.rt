@@ -6,7 +6,9 @@ ghost use Rattle.dsn_crew.specs.lane.Lane.{most_agents, most_sent};
 ghost use Rattle.dsn_outcome.specs.History.{Exchange};
 ghost use Rattle.dsn_outcome.specs.declared.answer.Answer.{Answer};
 ghost use Rattle.dsn_crew.specs.desk.Open.{AreLines};
-ghost use Rattle.dsn_crew.specs.desk.Desk.{BeginsWith, HasRoom, HasStopped, IsAnswerSent, IsDesk, IsRequestTaken, IsRun, IsStopped, MayBeSent, all_gone, desk_of, missing, places_of, with_failed, with_kept};
+ghost use Rattle.dsn_crew.specs.KeeperHistory.{BeginsWith};
+ghost use Rattle.dsn_crew.specs.inner.Desk.{HasRoom, IsStopped, MayBeSent, desk_of, with_kept};
+ghost use Rattle.dsn_crew.specs.desk.Desk.{HasStopped, IsAnswerSent, IsDesk, IsRequestTaken, IsRun, all_gone, missing, places_of, with_failed};
 ghost use Rattle.dsn_crew.specs.desk.Intake.{goodbyes, most_taken};
 
 use crate::desk::answer_lane::AnswerLane;
@@ -42,7 +44,8 @@ pub struct Desk<B: Keeper = Book> {
 
 impl<B: Keeper> Model for Desk<B> {
     ghost use Rattle.std.specs.Prelude.{◌≡◌, IfSome, vec_capacity};
-    ghost use Rattle.dsn_crew.specs.desk.Desk.{Desk, HasRoom, IsDesk, IsStopped, desk_seen};
+    ghost use Rattle.dsn_crew.specs.desk.Desk.{Desk, IsDesk};
+    ghost use Rattle.dsn_crew.specs.inner.Desk.{HasRoom, IsStopped, desk_seen};
     ghost use Rattle.dsn_crew.specs.desk.Intake.{goodbyes};
 
     ghost Value = { Desk B };

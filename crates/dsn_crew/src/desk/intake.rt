@@ -34,7 +34,8 @@ pub(crate) struct Intake {
 impl Model for Intake {
     ghost use Rattle.std.specs.Prelude.{◌≡◌, ◌≤◌, drop, length};
     ghost use Rattle.std.specs.VecDeque.{deque_capacity};
-    ghost use Rattle.dsn_crew.specs.desk.Intake.{Intake, intake_of, most_together};
+    ghost use Rattle.dsn_crew.specs.inner.Desk.{Intake, intake_of};
+    ghost use Rattle.dsn_crew.specs.desk.Intake.{most_together};
 
     ghost Value = { Intake };
 

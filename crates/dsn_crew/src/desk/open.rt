@@ -2,7 +2,7 @@
 ghost use Rattle.std.specs.Prelude.{◌≡◌, ◌^◌, ◌<◌, ◌≤◌, ◌↔◌, ◌⊎◌, List, [], IfOk, IfErr};
 ghost use Rattle.dsn_crew.specs.lane.Lane.{most_agents};
 ghost use Rattle.dsn_outcome.specs.History.{Exchange};
-ghost use Rattle.dsn_crew.specs.desk.Desk.{BeginsWith};
+ghost use Rattle.dsn_crew.specs.KeeperHistory.{BeginsWith};
 ghost use Rattle.dsn_crew.specs.desk.Open.{IsLine, IsOpened, IsOpenedEmpty, opened_agent};
 
 use crate::agents::Agent;

@@ -1,6 +1,6 @@
 //! Why a collector has failed, as it keeps it.
 ghost use Rattle.std.specs.Prelude.{◌≡◌};
-ghost use Rattle.dsn_crew.specs.Breach.{stop_cause};
+ghost use Rattle.dsn_crew.specs.inner.Breach.{stop_cause};
 
 use crate::crew_cause::CrewCause;
 use crate::desk::returned_letter::Refused;

@@ -6,9 +6,10 @@ ghost use Rattle.crossbeam_channel.specs.Claims.{view, IsSeatAt};
 ghost use Rattle.crossbeam_channel.specs.Ends.{sends_on};
 ghost use Rattle.dsn_outcome.specs.Agents.{from_agent};
 ghost use Rattle.dsn_crew.specs.declared.lane.lane_knowledge.LaneKnowledge.TheVariants.{Sends, Takes};
-ghost use Rattle.dsn_crew.specs.lane.Halves.{IsAccepted, capacity_of, lane_at, lane_of, sending_of, taking};
+ghost use Rattle.dsn_crew.specs.lane.Halves.{IsAccepted};
+ghost use Rattle.dsn_crew.specs.inner.Halves.{capacity_of, lane_at, lane_of, sending_of, taking};
 ghost use Rattle.dsn_crew.specs.lane.Lane.{most_agents};
-ghost use Rattle.dsn_crew.specs.lane.Step.{Settles, after_join, known_after};
+ghost use Rattle.dsn_crew.specs.inner.Step.{Settles, after_join, known_after};
 
 use crate::lane::lane_in::LaneIn;
 use crate::lane::lane_knowledge::LaneKnowledge;

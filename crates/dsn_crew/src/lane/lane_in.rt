@@ -4,9 +4,9 @@ ghost use Rattle.crossbeam_channel.specs.Claims.{view, IsSeatAt};
 ghost use Rattle.crossbeam_channel.specs.Ends.{sends_on, ruled_capacity};
 ghost use Rattle.dsn_outcome.specs.Agents.{from_agent};
 ghost use Rattle.dsn_crew.specs.declared.lane.lane_knowledge.LaneKnowledge.TheVariants.{Takes};
-ghost use Rattle.dsn_crew.specs.lane.Halves.{lane_at, taking};
+ghost use Rattle.dsn_crew.specs.inner.Halves.{lane_at, taking};
 ghost use Rattle.dsn_crew.specs.lane.Lane.{IsNumbered, most_sent};
-ghost use Rattle.dsn_crew.specs.lane.Step.{after_split};
+ghost use Rattle.dsn_crew.specs.inner.Step.{after_split};
 
 use crate::lane::lane_gone::LaneGone;
 use crate::lane::lane_knowledge::LaneKnowledge;
@@ -35,7 +35,8 @@ impl<T: Carried> Model for LaneIn<T> {
     ghost use Rattle.crossbeam_channel.specs.Claims.{IsSeatAt};
     ghost use Rattle.crossbeam_channel.specs.Ends.{sends_on, ruled_capacity};
     ghost use Rattle.dsn_crew.specs.declared.lane.lane_knowledge.LaneKnowledge.TheVariants.{Sends};
-    ghost use Rattle.dsn_crew.specs.lane.Halves.{Half, IsSending, half_of, sending};
+    ghost use Rattle.dsn_crew.specs.lane.Halves.{Half};
+    ghost use Rattle.dsn_crew.specs.inner.Halves.{IsSending, half_of, sending};
 
     ghost Value = { Half T };
 

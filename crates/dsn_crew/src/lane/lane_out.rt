@@ -4,7 +4,7 @@ ghost use Rattle.crossbeam_channel.specs.Claims.{view, IsSeatAt};
 ghost use Rattle.crossbeam_channel.specs.Ends.{receives_on, ruled_capacity};
 ghost use Rattle.dsn_outcome.specs.Agents.{from_agent};
 ghost use Rattle.dsn_crew.specs.declared.lane.lane_knowledge.LaneKnowledge.TheVariants.{Takes};
-ghost use Rattle.dsn_crew.specs.lane.Halves.{IsReceiving, out_of, taking};
+ghost use Rattle.dsn_crew.specs.inner.Halves.{IsReceiving, out_of, taking};
 ghost use Rattle.dsn_crew.specs.lane.Lane.{IsNumbered};
 
 use crate::lane::lane_end::LaneEnd;
@@ -35,7 +35,8 @@ impl<T: Carried> Model for LaneOut<T> {
     ghost use Rattle.crossbeam_channel.specs.Claims.{IsSeatAt};
     ghost use Rattle.crossbeam_channel.specs.Ends.{receives_on, ruled_capacity};
     ghost use Rattle.dsn_crew.specs.declared.lane.lane_knowledge.LaneKnowledge.TheVariants.{Takes};
-    ghost use Rattle.dsn_crew.specs.lane.Halves.{Out, IsReceiving, out_of, taking};
+    ghost use Rattle.dsn_crew.specs.lane.Halves.{Out};
+    ghost use Rattle.dsn_crew.specs.inner.Halves.{IsReceiving, out_of, taking};
 
     ghost Value = { Out T };
 

@@ -22,7 +22,7 @@ impl<T: Carried> Protocol<T, LaneKnowledge<T>> for LaneRule {
 pub struct CountRoom;
 
 impl<T> Split<LaneKnowledge<T>> for CountRoom {
-    ghost use Rattle.dsn_crew.specs.lane.Step.{after_room};
+    ghost use Rattle.dsn_crew.specs.inner.Step.{after_room};
     ghost use Rattle.dsn_crew.specs.declared.lane.lane_knowledge.LaneKnowledge.TheVariants.{Spent};
 
     ghost left = { after_room };
@@ -34,7 +34,7 @@ impl<T> Split<LaneKnowledge<T>> for CountRoom {
 pub struct SplitOff;
 
 impl<T> Split<LaneKnowledge<T>> for SplitOff {
-    ghost use Rattle.dsn_crew.specs.lane.Step.{after_split, split_off};
+    ghost use Rattle.dsn_crew.specs.inner.Step.{after_split, split_off};
 
     ghost left = { after_split };
 
@@ -45,7 +45,7 @@ impl<T> Split<LaneKnowledge<T>> for SplitOff {
 pub struct TakeBack;
 
 impl<T> Join<LaneKnowledge<T>> for TakeBack {
-    ghost use Rattle.dsn_crew.specs.lane.Step.{after_join};
+    ghost use Rattle.dsn_crew.specs.inner.Step.{after_join};
     ghost use Rattle.dsn_crew.specs.declared.lane.lane_knowledge.LaneKnowledge.TheVariants.{Spent};
 
     ghost both = { after_join };
@@ -58,7 +58,7 @@ pub struct Adds;
 
 impl<T> Outcome<T, LaneKnowledge<T>> for Adds {
     ghost use Rattle.std.specs.Prelude.{◌≡◌};
-    ghost use Rattle.dsn_crew.specs.lane.Step.{after_send};
+    ghost use Rattle.dsn_crew.specs.inner.Step.{after_send};
 
     ghost then = { λ before item after. after ≡ after_send before item };
 }
@@ -74,7 +74,7 @@ pub struct Removes;
 
 impl<T: Carried> Outcome<T, LaneKnowledge<T>> for Removes {
     ghost use Rattle.std.specs.Prelude.{◌≡◌};
-    ghost use Rattle.dsn_crew.specs.lane.Step.{after_take, IsNext};
+    ghost use Rattle.dsn_crew.specs.inner.Step.{after_take, IsNext};
 
     ghost then = { λ before item after. (after ≡ after_take before item)
         × IsNext T.agent T.number before item };
@@ -90,7 +90,7 @@ impl<T> Lesson<T, LaneKnowledge<T>> for Removes {
 pub struct ReadsOff;
 
 impl<T: Carried> Lesson<T, LaneKnowledge<T>> for ReadsOff {
-    ghost use Rattle.dsn_crew.specs.lane.Step.{IsLaneSettled};
+    ghost use Rattle.dsn_crew.specs.inner.Step.{IsLaneSettled};
 
     ghost fact = { IsLaneSettled T.agent T.number };
 }

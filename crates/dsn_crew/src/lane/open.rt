@@ -4,7 +4,8 @@
 ghost use Rattle.std.specs.Prelude.{◌≡◌, ◌+◌, ◌≤◌, [], IfOk, vec_capacity};
 ghost use Rattle.crossbeam_channel.specs.Claims.{view, IsSeatAt};
 ghost use Rattle.crossbeam_channel.specs.Ends.{sends_on};
-ghost use Rattle.dsn_crew.specs.lane.Halves.{capacity_of, fresh_halves, passed_over};
+ghost use Rattle.dsn_crew.specs.inner.Halves.{capacity_of, passed_over};
+ghost use Rattle.dsn_crew.specs.lane.Halves.{fresh_halves};
 ghost use Rattle.dsn_crew.specs.lane.Lane.{most_agents, most_waiting};
 ghost use Rattle.dsn_crew.specs.lane.Step.{opened};
 

@@ -1,7 +1,7 @@
 //! The end of the lane of letters.
 ghost use Rattle.std.specs.Prelude.{◌≡◌, ◌≤◌, ◌+◌, ◌↔◌, true, [], length, vec_capacity};
 ghost use mathlib.Core.List.{IsPrefix};
-ghost use Rattle.dsn_crew.specs.post.Parcel.{letters_of, parcels_of};
+ghost use Rattle.dsn_crew.specs.inner.LetterSource.{letters_of, parcels_of};
 
 use crate::lane::{LaneIn, close_lane};
 use crate::post::letter_source::LetterSource;
@@ -20,8 +20,8 @@ pub(super) struct FinishedSink {
 
 impl Model for FinishedSink {
     ghost use Rattle.std.specs.Prelude.{◌≡◌, ◌≤◌, [], vec_capacity};
-    ghost use Rattle.dsn_crew.specs.post.LetterSink.{FinishedSink};
-    ghost use Rattle.dsn_crew.specs.post.Parcel.{letters_of, parcels_of};
+    ghost use Rattle.dsn_crew.specs.inner.LetterSource.{FinishedSink};
+    ghost use Rattle.dsn_crew.specs.inner.LetterSource.{letters_of, parcels_of};
 
     ghost Value = { FinishedSink };
 

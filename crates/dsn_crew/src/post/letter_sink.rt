@@ -24,7 +24,7 @@ impl Model for LetterSink {
     ghost use Rattle.std.specs.Prelude.{◌≡◌, ◌<◌, ◌≤◌, false, [], length, vec_capacity};
     ghost use Rattle.dsn_crew.specs.lane.Lane.{most_sent};
     ghost use Rattle.dsn_crew.specs.post.LetterSink.{LetterSink};
-    ghost use Rattle.dsn_crew.specs.post.Parcel.{letters_of, parcels_of};
+    ghost use Rattle.dsn_crew.specs.inner.LetterSource.{letters_of, parcels_of};
 
     ghost Value = { LetterSink };
 

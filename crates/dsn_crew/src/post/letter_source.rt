@@ -1,7 +1,7 @@
 //! The poster's side of the lane of letters.
 ghost use Rattle.std.specs.Prelude.{◌≡◌, ◌≤◌, OnOk, false, [], length};
 ghost use Rattle.dsn_crew.specs.lane.Lane.{most_sent};
-ghost use Rattle.dsn_crew.specs.post.LetterSource.{HasTaken};
+ghost use Rattle.dsn_crew.specs.inner.LetterSource.{HasTaken};
 
 use crate::lane::LaneOut;
 use crate::post::letters_end::LettersEnd;
@@ -20,8 +20,9 @@ pub struct LetterSource {
 
 impl Model for LetterSource {
     ghost use Rattle.std.specs.Prelude.{◌≡◌};
-    ghost use Rattle.dsn_crew.specs.post.LetterSource.{LetterSource, taken_parcels};
-    ghost use Rattle.dsn_crew.specs.post.Parcel.{letters_of};
+    ghost use Rattle.dsn_crew.specs.post.LetterSource.{LetterSource};
+    ghost use Rattle.dsn_crew.specs.inner.LetterSource.{taken_parcels};
+    ghost use Rattle.dsn_crew.specs.inner.LetterSource.{letters_of};
 
     ghost Value = { LetterSource };
 

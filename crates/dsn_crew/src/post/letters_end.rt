@@ -1,6 +1,6 @@
 //! Why no more letters come to a poster.
 ghost use Rattle.std.specs.Prelude.{◌≡◌};
-ghost use Rattle.dsn_crew.specs.post.LetterSource.{lane_lost};
+ghost use Rattle.dsn_crew.specs.inner.LetterSource.{lane_lost};
 
 use crate::lane::LaneGone;
 

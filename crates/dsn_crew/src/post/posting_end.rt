@@ -1,6 +1,6 @@
 //! The end of the poster's thread, of its lane, and of the outbox.
 ghost use Rattle.std.specs.Prelude.{◌≡◌, []};
-ghost use Rattle.dsn_crew.specs.post.Posting.{IsPosted};
+ghost use Rattle.dsn_crew.specs.inner.Posting.{IsPosted};
 
 use crate::post::letter_sink::LetterSink;
 use crate::post::posted::Posted;

@@ -1,7 +1,7 @@
 //! A crew over a keeper that refuses a request for want of room: the run ends with 45, and the keeper
 //! comes back. A crew over a ledger: what a crash leaves at each moment of it.
 ghost use Rattle.std.specs.Prelude.{◌^◌, ◌<◌, ◌≤◌, List};
-ghost use Rattle.dsn_crew.specs.desk.Desk.{BeginsWith};
+ghost use Rattle.dsn_crew.specs.KeeperHistory.{BeginsWith};
 ghost use Rattle.dsn_fakes.specs.MemoryDisk.{memory_moment};
 ghost use Rattle.dsn_outcome.specs.History.{Exchange};
 

@@ -7,7 +7,8 @@ use Rattle.std.proofs.lemmas.Bool.Decides.{nat_tests}
 use Rattle.std.proofs.lemmas.Bool.{and_parts, eqb-true, false≢true, leb-true, le-leb, ltb-true}
 use Rattle.std.proofs.lemmas.List.{length-append, nil_from_length}
 use Rattle.dsn_text.specs.Action.{action_byte, action_of_byte}
-use Rattle.dsn_outcome.specs.Draft.{Draft, IsLegalDraft, first_draft_fault, is_count}
+use Rattle.dsn_outcome.specs.Draft.{Draft, first_draft_fault, is_count}
+use Rattle.dsn_outcome.specs.inner.Draft.{IsLegalDraft}
 use Rattle.dsn_outcome.specs.declared.draft_fault.DraftFault.TheVariants as drafts
 use Rattle.dsn_frame.specs.bodies.BodyFault.{draft_refusal}
 use Rattle.dsn_frame.specs.declared.bodies.body_fault.BodyFault.TheVariants as faults
@@ -22,7 +23,8 @@ use Rattle.dsn_text.specs.Optional.{is_none_or, unless_empty}
 use Rattle.dsn_outcome.specs.Request.{Body, Append, Flush, Discard, Forget}
 use Rattle.dsn_text.specs.Service.{service_byte, service_of_byte}
 use Rattle.dsn_text.specs.Stamp.{is_moment, last_moment}
-use Rattle.dsn_text.specs.Status.{is_status_code, longest_status}
+use Rattle.dsn_text.specs.Status.{is_status_code}
+use Rattle.dsn_text.specs.inner.Kept.{longest_status}
 use Rattle.dsn_text.specs.Text.{is_text, is_printable, is_queue_id, is_address, is_mta_name, is_type_name, is_envelope_id, is_remark, clean_text, is_letter_or_digit, is_address_byte, is_atom_byte, is_visible, longest_queue_id, longest_address, longest_mta_name, longest_type_name, longest_envelope_id, longest_header, longest_clean}
 use Rattle.dsn_text.specs.declared.action.Action.{Action}
 use Rattle.dsn_text.specs.declared.action.Action.TheVariants.{Failed, Delayed, Delivered, Relayed, Expanded}
@@ -33,7 +35,8 @@ use Rattle.dsn_text.specs.Extension.{is_extension_text, longest_extension_text}
 use Rattle.dsn_text.proofs.ExtensionLemmas.{extension_text_read}
 use Rattle.dsn_text.proofs.StatusLemmas.{IsStatusCode-test, length-IsStatusCode}
 use Rattle.dsn_frame.specs.bodies.FrameBody.{IsFrameBody}
-use Rattle.dsn_frame.specs.bodies.Request.{text_or_empty, head_for, fields_for, no_moment, moment_if_any, moment_or_none, outcome_fields, usual_types, undated_fields, dated_fields, typed_fields, retry_fields_for, type_fields_for, has_usual_types, append_written_as, any_count, count_if_any, count_or_any, flush_fields_for, flush_written_as, are_usual, usual_wishes, wish_fields_for, draft_of, flush_checks, first_own_fault, StandsFor, Encodes, IsWritten}
+use Rattle.dsn_frame.specs.bodies.Request.{text_or_empty, head_for, fields_for, no_moment, moment_if_any, moment_or_none, outcome_fields, usual_types, undated_fields, dated_fields, typed_fields, retry_fields_for, type_fields_for, has_usual_types, append_written_as, any_count, count_if_any, count_or_any, flush_fields_for, flush_written_as, are_usual, usual_wishes, wish_fields_for, draft_of, flush_checks, first_own_fault, StandsFor, Encodes}
+use Rattle.dsn_frame.specs.inner.BodyParts.{IsWritten}
 use Rattle.dsn_frame.specs.bodies.Wire.{Head, RecipientFields, RetryFields, TypeFields, FlushFields, WishFields, WireBody, AppendFields, DatedAppendFields, TypedAppendFields, FlushFieldsOf, CountedFlushFields, DiscardFields, ForgetFields, head_of, own_bytes, body_bytes, number_bytes, text_bytes, head_bytes, append_bytes, retry_bytes, type_bytes, flush_bytes, wish_bytes, counted_flush_bytes, FitsAppend, FitsTypes, FitsFlush, FitsWishes, FitsOwn}
 
 -- ---- texts

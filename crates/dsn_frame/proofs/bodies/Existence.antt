@@ -13,7 +13,8 @@ use Rattle.dsn_text.specs.Text.{clean_text}
 use Rattle.dsn_text.specs.declared.action.Action.{Action}
 use Rattle.dsn_text.specs.declared.service.Service.{Service}
 use Rattle.dsn_frame.specs.bodies.BodyFault.{outcome_refusal}
-use Rattle.dsn_frame.specs.bodies.Request.{layout_checks, head_checks, first_append_fault, undated_fields, dated_fields, typed_fields, IsAppendOf, first_own_fault, first_field_fault, first_body_fault, or_else, IsWhole, draft_of, usual_wishes, StandsFor, Encodes}
+use Rattle.dsn_frame.specs.bodies.Request.{layout_checks, head_checks, first_append_fault, undated_fields, dated_fields, typed_fields, IsAppendOf, first_own_fault, first_field_fault, first_body_fault, or_else, draft_of, usual_wishes, StandsFor, Encodes}
+use Rattle.dsn_frame.specs.inner.BodyParts.{IsWhole}
 use Rattle.dsn_frame.specs.bodies.Wire.{Head, WireBody, AppendFields, DatedAppendFields, TypedAppendFields, FlushFieldsOf, CountedFlushFields, DiscardFields, ForgetFields, head_of, body_at}
 use Rattle.dsn_frame.specs.declared.bodies.body_fault.BodyFault.{BodyFault}
 use Rattle.dsn_frame.proofs.bodies.FieldLaws.{IsBytes}

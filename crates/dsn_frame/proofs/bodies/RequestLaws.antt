@@ -10,7 +10,8 @@ use Rattle.dsn_outcome.specs.Request.{Body, Append, Flush, Discard, Forget, Bye}
 use Rattle.dsn_text.specs.declared.action.Action.{Action}
 use Rattle.dsn_text.specs.declared.key.Key.{Key}
 use Rattle.dsn_text.specs.declared.service.Service.{Service}
-use Rattle.dsn_frame.specs.bodies.Request.{has_kind, layout_checks, first_field_fault, first_body_fault, undated_fields, dated_fields, typed_fields, IsWhole, IsKeyOf, IsAppendOf, StandsFor, Encodes}
+use Rattle.dsn_frame.specs.bodies.Request.{has_kind, layout_checks, first_field_fault, first_body_fault, undated_fields, dated_fields, typed_fields, IsKeyOf, IsAppendOf, StandsFor, Encodes}
+use Rattle.dsn_frame.specs.inner.BodyParts.{IsWhole}
 use Rattle.dsn_frame.specs.bodies.Wire.{Head, WireBody, AppendFields, DatedAppendFields, TypedAppendFields, FlushFieldsOf, CountedFlushFields, DiscardFields, ForgetFields, is_version, is_kind, is_known, head_of, kind_of, body_bytes, Fits, body_at}
 use Rattle.dsn_frame.specs.declared.bodies.body_fault.BodyFault.TheVariants as faults
 use Rattle.dsn_frame.proofs.bodies.BodyLaws.{body_again, body_takes}

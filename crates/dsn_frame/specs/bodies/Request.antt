@@ -1,6 +1,6 @@
 -- Requests in bytes: which body some bytes stand for, and why they are refused where they stand for
 -- none (this project's profile, versions 1 to 3).
-use Rattle.std.specs.Prelude.{◌≡◌, ℕ, ◌+◌, Bool, true, false, ◌&&◌, ◌==◌, nat_le, List, [], ◌∷◌, length, ◌≤◌, Option, Some, None, is_none, is_some, if◌then◌else◌, slice_get, option_and_then, unwrap_or}
+use Rattle.std.specs.Prelude.{◌≡◌, ℕ, Bool, true, false, ◌&&◌, ◌==◌, nat_le, List, [], ◌∷◌, length, Option, Some, None, is_none, is_some, if◌then◌else◌, slice_get, option_and_then, unwrap_or}
 use Rattle.std.specs.Option.{option_map, option_map_or}
 use Rattle.dsn_text.specs.Action.{action_byte}
 use Rattle.dsn_outcome.specs.Draft.{Draft}
@@ -9,17 +9,17 @@ use Rattle.dsn_outcome.specs.Wording.{wording_byte, wording_of_byte}
 use Rattle.dsn_outcome.specs.declared.returned.Returned.TheVariants.{Header}
 use Rattle.dsn_outcome.specs.declared.wording.Wording.TheVariants.{ByService}
 use Rattle.dsn_outcome.specs.Outcome.{Outcome, Fields, IsOutcomeOf, first_outcome_fault, first_failed}
-use Rattle.dsn_text.specs.Extension.{is_extension_text, longest_extension_text}
+use Rattle.dsn_text.specs.Extension.{is_extension_text}
 use Rattle.dsn_text.specs.Optional.{is_none_or, unless_empty}
 use Rattle.dsn_outcome.specs.Request.{Body, Append, Flush, Discard, Forget, Bye}
 use Rattle.dsn_text.specs.Service.{service_byte, service_of_byte}
 use Rattle.dsn_text.specs.Stamp.{last_moment, is_moment}
-use Rattle.dsn_text.specs.Text.{is_queue_id, is_address, is_envelope_id, longest_address, longest_envelope_id, longest_header, longest_queue_id}
+use Rattle.dsn_text.specs.Text.{is_queue_id, is_address, is_envelope_id, longest_header}
 use Rattle.dsn_text.specs.declared.key.Key.{Key}
 use Rattle.dsn_text.specs.declared.service.Service.{Service}
 use Rattle.dsn_frame.specs.bodies.BodyFault.{outcome_refusal}
 use Rattle.dsn_frame.specs.bodies.FrameBody.{frame}
-use Rattle.dsn_frame.specs.bodies.Wire.{Head, RecipientFields, RetryFields, TypeFields, FlushFields, WishFields, WireBody, AppendFields, DatedAppendFields, TypedAppendFields, FlushFieldsOf, CountedFlushFields, DiscardFields, ForgetFields, is_version, is_kind, is_known, head_of, own_bytes, body_bytes, Fits, body_at}
+use Rattle.dsn_frame.specs.bodies.Wire.{Head, RecipientFields, RetryFields, TypeFields, FlushFields, WishFields, WireBody, AppendFields, DatedAppendFields, TypedAppendFields, FlushFieldsOf, CountedFlushFields, DiscardFields, ForgetFields, is_version, is_kind, is_known, head_of, body_bytes, Fits, body_at}
 use Rattle.dsn_frame.specs.declared.bodies.body_fault.BodyFault.{BodyFault}
 use Rattle.dsn_frame.specs.declared.bodies.body_fault.BodyFault.TheVariants as faults
 
@@ -155,11 +155,6 @@ unfoldable pub first_body_fault : List ℕ → Option BodyFault
 first_body_fault bytes =
     or_else (first_failed (layout_checks bytes))
     (option_and_then (λ read. first_field_fault read.0) (body_at bytes))
-
--- bytes that hold exactly the fields of one body
-pub record IsWhole (bytes : List ℕ) (wire : WireBody) : Type 0 where
-  pub accepted : first_failed (layout_checks bytes) ≡ None
-  pub read : body_at bytes ≡ Some (wire, [])
 
 -- ---- what a body stands for
 
@@ -321,23 +316,6 @@ fields_written number (Flush key draft) = Some (flush_written_as number key draf
 fields_written number (Discard key) = Some (DiscardFields (head_for 1 number key.service key.id))
 fields_written number (Forget key) = Some (ForgetFields (head_for 2 number key.service key.id))
 fields_written number Bye = None
-
--- the most bytes that follow the queue id of a written body: a flush's of version 3, whose two
--- moments, four lengths, count and two bytes take 30, and each of whose texts is as long as it may be
-abbrev pub longest_own : ℕ
-longest_own =
-    30 + (longest_address + (longest_envelope_id + (longest_header + longest_extension_text)))
-
--- fields that are written of a body: no check fails, they stand for the body, and a frame holds
--- them
-pub record IsWritten (number : ℕ) (body : Body) (wire : WireBody) : Type 0 where
-  pub number_is : (head_of wire).number ≡ number
-  pub known : is_known wire ≡ true
-  pub fits : Fits wire
-  pub id_short : length (head_of wire).id ≤ longest_queue_id
-  pub own_short : length (own_bytes wire) ≤ longest_own
-  pub accepted : first_field_fault wire ≡ None
-  pub stands_for : StandsFor wire body
 
 -- the bytes that are written of a body; of a goodbye none
 unfoldable pub request_body : ℕ → Body → List ℕ

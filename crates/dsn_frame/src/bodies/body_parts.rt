@@ -54,7 +54,7 @@ pub(crate) struct TypeParts<'a> {
 
 impl TypeParts<'_> {
     ghost use Rattle.std.specs.Prelude.{◌≡◌};
-    ghost use Rattle.dsn_frame.specs.bodies.BodyParts.{type_fields_in};
+    ghost use Rattle.dsn_frame.specs.inner.BodyParts.{type_fields_in};
     ghost use Rattle.dsn_frame.specs.bodies.Request.{usual_types};
 
     /// Those of an append of an earlier version: the usual types, and no extension field.
@@ -104,7 +104,7 @@ pub(crate) struct WishParts<'a> {
 
 impl WishParts<'_> {
     ghost use Rattle.std.specs.Prelude.{◌≡◌};
-    ghost use Rattle.dsn_frame.specs.bodies.BodyParts.{wish_fields_in};
+    ghost use Rattle.dsn_frame.specs.inner.BodyParts.{wish_fields_in};
     ghost use Rattle.dsn_frame.specs.bodies.Request.{are_usual, usual_wishes};
 
     /// What a flush of an earlier version asks for.
@@ -152,7 +152,7 @@ pub(crate) enum BodyParts<'a> {
 
 impl<'a> BodyParts<'a> {
     ghost use Rattle.std.specs.Prelude.{◌≡◌};
-    ghost use Rattle.dsn_frame.specs.bodies.BodyParts.{head_in, wire_body_in};
+    ghost use Rattle.dsn_frame.specs.inner.BodyParts.{head_in, wire_body_in};
     ghost use Rattle.dsn_frame.specs.bodies.Wire.{head_of, kind_of};
 
     /// What the body begins with.

@@ -9,9 +9,10 @@ ghost use Rattle.dsn_text.specs.Optional.{is_none_or};
 ghost use Rattle.dsn_outcome.specs.Request.{Bye};
 ghost use Rattle.dsn_text.specs.Stamp.{is_moment, last_moment};
 ghost use Rattle.dsn_frame.specs.bodies.BodyFault.{outcome_refusal};
-ghost use Rattle.dsn_frame.specs.bodies.BodyParts.{head_in, recipient_fields_in, retry_fields_in, type_fields_in, flush_fields_in, wish_fields_in, wire_body_in};
+ghost use Rattle.dsn_frame.specs.inner.BodyParts.{head_in, recipient_fields_in, retry_fields_in, type_fields_in, flush_fields_in, wish_fields_in, wire_body_in};
 ghost use Rattle.dsn_frame.specs.bodies.Wire.{body_at, head_of};
-ghost use Rattle.dsn_frame.specs.bodies.Request.{Encodes, IsKeyOf, IsWhole, StandsFor, count_if_any, draft_of, first_body_fault, first_own_fault, flush_checks, moment_if_any, outcome_fields, retry_checks, has_kind, head_checks, layout_checks};
+ghost use Rattle.dsn_frame.specs.bodies.Request.{Encodes, IsKeyOf, StandsFor, count_if_any, draft_of, first_body_fault, first_own_fault, flush_checks, moment_if_any, outcome_fields, retry_checks, has_kind, head_checks, layout_checks};
+ghost use Rattle.dsn_frame.specs.inner.BodyParts.{IsWhole};
 
 use crate::bodies::body_fault::BodyFault;
 use crate::bodies::body_parts::{

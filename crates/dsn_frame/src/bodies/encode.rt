@@ -3,14 +3,15 @@
 ghost use Rattle.std.specs.Prelude.{◌≡◌, ◌≢◌, Some, IfOk, IsTrue};
 ghost use Rattle.std.specs.Option.{option_copied};
 ghost use Rattle.dsn_outcome.specs.Body.{body_of, body_lent};
-ghost use Rattle.dsn_outcome.specs.Draft.{IsLegalDraft};
+ghost use Rattle.dsn_outcome.specs.inner.Draft.{IsLegalDraft};
 ghost use Rattle.dsn_outcome.specs.Outcome.{IsLegalOutcome};
 ghost use Rattle.dsn_text.specs.Optional.{is_none_or};
 ghost use Rattle.dsn_outcome.specs.Request.{Bye};
 ghost use Rattle.dsn_text.specs.Text.{IsQueueId, is_address, is_envelope_id};
-ghost use Rattle.dsn_frame.specs.bodies.BodyParts.{head_in, recipient_fields_in, retry_fields_in, type_fields_in, flush_fields_in, wish_fields_in, wire_body_in};
+ghost use Rattle.dsn_frame.specs.inner.BodyParts.{head_in, recipient_fields_in, retry_fields_in, type_fields_in, flush_fields_in, wish_fields_in, wire_body_in};
 ghost use Rattle.dsn_frame.specs.bodies.FrameBody.{IsFrameBody};
-ghost use Rattle.dsn_frame.specs.bodies.Request.{Encodes, IsWritten, append_written_as, count_or_any, fields_for, moment_or_none, retry_fields_for, fields_written, flush_fields_for, has_usual_types, type_fields_for, flush_written_as, wish_fields_for, head_for, request_body, request_bytes, text_or_empty};
+ghost use Rattle.dsn_frame.specs.bodies.Request.{Encodes, append_written_as, count_or_any, fields_for, moment_or_none, retry_fields_for, fields_written, flush_fields_for, has_usual_types, type_fields_for, flush_written_as, wish_fields_for, head_for, request_body, request_bytes, text_or_empty};
+ghost use Rattle.dsn_frame.specs.inner.BodyParts.{IsWritten};
 
 use crate::bodies::body_parts::{
     ANY_COUNT, BodyParts, FlushParts, HeadParts, NO_MOMENT, RecipientParts, RetryParts, TypeParts,

@@ -2,7 +2,7 @@
 //! Implements docs/FORMATS.md, "Conventions".
 ghost use Rattle.std.specs.Prelude.{◌≡◌, ◌+◌, ◌<◌, ◌≤◌, ◌^◌, ◌++◌, length, vec_capacity};
 ghost use Rattle.std.specs.Int.{w32, w64};
-ghost use Rattle.dsn_frame.specs.bodies.BodyParts.{head_in, recipient_fields_in, retry_fields_in, type_fields_in, flush_fields_in, wish_fields_in, wire_body_in};
+ghost use Rattle.dsn_frame.specs.inner.BodyParts.{head_in, recipient_fields_in, retry_fields_in, type_fields_in, flush_fields_in, wish_fields_in, wire_body_in};
 ghost use Rattle.dsn_frame.specs.bodies.FrameBody.{frame, longest_body};
 ghost use Rattle.dsn_frame.specs.bodies.Wire;
 ghost use Rattle.dsn_frame.specs.bodies.Wire.{FitsAppend, FitsTypes, FitsFlush, FitsHead, FitsOwn, FitsText, FitsWishes, number_bytes, text_bytes, head_bytes, append_bytes, retry_bytes, type_bytes, flush_bytes, wish_bytes, counted_flush_bytes, own_bytes, body_bytes};

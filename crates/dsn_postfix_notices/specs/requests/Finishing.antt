@@ -37,10 +37,6 @@ pub record StopsAtPlace (notice : NoticeRequest) (places : List ℕ) (gained : L
   pub marked : AreMarked notice before marks
   pub unmarked : FailsToMark notice stopped last
 
-abbrev pub MarksAll : NoticeRequest → List ℕ → Result (Unit {0}) Untold → List Deed → Type 0
-MarksAll notice places (Ok done) gained = AreMarked notice places gained
-MarksAll notice places (Err why) gained = (why ≡ Failed) × StopsAtPlace notice places gained
-
 -- ---- the log
 
 -- a warning keeps its log, for the notice of failure that may follow; a request about one recipient alone has none

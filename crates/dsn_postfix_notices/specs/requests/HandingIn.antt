@@ -52,13 +52,3 @@ pub record StopsAtLetter (host : List ℕ) (letters : List Letter) (why : Untold
   pub gained_are : gained ≡ taken ++ last
   pub accepted : AreAccepted host before taken
   pub not_accepted : IsNotAccepted host (is_first_after before) stopped why last
-
--- one was accepted, or not
-abbrev pub HandsInOne : List ℕ → Bool → Letter → Result (Unit {0}) Untold → List Deed → Type 0
-HandsInOne host first letter (Ok done) gained = AreAccepted host (letter ∷ []) gained
-HandsInOne host first letter (Err why) gained = IsNotAccepted host first letter why gained
-
--- all were accepted, or not
-abbrev pub HandsInAll : List ℕ → List Letter → Result (Unit {0}) Untold → List Deed → Type 0
-HandsInAll host letters (Ok done) gained = AreAccepted host letters gained
-HandsInAll host letters (Err why) gained = StopsAtLetter host letters why gained

@@ -1,5 +1,5 @@
 -- What a request for notices reads: the log that it tells of, and the message's file.
-use Rattle.std.specs.Prelude.{◌≡◌, ℕ, Bool, true, false, List, [], ◌∷◌, ◌++◌, Option, Result, Ok, Err, is_err}
+use Rattle.std.specs.Prelude.{◌≡◌, ℕ, Bool, true, false, List, [], ◌∷◌, ◌++◌, Option, Result, Ok, Err}
 use Rattle.dsn_text.specs.declared.service.Service.{Service}
 use Rattle.dsn_postfix.specs.declared.postfix_request.NoticeRequest.{NoticeRequest}
 use Rattle.dsn_postfix.specs.declared.postfix_request.PostfixRequest.{PostfixRequest}
@@ -26,12 +26,6 @@ abbrev pub log_reading : Bool → Service → NoticeRequest → Result (Option (
 log_reading true service notice answer = LogRead service notice.queue_id answer ∷ []
 log_reading false service notice answer = []
 
--- what comes of reading the log, if there is one to read
-abbrev pub ReadsLog : Task → Result (Option (List ℕ)) DeedFault → List Deed → Type 0
-ReadsLog task answer gained =
-    (gained ≡ log_reading (tells_of_log task.request) task.terms.service task.notice answer)
-    × (is_err answer ≡ true → tells_of_log task.request ≡ true)
-
 abbrev pub message_reading : NoticeRequest → Result (List ℕ) DeedFault → List Deed
 message_reading notice answer = MessageRead notice.queue_name notice.queue_id answer ∷ []
 
@@ -49,7 +43,3 @@ pub data FailsToRead (task : Task) (gained : List Deed) : Type 0 where
       → gained ≡ log_reading (tells_of_log task.request) task.terms.service task.notice (Ok log)
       ++ message_reading task.notice (Err fault)
       → FailsToRead task gained
-
-abbrev pub Reads : Task → Result MailRead DeedFault → List Deed → Type 0
-Reads task (Ok found) gained = gained ≡ readings task found
-Reads task (Err fault) gained = FailsToRead task gained

@@ -1,7 +1,7 @@
 -- The letters of a request for notices, made of what was read for it, and which recipients are marked as done after them.
 use Rattle.std.specs.List.{flat_map, list_any}
 use Rattle.std.specs.Option.{is_some, unwrap_or}
-use Rattle.std.specs.Prelude.{◌≡◌, ℕ, ◌+◌, ◌%◌, ◌^◌, nat_lt, Bool, true, false, ◌&&◌, not, List, [], ◌∷◌, ◌++◌, Option, Some, None, Result, Ok, Err, if◌then◌else◌}
+use Rattle.std.specs.Prelude.{◌≡◌, ℕ, ◌+◌, ◌%◌, ◌^◌, nat_lt, Bool, true, false, ◌&&◌, not, List, [], ◌∷◌, Option, Some, None, Result, Ok, Err, if◌then◌else◌}
 use Rattle.dsn_outcome.specs.Letter.{Letter}
 use Rattle.dsn_text.specs.declared.service.Service.{Service}
 use Rattle.dsn_text.specs.declared.service.Service.TheVariants.{Bounce, Defer, Trace as TraceLog}
@@ -9,9 +9,6 @@ use Rattle.dsn_postfix.specs.NoticePlan.{notices_of}
 use Rattle.dsn_postfix.specs.PlannedNotice.{NoticeFacts}
 use Rattle.dsn_postfix.specs.RequestFlags.{marks_recipients}
 use Rattle.dsn_postfix.specs.declared.cant_say.CantSay.{CantSay}
-use Rattle.dsn_postfix.specs.declared.plan_fault.PlanFault.{PlanFault}
-use Rattle.dsn_postfix.specs.declared.plan_fault.PlanFault.TheVariants as plan
-use Rattle.dsn_postfix.specs.declared.postfix_request.NoticeRequest.{NoticeRequest}
 use Rattle.dsn_postfix.specs.declared.postfix_request.PostfixRequest.{PostfixRequest}
 use Rattle.dsn_postfix.specs.declared.postfix_request.PostfixRequest.TheVariants.{Append, Flush, Warn, Verp, One, Trace}
 use Rattle.dsn_postfix_files.specs.LogFile.{DamagedLog, LoggedEntry, SaidLog, log_entries}
@@ -21,15 +18,10 @@ use Rattle.dsn_postfix_files.specs.QueueListing.{QueueEnding, RecordsFrom}
 use Rattle.dsn_postfix_files.specs.QueueRecipients.{recipients_of}
 use Rattle.dsn_postfix_files.specs.QueueRecord.{PlacedBytes}
 use Rattle.dsn_postfix_files.specs.QueueWalk.{first_place}
-use Rattle.dsn_postfix_notices.specs.declared.letters.letter_fault.LetterFault.{LetterFault}
-use Rattle.dsn_postfix_notices.specs.declared.letters.letter_fault.LetterFault.TheVariants as fault
 use Rattle.dsn_postfix_notices.specs.letters.NoticeLetter.{IsLetterOf, first_letter_fault}
 use Rattle.dsn_postfix_notices.specs.letters.ReportedMessage.{MessageSaid}
 use Rattle.dsn_postfix_notices.specs.requests.MailFound.{MailRead, tells_of_log}
 use Rattle.dsn_postfix_notices.specs.requests.Task.{Task}
-use Rattle.dsn_postfix_notices.specs.declared.requests.pass_reason.PassReason.TheVariants.{NoLetter, NoPlan}
-use Rattle.dsn_postfix_notices.specs.declared.requests.untold.Untold.{Untold}
-use Rattle.dsn_postfix_notices.specs.declared.requests.untold.Untold.TheVariants.{Failed, NoMemory, PassedOn}
 
 -- ---- what notices say of the message
 
@@ -75,12 +67,6 @@ pub record AreLettersAsked (task : Task) (found : MailRead) (letters : List Lett
       found.log ≡ Ok notices
   pub each : AreLettersOf (message_said task records) task.terms.moment task.terms.serial notices letters
 
--- some letters, and then that of a notice
-pub record GainsLetter (message : MessageSaid) (moment serial : ℕ) (notice : NoticeFacts) (old new : List Letter) : Type 0 where
-  pub letter : Letter
-  pub is_said : IsSaidLetter message moment serial notice letter
-  pub new_are : new ≡ old ++ letter ∷ []
-
 -- ---- what no letter says
 
 abbrev pub has_fault : MessageSaid → NoticeFacts → Bool
@@ -97,21 +83,6 @@ pub record CantBeSaid (task : Task) (found : MailRead) : Type 0 where
   pub listed : RecordsFrom found.file (first_place found.file) records ending
   pub unsaid : IsUnsaid (message_said task records)
       (notices_of task.terms.settings.double_bounce task.terms.service task.request (recipients_of records) found.log)
-
--- why a sender isn't told after a fault of the plan, or of a letter
-abbrev pub of_plan : PlanFault → Untold
-of_plan plan.NoMemory = NoMemory
-of_plan (plan.Unsaid why) = PassedOn (NoPlan why)
-
-abbrev pub of_letter : LetterFault → Untold
-of_letter fault.NoMemory = NoMemory
-of_letter why = PassedOn (NoLetter why)
-
--- why there are no letters: they can't be said, or memory was refused
-abbrev pub IsReason : Type 0 → Untold → Type 0
-IsReason Unsaid (PassedOn why) = Unsaid
-IsReason Unsaid Failed = ⊥
-IsReason Unsaid NoMemory = Unit {0}
 
 -- ---- who is done after them
 

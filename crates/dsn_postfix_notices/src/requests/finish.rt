@@ -2,7 +2,8 @@
 //! Implements docs/FORMATS.md, "A connection".
 ghost use Rattle.std.specs.Prelude.{◌≡◌};
 ghost use Rattle.std.specs.Option.{option_map};
-ghost use Rattle.dsn_postfix_notices.specs.requests.Finishing.{FinishesAt, MarksAll, RemovesLog, is_removal_due, removes_log};
+ghost use Rattle.dsn_postfix_notices.specs.requests.Finishing.{FinishesAt, RemovesLog, is_removal_due, removes_log};
+ghost use Rattle.dsn_postfix_notices.specs.inner.Finishing.{MarksAll};
 ghost use Rattle.dsn_postfix_notices.specs.requests.Gains.{Gains};
 
 use crate::requests::mail_system::MailSystem;

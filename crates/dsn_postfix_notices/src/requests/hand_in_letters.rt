@@ -2,7 +2,8 @@
 //! Implements docs/FORMATS.md, "A connection".
 ghost use Rattle.std.specs.Prelude.{◌≡◌};
 ghost use Rattle.dsn_postfix_notices.specs.requests.Gains.{Gains};
-ghost use Rattle.dsn_postfix_notices.specs.requests.HandingIn.{HandsInAll, HandsInOne, refusal_of};
+ghost use Rattle.dsn_postfix_notices.specs.inner.HandingIn.{HandsInAll, HandsInOne};
+ghost use Rattle.dsn_postfix_notices.specs.requests.HandingIn.{refusal_of};
 
 use crate::requests::mail_system::MailSystem;
 use crate::requests::pass_reason::PassReason;

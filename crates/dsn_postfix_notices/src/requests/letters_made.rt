@@ -1,6 +1,7 @@
 //! What is made of a request's log and file before its first notice is handed in.
 ghost use Rattle.std.specs.Prelude.{◌≡◌, IfErr, IfOk};
-ghost use Rattle.dsn_postfix_notices.specs.requests.RequestLetters.{AreLettersAsked, CantBeSaid, IsReason, places_done};
+ghost use Rattle.dsn_postfix_notices.specs.requests.RequestLetters.{AreLettersAsked, CantBeSaid, places_done};
+ghost use Rattle.dsn_postfix_notices.specs.inner.RequestLetters.{IsReason};
 
 use crate::requests::mail_found::MailFound;
 use crate::requests::notice_task::NoticeTask;

@@ -3,7 +3,8 @@ ghost use Rattle.std.specs.Prelude.{◌≡◌};
 ghost use Rattle.std.specs.Option.{option_map};
 ghost use Rattle.dsn_postfix_notices.specs.requests.Deed.{answer_as};
 ghost use Rattle.dsn_postfix_notices.specs.requests.Gains.{Gains};
-ghost use Rattle.dsn_postfix_notices.specs.requests.MailFound.{Reads, ReadsLog, tells_of_log};
+ghost use Rattle.dsn_postfix_notices.specs.inner.MailFound.{Reads, ReadsLog};
+ghost use Rattle.dsn_postfix_notices.specs.requests.MailFound.{tells_of_log};
 
 use crate::requests::deed_fault::DeedFault;
 use crate::requests::mail_system::MailSystem;

@@ -9,7 +9,8 @@ ghost use Rattle.dsn_postfix_files.specs.QueueRecipients.{BeginsRecipients, Reci
 ghost use Rattle.dsn_postfix_files.specs.QueueRecord.{PlacedBytes};
 ghost use Rattle.dsn_postfix_files.specs.QueueWalk.{first_place, steps_left};
 ghost use Rattle.dsn_postfix_notices.specs.letters.ReportedMessage.{message_said_in};
-ghost use Rattle.dsn_postfix_notices.specs.requests.RequestLetters.{AreLettersAsked, AreLettersOf, CantBeSaid, GainsLetter, IsReason, has_fault};
+ghost use Rattle.dsn_postfix_notices.specs.requests.RequestLetters.{AreLettersAsked, AreLettersOf, CantBeSaid, has_fault};
+ghost use Rattle.dsn_postfix_notices.specs.inner.RequestLetters.{GainsLetter, IsReason};
 
 use crate::letters::{ReportedMessage, letter_of_notice};
 use crate::requests::mail_found::MailFound;

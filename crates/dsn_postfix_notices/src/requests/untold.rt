@@ -64,7 +64,7 @@ impl<T: Drop> From<AllocFailed<T>> for Untold {
 
 impl From<PlanFault> for Untold {
     ghost use Rattle.std.specs.Prelude.{◌≡◌};
-    ghost use Rattle.dsn_postfix_notices.specs.requests.RequestLetters.{of_plan};
+    ghost use Rattle.dsn_postfix_notices.specs.inner.RequestLetters.{of_plan};
 
     ghost from_gives = { λ fault why. why ≡ of_plan fault };
 
@@ -78,7 +78,7 @@ impl From<PlanFault> for Untold {
 
 impl From<LetterFault> for Untold {
     ghost use Rattle.std.specs.Prelude.{◌≡◌};
-    ghost use Rattle.dsn_postfix_notices.specs.requests.RequestLetters.{of_letter};
+    ghost use Rattle.dsn_postfix_notices.specs.inner.RequestLetters.{of_letter};
 
     ghost from_gives = { λ fault why. why ≡ of_letter fault };
 

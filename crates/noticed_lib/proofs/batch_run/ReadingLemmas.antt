@@ -19,11 +19,11 @@ use Rattle.noticed_lib.proofs.notes.NotesLemmas.{answer_lines_from-more}
 use Rattle.noticed_lib.proofs.batch_run.RunLemmas.{replies-none, requests-more, requests-length}
 use Rattle.noticed_lib.proofs.notes.SteadyLemmas.{steady-none, steady-then}
 use Rattle.noticed_lib.specs.notes.Notes.{answer_line, answer_lines_from}
-use Rattle.noticed_lib.specs.batch_run.Reading.{HeardSoFar, Heard}
-use Rattle.noticed_lib.specs.batch_run.ReadingEnd.{reading_code, is_notes_lost, is_read_failed}
+use Rattle.noticed_lib.specs.inner.Reading.{HeardSoFar, Heard}
+use Rattle.noticed_lib.specs.inner.ReadingEnd.{reading_code, is_notes_lost, is_read_failed}
 use Rattle.noticed_lib.specs.batch_run.Requests.{requests_of}
-use Rattle.noticed_lib.specs.batch_run.Run.{Stands, Answered, end_after}
-use Rattle.noticed_lib.specs.notes.NotedAnswers.{AnswersNoted}
+use Rattle.noticed_lib.specs.inner.Run.{Stands, Answered, end_after}
+use Rattle.noticed_lib.specs.inner.NotedAnswers.{AnswersNoted}
 use Rattle.noticed_lib.specs.declared.batch_run.reading_end.ReadingEnd.{ReadingEnd}
 use Rattle.noticed_lib.specs.declared.batch_run.reading_end.ReadingEnd.TheVariants.{NotesLost, OutOfTurn}
 use Rattle.noticed_lib.specs.declared.batch_run.run.Run.{Run}

@@ -36,7 +36,6 @@ kept-next a b c (Some body) kept reads = (reads.0, kept-consumed a b c (frame bo
 -- ---- a frame that was sent
 
 module _ {S : Type 0} (source : Source S) (drain : Drain S) (held_is_written : (s : S) → source.holds s ≡ drain.contents s) (left_is_unread : (s : S) → drain.left s ≡ source.remaining s) (place : ℕ) (bytes text : List ℕ) (whole : text ≡ frame bytes) where
-
   module _ (old mid new : S) (written : Appends (drain.contents old) (drain.contents mid) text) (unread : Keeps (drain.left old) (drain.left mid)) (held : Keeps (source.holds mid) (source.holds new)) where
     sent : Appends (drain.contents old) (drain.contents new) (frame bytes)
     sent = Appends-kept (drain.contents old) (drain.contents mid) (drain.contents new) (frame bytes) (rw whole at written) (keeps-as source.holds drain.contents held_is_written mid new held)
@@ -48,7 +47,6 @@ module _ {S : Type 0} (source : Source S) (drain : Drain S) (held_is_written : (
     reads next = kept-next (source.remaining old) (source.remaining mid) (source.remaining new) next still
 
     module _ (body : List ℕ) (next : ReadsNext (source.remaining mid) (source.remaining new) (Some body)) where
-
       came : (number : ℕ) (answer : Spoken) → body ≡ answer_body number answer → FitsAnswer number answer → IsAnswer number (source.remaining old) (source.remaining new) answer
       unfolding answer_bytes
       came number answer is fits = record { fits = fits; got = subst (λ (b : List ℕ). Consumes (source.remaining old) (source.remaining new) (frame b)) is (reads (Some body) next).1 }

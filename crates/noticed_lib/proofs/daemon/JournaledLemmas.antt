@@ -10,7 +10,7 @@ use Rattle.dsn_outcome.specs.Letter.{Letter}
 use Rattle.dsn_outcome.specs.Request.{Request}
 use Rattle.dsn_book.specs.Book.{Book}
 use Rattle.dsn_book.specs.Keeper.{MayCrash}
-use Rattle.dsn_crew.specs.desk.Desk.{BeginsWith}
+use Rattle.dsn_crew.specs.KeeperHistory.{BeginsWith}
 use Rattle.dsn_journal.specs.EarlierRuns.{HaveHistoryOfLedger, of_earlier_run}
 use Rattle.dsn_journal.specs.Behind.{HasMoreBehind}
 use Rattle.dsn_journal.specs.Compacted.{compacted}
@@ -38,7 +38,8 @@ use Rattle.dsn_journal.proofs.KeptBooks.{has_kept, nothing_kept, some_kept}
 use Rattle.dsn_journal.proofs.LedgersInPlace.{headed}
 use Rattle.dsn_journal.proofs.Moments.{joined, started, weaker}
 use Rattle.dsn_report.specs.Outgoing.{Delivered, Outgoing}
-use Rattle.noticed_lib.specs.daemon.Journaled.{BeginsAnew, HasPostedFirst, IsNoStart, IsNoStartOverLedger, IsPostedFirst, IsMarkOfJournal, IsStartOver, IsStartOverLedger, LeavesMarksOpened, LeavesStart, StartsWith, WhyNoStart, marking_drain, no_outbox, not_put_away, of_journal, of_letters, of_outbox, too_many_letters}
+use Rattle.noticed_lib.specs.inner.Daemon.{BeginsAnew, IsNoStartOverLedger, IsStartOverLedger, WhyNoStart, of_journal, of_letters, of_outbox}
+use Rattle.noticed_lib.specs.daemon.Journaled.{HasPostedFirst, IsNoStart, IsPostedFirst, IsMarkOfJournal, IsStartOver, LeavesMarksOpened, LeavesStart, StartsWith, marking_drain, no_outbox, not_put_away, too_many_letters}
 use Rattle.noticed_lib.specs.listing.Folder.{AreMarksRefusedFor, IsOnlyRead}
 
 -- letters before no others are all of them

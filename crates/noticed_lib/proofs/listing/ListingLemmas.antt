@@ -11,8 +11,8 @@ use Rattle.dsn_text.specs.declared.key.Key.{Key}
 use Rattle.noticed_lib.specs.declared.listing.copied_disk.CopiedDisk.{CopiedDisk}
 use Rattle.noticed_lib.specs.declared.listing.listing_fault.ListingFault.{ListingFault}
 use Rattle.noticed_lib.specs.declared.listing.listing_fault.ListingFault.TheVariants.{NotWritten}
-use Rattle.noticed_lib.specs.listing.CopiedDisk.{copied_seen}
-use Rattle.noticed_lib.specs.listing.CopiedFolder.{IsOpenedCopy}
+use Rattle.noticed_lib.specs.inner.CopiedFolder.{copied_seen}
+use Rattle.noticed_lib.specs.inner.CopiedFolder.{IsOpenedCopy}
 use Rattle.noticed_lib.specs.listing.Folder.{HaveMark}
 use Rattle.noticed_lib.specs.listing.Listing.{AreClosedKeys, IsListed, IsListing, not_written, whole}
 use Rattle.noticed_lib.specs.listing.ListingLines.{last_lines, listing_lines}

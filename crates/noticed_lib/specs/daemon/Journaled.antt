@@ -4,17 +4,16 @@ use Rattle.dsn_book.specs.Book.{Book, Represents}
 use Rattle.dsn_book.specs.Keeper.{MayCrash}
 use Rattle.dsn_device.specs.Failures.{counted}
 use Rattle.dsn_outcome.specs.History.{Limits, Exchange, history_after, sealed_letters}
-use Rattle.dsn_outcome.specs.Letter.{Letter}
 use Rattle.dsn_crew.specs.Crew.{Account, CrewFault, HasAccount, HasFault, IsPostedBy, MayCrashWithin, PostedBefore, most_ports}
 use Rattle.dsn_crew.specs.declared.crew_cause.CrewCause.TheVariants.{PortCount, Refused}
 use Rattle.dsn_crew.specs.declared.agents.port.Port.{Ghosts as Port}
-use Rattle.dsn_crew.specs.desk.Desk.{BeginsWith}
+use Rattle.dsn_crew.specs.KeeperHistory.{BeginsWith}
 use Rattle.dsn_device.specs.declared.drain.Drain.{Ghosts as Drain}
 use Rattle.dsn_journal.specs.Compacted.{compacted}
 use Rattle.dsn_journal.specs.EarlierRuns.{of_earlier_run}
 use Rattle.dsn_journal.specs.Forgetting.{lets_go, open_entries}
 use Rattle.dsn_journal.specs.Header.{SayHistory, StandsForFile, base_limit, with_header}
-use Rattle.dsn_journal.specs.InPlace.{AreRecordsInPlaceOf, IsLedgerInPlaceOf, ReopensTo}
+use Rattle.dsn_journal.specs.InPlace.{AreRecordsInPlaceOf}
 use Rattle.dsn_journal.specs.KeepError.{has_keeping_failed, keep_error_code}
 use Rattle.dsn_journal.specs.KeptBook.{HasKept, keeper_of_ledger, ledger_keeper}
 use Rattle.dsn_journal.specs.Ledger.{records_of}
@@ -37,7 +36,7 @@ use Rattle.dsn_journal.specs.declared.ledger_error.LedgerError.TheVariants as no
 use Rattle.dsn_journal.specs.declared.marks_error.MarksError.{MarksError}
 use Rattle.dsn_journal.specs.declared.marks_error.MarksError.TheVariants as no_marks_for
 use Rattle.dsn_text.specs.FaultCode.{journal_full_code, outbox_write_code}
-use Rattle.dsn_report.specs.Outgoing.{Delivered, Outgoing}
+use Rattle.dsn_report.specs.Outgoing.{Outgoing}
 use Rattle.noticed_lib.specs.daemon.SocketUses.{socket_port}
 use Rattle.noticed_lib.specs.daemon.Serve.{WritesAccount, WritesFault, WritesNumber}
 use Rattle.noticed_lib.specs.listing.Folder.{AreMarksRefusedFor, HasHistory, HaveMark, IsJournalRefusedFor, IsOnlyRead}
@@ -47,14 +46,6 @@ use Rattle.noticed_lib.specs.declared.daemon.serve_end.ServeEnd.{ServeEnd}
 abbrev pub StartsWith : Limits → List ℕ → List Exchange → Type 0
 StartsWith limits file long =
     AreRecordsInPlaceOf limits (with_header limits (recovered file)) long
-
--- a run may begin with a ledger: after some history of earlier runs, and after each that it is in
--- place of, as one of earlier runs
-pub record BeginsAnew {D : Type 0} (disk : Disk.Ghosts D) (ledger : Ledger D) : Type 0 where
-  pub some : (before : List Exchange) × BeginsWith (ledger_keeper disk) ledger before
-  pub each : (long : List Exchange)
-      → IsLedgerInPlaceOf ledger.book ledger.base (recovered (disk.seen ledger.journal.disk)) long
-      → BeginsWith (ledger_keeper disk) ledger (of_earlier_run long)
 
 -- what contracts see of an outbox that marks its letters, as a device
 abbrev pub marking_drain : {W M : Type 0} → Drain W → Disk.Ghosts M → Drain (MarkedOutbox W M)
@@ -71,25 +62,6 @@ marking_drain drain marks_disk = record {
   steady = λ marked. ⊥;
   flushes_surely = λ marked. ⊥;
 }
-
--- what a run begins with whose ledger was opened, with these letters that were still to be posted: they
--- were posted, none of them is unsent, fewer than 2^63 letters were sealed, and each history that the
--- ledger was in place of is one to begin with, and what a crash leaves at each moment until then
-pub record IsStartOverLedger {D M W : Type 0} (disk : Disk.Ghosts D) (marks_disk : Disk.Ghosts M)
-    (drain : Drain W) (host : List ℕ) (outbox : MarkedOutbox W M) (letters : List Letter)
-    (opened ledger : Ledger D) (poster : Outgoing (MarkedOutbox W M)) : Type 0 where
-  pub delivered : Delivered (marking_drain drain marks_disk) host outbox poster letters
-  pub limits_are : ledger.book.limits ≡ opened.book.limits
-  pub few : ledger.base + ledger.book.sealed < 2 ^ 63
-  pub all_sent : poster.unsent ≡ []
-  pub begins : (before : List Exchange) × BeginsWith (ledger_keeper disk) ledger before
-  pub begins_with : (long : List Exchange)
-      → IsLedgerInPlaceOf opened.book opened.base (recovered (disk.seen opened.journal.disk)) long
-      → BeginsWith (ledger_keeper disk) ledger (of_earlier_run long)
-  pub crash : (long : List Exchange)
-      → IsLedgerInPlaceOf opened.book opened.base (recovered (disk.seen opened.journal.disk)) long
-      → LeavesOnly disk opened.journal.disk ledger.journal.disk
-      (λ left. ReopensTo opened.book.limits left long)
 
 -- at each moment from one disk of marks to another a crash leaves what it might have left of the first,
 -- or the same records, or a file in which marks may be begun where there are none
@@ -209,27 +181,6 @@ pub data IsNoStart {D M W : Type 0} (disk : Disk.Ghosts D) (marks_disk : Disk.Gh
       last_marks
       → IsNoStart disk marks_disk drain host limits journal last marks last_marks outbox back code
 
--- and so of one whose ledger was opened, with these letters to post, by this poster
-pub data WhyNoStart {D : Type 0} (disk : Disk.Ghosts D) (opened : Ledger D) (failed : Bool)
-    (code : ℕ) : Type 0 where
-  of_outbox : failed ≡ true → code ≡ outbox_write_code → WhyNoStart disk opened failed code
-  of_journal : failed ≡ false → (cause : KeepError) → code ≡ keep_error_code cause
-      → cause ≢ Unsettled
-      → (cause ≡ not_kept_for.Journal Full → length (disk.seen opened.journal.disk)
-      < length (encoded (compacted opened.book opened.base [])))
-      → WhyNoStart disk opened failed code
-  of_letters : failed ≡ false → code ≡ journal_full_code
-      → base_limit ≤ opened.base + opened.book.sealed → WhyNoStart disk opened failed code
-
-pub record IsNoStartOverLedger {D M W : Type 0} (disk : Disk.Ghosts D) (marks_disk : Disk.Ghosts M)
-    (drain : Drain W) (host : List ℕ) (outbox : MarkedOutbox W M) (letters : List Letter)
-    (opened : Ledger D) (back : W) (last_marks : M) (code : ℕ) : Type 0 where
-  pub poster : Outgoing (MarkedOutbox W M)
-  pub delivered : Delivered (marking_drain drain marks_disk) host outbox poster letters
-  pub back_is : back ≡ poster.poster.outbox.outbox
-  pub last_marks_are : last_marks ≡ poster.poster.outbox.marks.journal.disk
-  pub why : WhyNoStart disk opened poster.poster.failed code
-
 -- a ledger that let its closed keys go, or couldn't, and then its disk. Where it did, the held keys are
 -- those whose log was open, and a crash leaves its history with all of the requests that let the others
 -- go; else its book is as it was. At each moment until then a crash leaves the history with the first of
@@ -254,16 +205,6 @@ pub record IsForgottenIn {D : Type 0} (disk : Disk.Ghosts D) (ledger : Ledger D)
   pub crash : (before : List Exchange) → HasKept disk ledger before []
       → MayCrash (ledger_keeper disk) ledger left ledger.book.limits before
       (lets_go ledger.book.entries)
-
--- a ledger and a poster that a run may begin with: the poster has posted what came before the run
-pub record MayRunOver {D M W : Type 0} (disk : Disk.Ghosts D) (marks_disk : Disk.Ghosts M)
-    (drain : Drain W) (ledger : Ledger D)
-    (poster : Outgoing (MarkedOutbox W M)) : Type 0 where
-  pub few : ledger.base + ledger.book.sealed < 2 ^ 63
-  pub all_sent : poster.unsent ≡ []
-  pub begins : (before : List Exchange) × BeginsWith (ledger_keeper disk) ledger before
-  pub from : PostedBefore (MarkedOutbox W M)
-  pub posted : IsPostedBy (marking_drain drain marks_disk) from poster
 
 module _ {D M P S W N : Type 0} (disk : Disk.Ghosts D) (marks_disk : Disk.Ghosts M)
     (reached : ℕ → Type 0) (port : Port P S) (drain : Drain W) (notes_device : Drain N)

@@ -13,7 +13,7 @@ use Rattle.dsn_device.specs.declared.drain.Drain.{Ghosts as Drain}
 use Rattle.dsn_outcome.specs.History.{Exchange, Limits, history_of}
 use Rattle.dsn_outcome.specs.Letter.{Letter}
 use Rattle.noticed_lib.specs.notes.OpenLogs.{AreOpenLines}
-use Rattle.noticed_lib.specs.daemon.AgentLines.{account_lines, number_lines, port_fault, run_lines}
+use Rattle.noticed_lib.specs.daemon.AgentLines.{account_lines, number_lines, port_fault}
 use Rattle.noticed_lib.specs.daemon.SocketUses.{socket_port}
 use Rattle.noticed_lib.specs.declared.daemon.serve_end.ServeEnd.{ServeEnd}
 
@@ -26,18 +26,6 @@ run_status lost agents whole logs =
 abbrev pub account_status : {W B : Type 0} → Bool → Account W B → Option (List OpenLine) → ℕ
 account_status lost account logs =
     run_status lost account.agents account.whole logs
-
--- what these agents did, whether the outbox is whole, and these letters, was written to the notes, with
--- the logs that this history leaves open: each line, up to one that could not be written
-pub record WritesRun {N : Type 0} (notes_device : Drain N) (history : List Exchange)
-    (agents : List AgentLine) (whole : Bool) (unsent : List Letter) (notes later : N)
-    (status : ℕ) : Type 0 where
-  pub logs : Option (List OpenLine)
-  pub logs_are : AreOpenLines history logs
-  pub lost : Bool
-  pub noted : WritesUntilFailure notes_device false lost notes later
-      (run_lines agents whole unsent logs)
-  pub status_is : status ≡ run_status lost agents whole logs
 
 module _ {W N : Type 0} (notes_device : Drain N) where
   -- a run with this history and account was written to the notes: each line, up to one that could not

@@ -1,5 +1,5 @@
 -- Uses: how much a port over a socket gives, of which so many uses are left.
-use Rattle.std.specs.Prelude.{◌≡◌, ℕ, ◌+◌, ◌≤◌, ◌⊎◌, Bool, true, false, List, length, filter, None}
+use Rattle.std.specs.Prelude.{◌≡◌, ℕ, ◌≤◌, ◌⊎◌, Bool, true, false, List, length, filter, None}
 use Rattle.std.specs.List.{list_any}
 use Rattle.dsn_crew.specs.agents.Port.{Given, connection, done, failed}
 use Rattle.dsn_crew.specs.declared.agents.port.Port.{Ghosts as Port}
@@ -24,13 +24,6 @@ uses_in given = length (filter is_use given)
 pub record IsWithin (may_end : Type 0) (uses : ℕ) (given : List Given) : Type 0 where
   pub few : uses_in given ≤ uses
   pub used_up : list_any is_done given ≡ true → (uses_in given ≡ uses) ⊎ may_end
-
--- one answer of a port, by its uses before and after: with none left it is done. Else there is one
--- use fewer, and it is done only where its watch may end the run
-abbrev pub UsesOne : Type 0 → ℕ → ℕ → Given → Type 0
-UsesOne may_end uses left connection = uses ≡ left + 1
-UsesOne may_end uses left failed = uses ≡ left + 1
-UsesOne may_end uses left done = ((uses ≡ 0) × (left ≡ 0)) ⊎ ((uses ≡ left + 1) × may_end)
 
 -- a port over a socket, of which nothing is seen but its uses: it doesn't tell what comes
 -- the contract of `serve` speaks of these, one for each agent, since its ports are private

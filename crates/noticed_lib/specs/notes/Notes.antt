@@ -11,26 +11,6 @@ use Rattle.dsn_book.specs.declared.open_line.OpenLine.{OpenLine}
 use Rattle.dsn_frame.specs.declared.bodies.spoken.Spoken.{Spoken}
 use Rattle.dsn_frame.specs.declared.bodies.spoken.Spoken.TheVariants as spoken
 
--- how many bytes stand before a reply in its line at most: 20 digits of a place, and a space
-abbrev pub longest_place : ℕ
-longest_place = 21
-
--- how many bytes stand before the number of a reply at most
-abbrev pub longest_counted : ℕ
-longest_counted = 10
-
--- how many bytes a reply in words has at most: those before its number, and 20 digits
-abbrev pub longest_reply : ℕ
-longest_reply = 30
-
--- how many bytes stand before a key in its line at most
-abbrev pub longest_key_start : ℕ
-longest_key_start = 10
-
--- how many bytes a key in words has at most: a letter, a space, and a queue id of 32
-abbrev pub longest_key : ℕ
-longest_key = 34
-
 -- a reply in words; the number is a place or a count
 unfoldable pub reply_words : Reply → List ℕ
 reply_words (Logged place) = codes "logged " ++ decimal place

@@ -1,9 +1,9 @@
 //! Reading an input to its end, one frame after another.
 ghost use Rattle.std.specs.Prelude.{◌≡◌, ℕ, [], List, Option};
 ghost use Rattle.dsn_outcome.specs.History.{Limits};
-ghost use Rattle.noticed_lib.specs.batch_run.Reading.{Heard};
+ghost use Rattle.noticed_lib.specs.inner.Reading.{Heard};
 ghost use Rattle.noticed_lib.specs.batch_run.Requests.{requests_of};
-ghost use Rattle.noticed_lib.specs.batch_run.Run.{Stands};
+ghost use Rattle.noticed_lib.specs.inner.Run.{Stands};
 
 use crate::batch_run::reading_end::ReadingEnd;
 use crate::batch_run::run::Run;

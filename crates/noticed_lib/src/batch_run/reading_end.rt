@@ -1,6 +1,6 @@
 //! How the reading of an input ends.
 ghost use Rattle.std.specs.Prelude.{◌≡◌};
-ghost use Rattle.noticed_lib.specs.batch_run.ReadingEnd.{is_notes_lost, reading_code};
+ghost use Rattle.noticed_lib.specs.inner.ReadingEnd.{is_notes_lost, reading_code};
 
 use dsn_frame::FrameFault;
 use dsn_text::fault_code;

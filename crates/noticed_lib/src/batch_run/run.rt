@@ -2,7 +2,7 @@
 ghost use Rattle.std.specs.Prelude.{◌≡◌, ℕ, ◌+◌, ◌<◌, ◌≤◌, List, length, Option};
 ghost use Rattle.dsn_outcome.specs.History.{Limits};
 ghost use Rattle.dsn_outcome.specs.Body.{body_of};
-ghost use Rattle.noticed_lib.specs.batch_run.Run.{Stands, Asks, Answered, most_accepted};
+ghost use Rattle.noticed_lib.specs.inner.Run.{Stands, Asks, Answered, most_accepted};
 
 use crate::batch_run::turn::Turn;
 use dsn_book::{Book, Step};

@@ -6,8 +6,8 @@ ghost use Rattle.dsn_book.specs.Book.{Represents};
 ghost use Rattle.dsn_outcome.specs.History;
 ghost use Rattle.dsn_outcome.specs.Letter.{Letter};
 ghost use Rattle.noticed_lib.specs.batch_run.Batch.{IsBatch};
-ghost use Rattle.noticed_lib.specs.batch_run.Harvest.{Harvested, Ended};
-ghost use Rattle.noticed_lib.specs.batch_run.ReadingEnd.{reading_code};
+ghost use Rattle.noticed_lib.specs.inner.Harvest.{Harvested, Ended};
+ghost use Rattle.noticed_lib.specs.inner.ReadingEnd.{reading_code};
 ghost use Rattle.dsn_report.specs.Outgoing.{Delivered};
 
 use crate::batch_run::batch_end::BatchEnd;

@@ -8,7 +8,8 @@ ghost use Rattle.dsn_journal.specs.Moments.{LeavesOnly};
 ghost use Rattle.dsn_journal.specs.OpenLedger.{AwaitsRequests};
 ghost use Rattle.dsn_journal.specs.Posting.{AreToPost};
 ghost use Rattle.dsn_journal.specs.Records.{recovered};
-ghost use Rattle.noticed_lib.specs.daemon.Journaled.{BeginsAnew, IsNoStart, IsNoStartOverLedger, IsStartOver, IsStartOverLedger, LeavesStart};
+ghost use Rattle.noticed_lib.specs.inner.Daemon.{BeginsAnew, IsNoStartOverLedger, IsStartOverLedger};
+ghost use Rattle.noticed_lib.specs.daemon.Journaled.{IsNoStart, IsStartOver, LeavesStart};
 
 use crate::daemon::journal_folder::JournalFolder;
 use dsn_book::Limits;

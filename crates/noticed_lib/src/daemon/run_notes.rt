@@ -7,7 +7,8 @@ ghost use Rattle.dsn_outcome.specs.History.{Exchange};
 ghost use Rattle.dsn_journal.specs.OpenLedger.{AwaitsRequests};
 ghost use Rattle.noticed_lib.specs.daemon.AgentLines.{agent_lines, port_fault};
 ghost use Rattle.noticed_lib.specs.daemon.Journaled.{IsForgottenIn};
-ghost use Rattle.noticed_lib.specs.daemon.Serve.{WritesAccount, WritesNumber, WritesRun};
+ghost use Rattle.noticed_lib.specs.daemon.Serve.{WritesAccount, WritesNumber};
+ghost use Rattle.noticed_lib.specs.inner.Daemon.{WritesRun};
 
 use crate::daemon::agent_lines::agent_line;
 use crate::daemon::journaled_end::JournaledEnd;

@@ -1,6 +1,7 @@
 //! The run of the daemon over a journal.
 ghost use Rattle.std.specs.Prelude.{◌≡◌, true, All, IfSome, is_some};
-ghost use Rattle.noticed_lib.specs.daemon.Journaled.{IsRunOver, IsServeOver, MayRunOver};
+ghost use Rattle.noticed_lib.specs.daemon.Journaled.{IsRunOver, IsServeOver};
+ghost use Rattle.noticed_lib.specs.inner.Daemon.{MayRunOver};
 
 use crate::daemon::journal_folder::JournalFolder;
 use crate::daemon::journal_start::{JournalStart, NotStarted, start_over};

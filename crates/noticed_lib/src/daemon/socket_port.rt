@@ -1,7 +1,8 @@
 //! A port over a listening socket.
 ghost use Rattle.std.specs.Prelude.{◌≡◌, true, None};
 ghost use Rattle.dsn_crew.specs.agents.Port.{GivesFirst, done, given_of};
-ghost use Rattle.noticed_lib.specs.daemon.SocketUses.{IsWithin, UsesOne};
+ghost use Rattle.noticed_lib.specs.daemon.SocketUses.{IsWithin};
+ghost use Rattle.noticed_lib.specs.inner.Daemon.{UsesOne};
 
 use crate::daemon::watch::Watch;
 use crate::daemon::watched_connection::WatchedConnection;

@@ -1,9 +1,9 @@
 //! The files of a journal's folder, opened over copies of their bytes.
 ghost use Rattle.std.specs.Prelude.{◌≡◌, IfErr, IfOk};
 ghost use Rattle.dsn_device.specs.Failures.{counted};
-ghost use Rattle.dsn_journal.specs.LedgerError.{has_disk_failed};
-ghost use Rattle.dsn_journal.specs.MarksError.{has_finding_failed};
-ghost use Rattle.noticed_lib.specs.listing.CopiedFolder.{IsOpenedCopy};
+ghost use Rattle.dsn_journal.specs.inner.Failures.{has_disk_failed};
+ghost use Rattle.dsn_journal.specs.inner.Failures.{has_finding_failed};
+ghost use Rattle.noticed_lib.specs.inner.CopiedFolder.{IsOpenedCopy};
 ghost use Rattle.noticed_lib.specs.listing.Folder.{AreMarksRefusedFor, HaveMark, IsJournalRefusedFor, IsOnlyRead};
 
 use crate::listing::copied_disk::CopiedDisk;

@@ -2,7 +2,7 @@
 ghost use Rattle.std.specs.Prelude.{◌≡◌, ◌+◌, IfErr, is_err, false, length};
 ghost use Rattle.dsn_device.specs.Failures.{counted};
 ghost use Rattle.dsn_device.specs.UntilFailure.{WritesUntilFailure, WrittenAndFlushed};
-ghost use Rattle.noticed_lib.specs.listing.CopiedDisk.{copied_seen};
+ghost use Rattle.noticed_lib.specs.inner.CopiedFolder.{copied_seen};
 ghost use Rattle.noticed_lib.specs.listing.ListingLines.{bytes_line, closed_lines, last_lines, listing_lines, sealed_line, unmarked_line, unmarked_lines};
 
 use crate::listing::copied_disk::CopiedDisk;

@@ -2,7 +2,7 @@
 #![tactic(auto, unfolding(crate::specs::notes::Notes::answer_line, crate::specs::notes::Notes::fault_line, crate::specs::notes::Notes::unsent_line, crate::specs::notes::Notes::key_words, crate::specs::notes::Notes::open_line, crate::specs::notes::Notes::reply_words, crate::specs::notes::Notes::spoken_words))]
 
 ghost use Rattle.std.specs.Prelude.{◌≡◌, ◌+◌, ◌≤◌, ◌++◌, length, decimal};
-ghost use Rattle.noticed_lib.specs.notes.Notes.{longest_counted, longest_key, longest_key_start, longest_place, longest_reply};
+ghost use Rattle.noticed_lib.specs.inner.NotedAnswers.{longest_counted, longest_key, longest_key_start, longest_place, longest_reply};
 ghost use Rattle.noticed_lib.specs.notes.Notes.{answer_line, fault_line, unsent_line, open_line, key_words, reply_words, spoken_words};
 
 use dsn_book::OpenLine;

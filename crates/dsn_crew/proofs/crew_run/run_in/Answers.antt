@@ -3,7 +3,8 @@ use Rattle.std.proofs.Common.{rules, ℕ, ap, sym, ◌∙◌, subst, arith}
 use Rattle.dsn_crew.specs.lane.Halves.{Identity}
 use Rattle.dsn_crew.specs.post.LetterSink.{LetterSink}
 use Rattle.dsn_crew.specs.post.Parcel.{Parcel}
-use Rattle.dsn_crew.specs.post.Posting.{IsPosted, Posts}
+use Rattle.dsn_crew.specs.inner.Posting.{IsPosted}
+use Rattle.dsn_crew.specs.post.Posting.{Posts}
 use Rattle.dsn_crew.proofs.CrewLemmas.{account_is, begins, collected_lane, crash_at_end, crash_at_fault, ends_length, fault_is, handles_length, left_few, may_close, may_miss, missing_few, never_begun, never_begun_with, never_crashed, never_more, no_count, sealed_few}
 use Rattle.dsn_crew.specs.declared.crew_cause.CrewCause.TheVariants as causes
 use Rattle.dsn_crew.proofs.crew_run.run_in.Goals as goal

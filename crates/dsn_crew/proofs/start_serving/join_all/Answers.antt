@@ -1,7 +1,7 @@
 -- What comes of a thread is added at the end.
 use Rattle.std.proofs.Common.{rules, ap, ◌∙◌, length, length-append, ◌∷◌, [], arith}
 use Rattle.std.specs.List.{AllZip}
-use Rattle.dsn_crew.specs.StartServing.{IsJoined}
+use Rattle.dsn_crew.specs.inner.StartServing.{IsJoined}
 use Rattle.dsn_crew.proofs.StartServingLemmas.{completes-more, completes-all, pairs-more, pairs-end}
 use Rattle.dsn_crew.proofs.start_serving.join_all.Goals as goal
 

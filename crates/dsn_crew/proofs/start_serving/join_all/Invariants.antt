@@ -2,7 +2,7 @@
 use Rattle.std.proofs.Common.{◌+◌, ◌≤◌, length, vec_capacity}
 use Rattle.std.specs.List.{AllZip}
 use Rattle.std.specs.Vec.Iter.{into_iter_items}
-use Rattle.dsn_crew.specs.StartServing.{IsJoined}
+use Rattle.dsn_crew.specs.inner.StartServing.{IsJoined}
 use Rattle.dsn_crew.proofs.StartServingLemmas.{Completes}
 use Rattle.dsn_crew.proofs.start_serving.join_all.Given as goal
 

@@ -2,7 +2,7 @@ use Rattle.std.proofs.Common.{◌≡◌, ◌∙◌, true, sym, arith}
 use Rattle.std.specs.Prelude.{nat_lt}
 use Rattle.std.specs.BTreeSet as sorted
 use Rattle.dsn_postfix_files.specs.LogRecord.{logged_fields_in}
-use Rattle.dsn_postfix.specs.RecipientSet.{outcome_cmp}
+use Rattle.dsn_postfix.specs.inner.RecipientSet.{outcome_cmp}
 use Rattle.dsn_postfix.proofs.RecipientSetLemmas.{no-place, one_outcome_more, twice_not}
 use Rattle.dsn_postfix.proofs.recipient_set.is_outcome_again.Goals as goal
 

@@ -3,7 +3,7 @@ use Rattle.std.proofs.Common.{◌≡◌, ◌≤◌, drop, length, map, reverse}
 use Rattle.dsn_postfix_files.specs.LogRecord.{logged_fields_in}
 use Rattle.dsn_postfix.specs.NoticePlan.{last_of_each}
 use Rattle.dsn_postfix_files.specs.QueueRecipients.{recipient_facts_in}
-use Rattle.dsn_postfix.specs.RecipientSet.{HasOutcomes}
+use Rattle.dsn_postfix.specs.inner.RecipientSet.{HasOutcomes}
 use Rattle.dsn_postfix.proofs.ToldLemmas.{wanted_in}
 use Rattle.dsn_postfix.proofs.told_recipients.told_of.Given as goal
 

@@ -1,5 +1,6 @@
 use Rattle.std.proofs.Common.{◌≡◌, ◌++◌, ◌-◌, ◌<◌, ◌≤◌, Bool, true, false, List, ℕ, arith, length, refl, subst, sym, take}
-use Rattle.dsn_postfix_files.specs.MessageText.{TextLeft, is_of_text, message_text, text_of_record}
+use Rattle.dsn_postfix_files.specs.inner.QueueReading.{TextLeft}
+use Rattle.dsn_postfix_files.specs.MessageText.{is_of_text, message_text, text_of_record}
 use Rattle.dsn_postfix_files.specs.QueueListing.{BrokenOff, WholeFile}
 use Rattle.dsn_postfix_files.specs.QueueRecord.{placed_bytes_in}
 use Rattle.dsn_postfix_files.specs.QueueWalk.{QueuePlace}

@@ -1,6 +1,6 @@
 -- Whatever the text is, it is what was read so far with what later records have; and that is no more than the limit.
 use Rattle.std.proofs.Common.{◌≤◌, length, List, ℕ, [], false}
-use Rattle.dsn_postfix_files.specs.MessageText.{TextLeft}
+use Rattle.dsn_postfix_files.specs.inner.QueueReading.{TextLeft}
 use Rattle.dsn_postfix_files.specs.QueueListing.{QueueEnding}
 use Rattle.dsn_postfix_files.specs.QueueWalk.{first_place, steps_left}
 use Rattle.dsn_postfix_files.proofs.message_text.text_of_message.Given as goal

@@ -1,8 +1,8 @@
 -- The lines so far begin with something else.
 use Rattle.std.proofs.Common.{◌≡◌}
 use Rattle.std.specs.List.{list_any}
-use Rattle.dsn_report.specs.Boundary.{is_dashed}
-use Rattle.dsn_report.specs.ReturnedLines.{lines_left, taken_lines}
+use Rattle.dsn_report.specs.inner.Boundary.{is_dashed}
+use Rattle.dsn_report.specs.inner.NoticeLines.{lines_left, taken_lines}
 use Rattle.dsn_report.proofs.boundary_number.has_dashed_line.Given as goal
 
 abbrev pub invariant-loop-line : goal.invariant-loop-line

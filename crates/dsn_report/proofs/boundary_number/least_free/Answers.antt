@@ -1,7 +1,7 @@
 use Rattle.std.proofs.Common.{◌≤◌, ◌∙◌, length, subst, sym, rules}
 use Rattle.dsn_report.proofs.BoundaryLaw.{some-free}
 use Rattle.dsn_report.proofs.BoundaryLemmas.{IsBoundaryNumber-first, all-ruled_out}
-use Rattle.dsn_report.specs.ReturnedLines.{lines_shown}
+use Rattle.dsn_report.specs.inner.NoticeLines.{lines_shown}
 use Rattle.dsn_report.proofs.boundary_number.least_free.Goals as goal
 
 pub unreachable-requires : goal.unreachable-requires

@@ -8,7 +8,7 @@ use Rattle.dsn_report.proofs.BlockLemmas.{block-line, block-none}
 use Rattle.dsn_report.proofs.ExtensionLemmas.{extension_lines-pass, extension-no_dot}
 use Rattle.dsn_report.proofs.LineWriterLemmas.{Wrote-as, Wrote-none, Wrote-then}
 use Rattle.dsn_report.proofs.PlainLemmas.{and-parts}
-use Rattle.dsn_report.specs.ExtensionLines.{extensions_left}
+use Rattle.dsn_report.specs.inner.NoticeLines.{extensions_left}
 use Rattle.dsn_report.proofs.notice_lines.write_extensions.Goals as goal
 
 pub returns-then-is_empty : goal.returns-then-is_empty

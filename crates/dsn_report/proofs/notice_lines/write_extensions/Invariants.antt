@@ -2,8 +2,8 @@
 use Rattle.std.proofs.Common.{◌≡◌, true}
 use Rattle.std.specs.List.{list_all}
 use Rattle.dsn_text.specs.Extension.{lines_ended_by_lf, is_extension_line}
-use Rattle.dsn_report.specs.ExtensionLines.{extensions_left}
-use Rattle.dsn_report.specs.LineWriter.{Wrote}
+use Rattle.dsn_report.specs.inner.NoticeLines.{extensions_left}
+use Rattle.dsn_report.specs.inner.LineWriter.{Wrote}
 use Rattle.dsn_report.proofs.notice_lines.write_extensions.Given as goal
 
 abbrev pub invariant-loop-line : goal.invariant-loop-line

@@ -1,7 +1,7 @@
 -- Whoever writes what is left has written all.
 use Rattle.std.specs.List.{flat_map}
 use Rattle.dsn_outcome.specs.Outcomes.{outcomes_left}
-use Rattle.dsn_report.specs.LineWriter.{Wrote}
+use Rattle.dsn_report.specs.inner.LineWriter.{Wrote}
 use Rattle.dsn_report.specs.DeliveryStatus.{recipient_group}
 use Rattle.dsn_report.proofs.notice_lines.write_groups.Given as goal
 

@@ -1,6 +1,6 @@
 use Rattle.std.proofs.Common.{refl, rules, sym, ap, map}
 use Rattle.dsn_report.proofs.LineWriterLemmas.{Wrote-as, Wrote-none, Wrote-then}
-use Rattle.dsn_report.specs.ReturnedLines.{line_shown}
+use Rattle.dsn_report.specs.inner.NoticeLines.{line_shown}
 use Rattle.dsn_report.proofs.notice_lines.write_returned_lines.Goals as goal
 
 pub loop-line-init : goal.loop-line-init

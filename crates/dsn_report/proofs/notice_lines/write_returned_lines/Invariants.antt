@@ -1,7 +1,7 @@
 -- Whoever writes what is left has written all.
 use Rattle.std.proofs.Common.{◌≡◌, map, length}
-use Rattle.dsn_report.specs.ReturnedLines.{line_shown, lines_left, lines_shown}
-use Rattle.dsn_report.specs.LineWriter.{Wrote}
+use Rattle.dsn_report.specs.inner.NoticeLines.{line_shown, lines_left, lines_shown}
+use Rattle.dsn_report.specs.inner.LineWriter.{Wrote}
 use Rattle.dsn_report.proofs.notice_lines.write_returned_lines.Given as goal
 
 abbrev pub invariant-loop-line : goal.invariant-loop-line

@@ -4,8 +4,8 @@ use Rattle.dsn_report.proofs.BlockLemmas.{block-empty, block-none}
 use Rattle.dsn_report.proofs.HeaderLemmas.{returned_part-none, returned_part-some}
 use Rattle.dsn_report.proofs.LineWriterLemmas.{Wrote-as, Wrote-then}
 use Rattle.dsn_report.specs.Notice.{part_header, part_of, returned_description, returned_type}
-use Rattle.dsn_report.specs.NoticeWording.{words_in}
-use Rattle.dsn_report.specs.ReturnedLines.{lines_shown}
+use Rattle.dsn_report.specs.inner.NoticeLines.{words_in}
+use Rattle.dsn_report.specs.inner.NoticeLines.{lines_shown}
 use Rattle.dsn_report.proofs.notice_lines.write_returned_part.Goals as goal
 
 pub returns-then-is_empty : goal.returns-then-is_empty

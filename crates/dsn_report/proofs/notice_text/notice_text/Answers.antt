@@ -3,7 +3,7 @@ use Rattle.dsn_device.specs.Plain.{Plain}
 use Rattle.dsn_device.specs.QuietWriter.{QuietWriter}
 use Rattle.dsn_device.proofs.UntilFailureLemmas.{writes-whole}
 use Rattle.dsn_report.proofs.LineWriterLemmas.{Took-as, Took-then, settled-text}
-use Rattle.dsn_report.specs.LineWriter.{lines_sent}
+use Rattle.dsn_report.specs.inner.LineWriter.{lines_sent}
 use Rattle.dsn_report.specs.Lines.{text_of_lines}
 use Rattle.dsn_report.specs.Notice.{notice_lines}
 use Rattle.dsn_report.proofs.notice_text.notice_text.Goals as goal

@@ -1,6 +1,6 @@
 use Rattle.std.proofs.Common.{◌≡◌, ◌∙◌, ◌+◌, ◌∷◌, ap, length, subst, take, map, arith, rules}
 use Rattle.std.proofs.lemmas.List.{length-take-le, take_more_set}
-use Rattle.dsn_report.specs.ReturnedLines.{byte_shown}
+use Rattle.dsn_report.specs.inner.NoticeLines.{byte_shown}
 use Rattle.dsn_report.proofs.HeaderLemmas.{shown-whole}
 use Rattle.dsn_report.proofs.returned_lines.show_line.Goals as goal
 

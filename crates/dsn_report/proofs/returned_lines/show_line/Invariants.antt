@@ -1,6 +1,6 @@
 -- The bytes so far are shown.
 use Rattle.std.proofs.Common.{◌≡◌, ◌+◌, ◌∷◌, take, map, length}
-use Rattle.dsn_report.specs.ReturnedLines.{byte_shown}
+use Rattle.dsn_report.specs.inner.NoticeLines.{byte_shown}
 use Rattle.dsn_report.proofs.returned_lines.show_line.Given as goal
 
 abbrev pub invariant-loop-index : goal.invariant-loop-index

@@ -3,7 +3,7 @@ use Rattle.std.proofs.Common.{◌≡◌}
 use Rattle.std.specs.List.{list_all}
 use Rattle.std.specs.Str.Lines.{lines}
 use Rattle.dsn_report.specs.LegalLines.{is_mail_line}
-use Rattle.dsn_report.specs.ReturnedLines.{lines_left}
+use Rattle.dsn_report.specs.inner.NoticeLines.{lines_left}
 use Rattle.dsn_report.proofs.returned_text.stands_whole.Given as goal
 
 abbrev pub invariant-loop-line : goal.invariant-loop-line

@@ -4,7 +4,7 @@ use Rattle.std.proofs.lemmas.Bool.{false_from_ne_true}
 use Rattle.std.proofs.lemmas.List.{get_or-replicate, length-set}
 use Rattle.dsn_report.specs.Boundary.{four_digits, is_delimiter}
 use Rattle.dsn_report.proofs.HeaderLemmas.{line-behind}
-use Rattle.dsn_report.specs.ReturnedLines.{line_shown, lines_left, lines_shown, taken_lines}
+use Rattle.dsn_report.specs.inner.NoticeLines.{line_shown, lines_left, lines_shown, taken_lines}
 use Rattle.dsn_report.proofs.BoundaryLemmas.{IsMarked-none, IsMarked-some, delimiter-once}
 use Rattle.dsn_report.proofs.ruled_out_boundaries.numbers_ruled_out.Goals as goal
 

@@ -1,7 +1,7 @@
 -- The table has what the lines so far rule out.
 use Rattle.std.proofs.Common.{◌≡◌, length}
 use Rattle.dsn_report.proofs.BoundaryLemmas.{IsMarked}
-use Rattle.dsn_report.specs.ReturnedLines.{lines_left, lines_shown}
+use Rattle.dsn_report.specs.inner.NoticeLines.{lines_left, lines_shown}
 use Rattle.dsn_report.proofs.ruled_out_boundaries.numbers_ruled_out.Given as goal
 
 abbrev pub invariant-loop-line : goal.invariant-loop-line

@@ -2,7 +2,7 @@
 use Rattle.std.proofs.Common.{◌≡◌, ◌≤◌, ◌-◌, length, take}
 use Rattle.std.specs.Io.KnownBytes.{Consumes, Keeps}
 use Rattle.dsn_smtp.specs.Reply.{longest_server_reply}
-use Rattle.dsn_smtp.specs.ReplyPlace.{scan}
+use Rattle.dsn_smtp.specs.inner.ReplyPlace.{scan}
 use Rattle.dsn_smtp.specs.declared.reply_place.ReplyPlace.TheVariants.{Front}
 use Rattle.dsn_smtp.specs.declared.reply_place.ReplyScan.TheVariants.{Open}
 use Rattle.dsn_smtp.proofs.reply_buffer.read_into.Given as goal

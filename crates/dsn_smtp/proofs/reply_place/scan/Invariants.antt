@@ -1,6 +1,6 @@
 -- The bytes come to what those that are left come to from the place.
 use Rattle.std.proofs.Common.{◌≡◌, length}
-use Rattle.dsn_smtp.specs.ReplyPlace.{scan}
+use Rattle.dsn_smtp.specs.inner.ReplyPlace.{scan}
 use Rattle.dsn_smtp.specs.declared.reply_place.ReplyPlace.TheVariants.{Front}
 use Rattle.dsn_smtp.proofs.reply_place.scan.Given as goal
 

@@ -6,7 +6,8 @@ use Rattle.dsn_outcome.specs.History.{Exchange, answers_to}
 use Rattle.dsn_outcome.specs.declared.answer.Answer.{Answer}
 use Rattle.dsn_crew.specs.agents.Agent.{LaneHalves, IsFinished}
 use Rattle.dsn_crew.specs.agents.Place.{place_at, place_of}
-use Rattle.dsn_crew.specs.desk.Desk.{BeginsWith, history}
+use Rattle.dsn_crew.specs.KeeperHistory.{BeginsWith}
+use Rattle.dsn_crew.specs.desk.Desk.{history}
 use Rattle.dsn_crew.proofs.desk.CloseLemmas.{IsAnswered}
 use Rattle.dsn_crew.proofs.desk.close.close_crew.Given as goal
 

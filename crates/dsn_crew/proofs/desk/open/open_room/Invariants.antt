@@ -1,7 +1,8 @@
 -- So many agents stand ready, each with its lanes, and the halves of the others are left.
 use Rattle.std.proofs.Common.{◌≡◌, ◌-◌, ◌≤◌, length, map, vec_capacity}
 use Rattle.std.specs.Vec.Iter.{into_iter_items, into_iter_len}
-use Rattle.dsn_crew.specs.lane.Halves.{fresh_halves, lane_of}
+use Rattle.dsn_crew.specs.lane.Halves.{fresh_halves}
+use Rattle.dsn_crew.specs.inner.Halves.{lane_of}
 use Rattle.dsn_crew.specs.desk.Open.{AreLines, opened_agent}
 use Rattle.dsn_crew.proofs.desk.open.open_room.Given as goal
 

@@ -5,8 +5,9 @@ use Rattle.crossbeam_channel.specs.Ends.{sends_on, ruled_capacity}
 use Rattle.std.specs.Vec.Iter.{into_iter_items}
 use Rattle.dsn_crew.proofs.lane.CloseLemmas.{all_joined, few_more, joined_more, joined_takes, total_more}
 use Rattle.dsn_crew.proofs.lane.RuleLemmas.{joins, settles}
-use Rattle.dsn_crew.specs.lane.Halves.{Half, lane_at, sending_of}
-use Rattle.dsn_crew.specs.lane.Step.{IsLaneSettled}
+use Rattle.dsn_crew.specs.lane.Halves.{Half}
+use Rattle.dsn_crew.specs.inner.Halves.{lane_at, sending_of}
+use Rattle.dsn_crew.specs.inner.Step.{IsLaneSettled}
 use Rattle.dsn_crew.specs.declared.lane.lane_knowledge.LaneKnowledge.{LaneKnowledge}
 use Rattle.dsn_crew.specs.declared.lane.lane_knowledge.LaneKnowledge.TheVariants.{Sends}
 use Rattle.dsn_crew.proofs.lane.close.take_all_back.Goals as goal

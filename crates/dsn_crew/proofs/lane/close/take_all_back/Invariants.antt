@@ -5,7 +5,8 @@ use Rattle.std.specs.Vec.Iter.{into_iter_items, into_iter_len}
 use Rattle.crossbeam_channel.specs.Claims.{view, IsSeatAt}
 use Rattle.crossbeam_channel.specs.Ends.{sends_on}
 use Rattle.dsn_crew.specs.declared.lane.lane_knowledge.LaneKnowledge.TheVariants.{Takes}
-use Rattle.dsn_crew.specs.lane.Halves.{Half, capacity_of, lane_at, taking}
+use Rattle.dsn_crew.specs.lane.Halves.{Half}
+use Rattle.dsn_crew.specs.inner.Halves.{capacity_of, lane_at, taking}
 use Rattle.dsn_crew.proofs.lane.CloseLemmas.{after_joins}
 use Rattle.dsn_crew.proofs.lane.close.take_all_back.Given as goal
 

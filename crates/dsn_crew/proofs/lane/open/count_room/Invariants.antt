@@ -2,7 +2,7 @@
 use Rattle.std.proofs.Common.{◌≡◌}
 use Rattle.crossbeam_channel.specs.Claims.{view, IsSeatAt}
 use Rattle.crossbeam_channel.specs.Ends.{sends_on}
-use Rattle.dsn_crew.specs.lane.Halves.{passed_over}
+use Rattle.dsn_crew.specs.inner.Halves.{passed_over}
 use Rattle.dsn_crew.proofs.lane.open.count_room.Given as goal
 
 abbrev pub invariant-loop : goal.invariant-loop

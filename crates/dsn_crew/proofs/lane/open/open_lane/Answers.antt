@@ -1,7 +1,8 @@
 -- A lane with nothing in it meets the rule, and each agent's half is split off in its turn.
 use Rattle.std.proofs.Common.{rules, ◌≡◌, ◌+◌, ℕ, [], ap, subst, sym, ◌∙◌}
 use Rattle.dsn_crew.proofs.LaneHalfLemmas.{new_out, new_receiving}
-use Rattle.dsn_crew.specs.lane.Halves.{Out, lane_of}
+use Rattle.dsn_crew.specs.lane.Halves.{Out}
+use Rattle.dsn_crew.specs.inner.Halves.{lane_of}
 use Rattle.dsn_crew.proofs.lane.open.open_lane.Goals as goal
 
 pub new-requires-clause-kept : goal.new-requires-clause-kept

@@ -3,7 +3,8 @@ use Rattle.std.proofs.Common.{◌≡◌, ◌+◌, ◌≤◌, [], vec_capacity, v
 use Rattle.crossbeam_channel.specs.Claims.{view, IsSeatAt}
 use Rattle.crossbeam_channel.specs.Ends.{sends_on, ruled_capacity}
 use Rattle.dsn_crew.specs.declared.lane.lane_knowledge.LaneKnowledge.TheVariants.{Takes}
-use Rattle.dsn_crew.specs.lane.Halves.{fresh, fresh_halves, lane_at}
+use Rattle.dsn_crew.specs.inner.Halves.{fresh, lane_at}
+use Rattle.dsn_crew.specs.lane.Halves.{fresh_halves}
 use Rattle.dsn_crew.proofs.lane.open.open_lane.Given as goal
 
 abbrev pub invariant-loop : goal.invariant-loop

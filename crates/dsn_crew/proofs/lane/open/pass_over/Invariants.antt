@@ -2,7 +2,7 @@
 use Rattle.std.proofs.Common.{◌≡◌}
 use Rattle.crossbeam_channel.specs.Claims.{view, IsSeatAt}
 use Rattle.crossbeam_channel.specs.Ends.{sends_on}
-use Rattle.dsn_crew.specs.lane.Halves.{capacity_of, passed_over}
+use Rattle.dsn_crew.specs.inner.Halves.{capacity_of, passed_over}
 use Rattle.dsn_crew.proofs.lane.open.pass_over.Given as goal
 
 abbrev pub invariant-loop : goal.invariant-loop

@@ -1,7 +1,7 @@
 use Rattle.std.proofs.Common.{◌≡◌, None, ap, arith}
 use Rattle.std.proofs.lemmas.Grind.{common_steps}
 use Rattle.dsn_outcome.specs.Body.{body_of}
-use Rattle.dsn_frame.specs.bodies.BodyParts.{wire_body_in}
+use Rattle.dsn_frame.specs.inner.BodyParts.{wire_body_in}
 use Rattle.dsn_frame.specs.bodies.Request.{first_field_fault}
 use Rattle.dsn_frame.specs.bodies.Wire.{Head, head_of}
 use Rattle.dsn_frame.proofs.bodies.RequestLaws.{encoded_no_goodbye, whole_encodes}

@@ -1,7 +1,7 @@
 use Rattle.std.proofs.Common.{◌≡◌, ◌&&◌, true, nat_le, rules, arith}
 use Rattle.std.proofs.lemmas.Grind.{common_steps}
 use Rattle.dsn_text.specs.Stamp.{last_moment}
-use Rattle.dsn_frame.specs.bodies.BodyParts.{flush_fields_in, wish_fields_in}
+use Rattle.dsn_frame.specs.inner.BodyParts.{flush_fields_in, wish_fields_in}
 use Rattle.dsn_frame.proofs.bodies.EncodingLaws.{draft_refused}
 use Rattle.dsn_frame.proofs.bodies.decode.draft_from.Goals as goal
 

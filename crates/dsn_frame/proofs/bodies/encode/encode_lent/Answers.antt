@@ -1,6 +1,6 @@
 use Rattle.std.proofs.Common.{arith}
 use Rattle.dsn_outcome.specs.Body.{body_lent}
-use Rattle.dsn_frame.specs.bodies.BodyParts.{wire_body_in}
+use Rattle.dsn_frame.specs.inner.BodyParts.{wire_body_in}
 use Rattle.dsn_frame.specs.bodies.Request.{request_body}
 use Rattle.dsn_frame.proofs.bodies.EncodingLaws.{written_fits}
 use Rattle.dsn_frame.proofs.bodies.encode.encode_lent.Goals as goal

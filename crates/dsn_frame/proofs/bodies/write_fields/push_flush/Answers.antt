@@ -1,5 +1,5 @@
 use Rattle.std.proofs.Common.{arith}
-use Rattle.dsn_frame.specs.bodies.BodyParts.{flush_fields_in}
+use Rattle.dsn_frame.specs.inner.BodyParts.{flush_fields_in}
 use Rattle.dsn_frame.proofs.bodies.EncodingLaws.{flush_length}
 use Rattle.dsn_frame.proofs.bodies.write_fields.push_flush.Goals as goal
 

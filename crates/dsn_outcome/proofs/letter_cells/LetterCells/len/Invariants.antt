@@ -1,5 +1,5 @@
 use Rattle.std.proofs.Common.{◌≡◌, ◌+◌, ◌≤◌, length, min}
-use Rattle.dsn_outcome.specs.LetterCell.{letters_linked}
+use Rattle.dsn_outcome.specs.inner.LetterCell.{letters_linked}
 use Rattle.dsn_outcome.specs.Letter.{most_counted}
 use Rattle.dsn_outcome.proofs.letter_cells.LetterCells.len.Given as goal
 

@@ -1,6 +1,6 @@
 -- The bytes so far end no list, and leave reading at the place.
 use Rattle.std.proofs.Common.{◌≡◌, ◌≤◌, ◌-◌, length}
-use Rattle.dsn_postfix.specs.ListPlace.{further, step_over}
+use Rattle.dsn_postfix.specs.inner.ListPlace.{further, step_over}
 use Rattle.dsn_postfix.proofs.list_place.ListPlace.step_over.Given as goal
 
 abbrev pub invariant-loop-rest : goal.invariant-loop-rest

@@ -1,7 +1,8 @@
 use Rattle.std.proofs.Common.{List, ℕ, refl, subst, sym}
 use Rattle.std.specs.Borrow.{Bor}
 use Rattle.std.specs.Option.{option_map}
-use Rattle.dsn_postfix_files.specs.MessageFacts.{MessageLeft, SaidOfMessage, said_of_message}
+use Rattle.dsn_postfix_files.specs.inner.QueueReading.{MessageLeft}
+use Rattle.dsn_postfix_files.specs.MessageFacts.{SaidOfMessage, said_of_message}
 use Rattle.dsn_postfix_files.specs.QueueListing.{BrokenOff, WholeFile}
 use Rattle.dsn_postfix_files.specs.QueueRecord.{placed_bytes_in}
 use Rattle.dsn_postfix_files.specs.QueueWalk.{QueuePlace}

@@ -2,7 +2,8 @@
 use Rattle.std.proofs.Common.{◌≤◌, length, List, ℕ}
 use Rattle.std.specs.Borrow.{Bor}
 use Rattle.std.specs.Option.{option_map}
-use Rattle.dsn_postfix_files.specs.MessageFacts.{MessageLeft, SaidOfMessage, nothing_said}
+use Rattle.dsn_postfix_files.specs.inner.QueueReading.{MessageLeft, nothing_said}
+use Rattle.dsn_postfix_files.specs.MessageFacts.{SaidOfMessage}
 use Rattle.dsn_postfix_files.specs.QueueListing.{QueueEnding}
 use Rattle.dsn_postfix_files.specs.QueueWalk.{first_place, steps_left}
 use Rattle.dsn_postfix_files.proofs.message_facts.MessageFacts.read.Given as goal

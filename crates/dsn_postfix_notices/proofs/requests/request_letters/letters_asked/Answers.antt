@@ -13,7 +13,8 @@ use Rattle.dsn_postfix_files.specs.QueueListing.{RecordsFrom}
 use Rattle.dsn_postfix_files.specs.QueueRecipients.{recipient_facts_in, recipients_of}
 use Rattle.dsn_postfix_files.specs.QueueWalk.{first_place}
 use Rattle.dsn_postfix_notices.specs.letters.ReportedMessage.{MessageSaid}
-use Rattle.dsn_postfix_notices.specs.requests.RequestLetters.{AreLettersAsked, AreLettersOf, CantBeSaid, IsReason, IsUnsaid, has_fault, message_said}
+use Rattle.dsn_postfix_notices.specs.requests.RequestLetters.{AreLettersAsked, AreLettersOf, CantBeSaid, IsUnsaid, has_fault, message_said}
+use Rattle.dsn_postfix_notices.specs.inner.RequestLetters.{IsReason}
 use Rattle.dsn_postfix_notices.specs.requests.Task.{Task}
 use Rattle.dsn_text.specs.Text.{longest_header}
 use Rattle.dsn_postfix_notices.proofs.FrontLemmas.{any_fault_of_front, letters_of_front, with_front}

@@ -1,7 +1,7 @@
 -- The pieces so far are written.
 use Rattle.std.proofs.Common.{take}
 use Rattle.std.specs.List.{flat_map}
-use Rattle.dsn_report.specs.LineWriter.{Took}
+use Rattle.dsn_report.specs.inner.LineWriter.{Took}
 use Rattle.dsn_report.proofs.line_writer.LineWriter.block.Given as goal
 
 abbrev pub invariant-loop-piece : goal.invariant-loop-piece

@@ -1,5 +1,5 @@
 use Rattle.std.proofs.Common.{◌≡◌, ℕ, List, rules, subst}
-use Rattle.dsn_report.specs.LineWriter.{Took}
+use Rattle.dsn_report.specs.inner.LineWriter.{Took}
 use Rattle.dsn_report.proofs.line_writer.LineWriter.piece.Goals as goal
 
 pub returns-then-not-push : goal.returns-then-not-push

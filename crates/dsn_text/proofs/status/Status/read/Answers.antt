@@ -1,6 +1,6 @@
 use Rattle.std.proofs.Common.{rules}
 use Rattle.std.proofs.Math.Seq.{take-append_seam}
-use Rattle.dsn_text.specs.Status.{longest_status}
+use Rattle.dsn_text.specs.inner.Kept.{longest_status}
 use Rattle.dsn_text.proofs.StatusLemmas.{is_status_code-passes}
 use Rattle.dsn_text.proofs.TextLemmas.{IsPadded-written}
 use Rattle.dsn_text.proofs.status.Status.read.Goals as goal

@@ -1,7 +1,7 @@
 -- The bytes so far are tested.
 use Rattle.std.proofs.Common.{◌≡◌, take}
 use Rattle.std.specs.List.{list_all}
-use Rattle.dsn_text.specs.Text.{allows}
+use Rattle.dsn_text.specs.inner.Kept.{allows}
 use Rattle.dsn_text.proofs.text.Alphabet.allows_all.Given as goal
 
 abbrev pub invariant-loop-byte : goal.invariant-loop-byte

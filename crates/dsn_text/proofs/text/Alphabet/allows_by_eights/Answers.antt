@@ -6,7 +6,7 @@ use Rattle.std.proofs.Math.Seq.{take-add}
 use Rattle.std.proofs.lemmas.Grind.{common_steps}
 use Rattle.std.proofs.lemmas.List.{take_rest, take-append-drop}
 use Rattle.std.proofs.lemmas.List.Folds.{list_all-append}
-use Rattle.dsn_text.specs.Text.{allows}
+use Rattle.dsn_text.specs.inner.Kept.{allows}
 use Rattle.dsn_text.proofs.text.Alphabet.allows_by_eights.Goals as goal
 
 -- all elements do where those before one place and those from another, earlier one on do

@@ -1,8 +1,8 @@
 use Rattle.std.proofs.Common.{◌≡◌, ℕ, ◌≤◌, [], List}
 use Rattle.dsn_outcome.specs.History.{Limits}
-use Rattle.noticed_lib.specs.batch_run.Reading.{HeardSoFar}
+use Rattle.noticed_lib.specs.inner.Reading.{HeardSoFar}
 use Rattle.noticed_lib.specs.batch_run.Requests.{requests_of}
-use Rattle.noticed_lib.specs.batch_run.Run.{Stands}
+use Rattle.noticed_lib.specs.inner.Run.{Stands}
 use Rattle.noticed_lib.proofs.batch_run.reading.read_all.Given as goal
 
 abbrev pub invariant-loop-position : goal.invariant-loop-position

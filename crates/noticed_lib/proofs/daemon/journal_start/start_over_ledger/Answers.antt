@@ -4,7 +4,7 @@ use Rattle.dsn_journal.specs.InPlace.{ReopensTo}
 use Rattle.dsn_journal.specs.Moments.{LeavesOnly}
 use Rattle.dsn_journal.specs.Records.{recovered}
 use Rattle.dsn_book.specs.Book.{Book}
-use Rattle.noticed_lib.specs.daemon.Journaled.{of_journal, of_letters, of_outbox}
+use Rattle.noticed_lib.specs.inner.Daemon.{of_journal, of_letters, of_outbox}
 use Rattle.noticed_lib.proofs.daemon.JournaledLemmas.{many_sealed, stands_for_all, stands_now}
 use Rattle.noticed_lib.proofs.daemon.journal_start.start_over_ledger.Goals as goal
 

@@ -1,7 +1,8 @@
 use Rattle.std.proofs.Common.{refl, subst}
 use Rattle.dsn_book.specs.Book.{Book, Represents}
 use Rattle.dsn_crew.specs.Crew.{Account}
-use Rattle.noticed_lib.specs.daemon.Serve.{WritesAccount, WritesRun}
+use Rattle.noticed_lib.specs.daemon.Serve.{WritesAccount}
+use Rattle.noticed_lib.specs.inner.Daemon.{WritesRun}
 use Rattle.noticed_lib.proofs.daemon.run_notes.write_account.Goals as goal
 
 pub returns : goal.returns

@@ -1,5 +1,5 @@
 use Rattle.std.proofs.Common.{List, ℕ, subst}
-use Rattle.noticed_lib.specs.listing.CopiedDisk.{copied_seen}
+use Rattle.noticed_lib.specs.inner.CopiedFolder.{copied_seen}
 use Rattle.noticed_lib.specs.listing.Folder.{IsJournalRefusedFor}
 use Rattle.noticed_lib.proofs.daemon.JournaledLemmas.{stands_for_all}
 use Rattle.noticed_lib.proofs.listing.CopiedFolderLemmas.{journal_refused, opened_is}

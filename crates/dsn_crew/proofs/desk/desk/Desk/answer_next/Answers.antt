@@ -7,7 +7,8 @@ use Rattle.dsn_outcome.specs.History.{letter_of}
 use Rattle.dsn_crew.proofs.desk.DeskLemmas.{IsAsked, first_half, keeps, line_agent, line_number, none_stopped, seen_going, sent_none, sent_places, sent_room, small, within}
 use Rattle.dsn_crew.proofs.desk.IntakeLemmas.{goodbyes_fit, goodbyes_more}
 use Rattle.dsn_crew.proofs.desk.TakeLemmas.{answer_says, has_says, has_some, letter_says, may_be_sent}
-use Rattle.dsn_crew.specs.desk.Desk.{Desk, IsAnswerSent, IsDesk, desk_seen, history, next_exchange, places_of}
+use Rattle.dsn_crew.specs.desk.Desk.{Desk, IsAnswerSent, IsDesk, history, next_exchange, places_of}
+use Rattle.dsn_crew.specs.inner.Desk.{desk_seen}
 use Rattle.dsn_crew.specs.desk.Intake.{taken_request}
 use Rattle.dsn_crew.proofs.desk.desk.Desk.answer_next.Goals as goal
 

@@ -5,7 +5,9 @@ use Rattle.dsn_outcome.specs.Letter.{Letter}
 use Rattle.dsn_crew.proofs.desk.RunLemmas.{took_fault, took_handed, took_lost, took_none}
 use Rattle.dsn_crew.proofs.desk.TakeLemmas.{failed_desk}
 use Rattle.dsn_crew.proofs.desk.DeskLemmas.{seen_going}
-use Rattle.dsn_crew.specs.desk.Desk.{BeginsWith, Desk, IsDesk, IsRequestTaken, desk_seen, with_failed}
+use Rattle.dsn_crew.specs.KeeperHistory.{BeginsWith}
+use Rattle.dsn_crew.specs.desk.Desk.{Desk, IsDesk, IsRequestTaken, with_failed}
+use Rattle.dsn_crew.specs.inner.Desk.{desk_seen}
 use Rattle.dsn_crew.proofs.desk.desk.Desk.hand_one.Goals as goal
 
 pub returns-in-Err-clause-run : goal.returns-in-Err-clause-run

@@ -4,8 +4,10 @@ use Rattle.std.specs.Prelude.{None, Some, is_some}
 use Rattle.dsn_crew.specs.lane.Halves.{Out}
 use Rattle.dsn_crew.proofs.desk.DeskLemmas.{none_stopped, seen_going}
 use Rattle.dsn_crew.proofs.desk.TakeLemmas.{has_idle, kept_tied, left_of, refused_tied, taken_desk, unmoved_tied}
-use Rattle.dsn_crew.specs.desk.Desk.{AreLeft, Desk, IsDesk, desk_seen}
-use Rattle.dsn_crew.specs.desk.Intake.{Intake, goodbyes}
+use Rattle.dsn_crew.specs.desk.Desk.{AreLeft, Desk, IsDesk}
+use Rattle.dsn_crew.specs.inner.Desk.{desk_seen}
+use Rattle.dsn_crew.specs.inner.Desk.{Intake}
+use Rattle.dsn_crew.specs.desk.Intake.{goodbyes}
 use Rattle.dsn_crew.specs.declared.desk.stop_cause.StopCause.TheVariants.{Unkept}
 use Rattle.dsn_crew.proofs.desk.desk.Desk.keep_more.Goals as goal
 

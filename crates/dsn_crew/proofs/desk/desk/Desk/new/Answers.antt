@@ -2,7 +2,8 @@
 use Rattle.std.proofs.Common.{sym, ap, subst}
 use Rattle.std.specs.Prelude.{None}
 use Rattle.dsn_crew.proofs.OpenLemmas.{new_desk}
-use Rattle.dsn_crew.specs.desk.Desk.{IsDesk, desk_seen}
+use Rattle.dsn_crew.specs.desk.Desk.{IsDesk}
+use Rattle.dsn_crew.specs.inner.Desk.{desk_seen}
 use Rattle.dsn_crew.specs.desk.Intake.{goodbyes}
 use Rattle.dsn_crew.proofs.desk.desk.Desk.new.Goals as goal
 

@@ -1,6 +1,6 @@
 -- One request more is taken, after a run.
 use Rattle.std.proofs.Common.{sym, subst, ◌∙◌}
-use Rattle.dsn_crew.specs.desk.Desk.{BeginsWith}
+use Rattle.dsn_crew.specs.KeeperHistory.{BeginsWith}
 use Rattle.dsn_crew.proofs.desk.RunLemmas.{run_then}
 use Rattle.dsn_crew.proofs.desk.desk.Desk.run.Goals as goal
 

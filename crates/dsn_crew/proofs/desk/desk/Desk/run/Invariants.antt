@@ -1,7 +1,8 @@
 -- The requests so far were a run.
 use Rattle.std.specs.Prelude.{◌≡◌, List, Ok}
 use Rattle.dsn_outcome.specs.History.{Exchange}
-use Rattle.dsn_crew.specs.desk.Desk.{BeginsWith, IsRun, places_of}
+use Rattle.dsn_crew.specs.KeeperHistory.{BeginsWith}
+use Rattle.dsn_crew.specs.desk.Desk.{IsRun, places_of}
 use Rattle.dsn_crew.proofs.desk.desk.Desk.run.Given as goal
 
 abbrev pub invariant-loop : goal.invariant-loop

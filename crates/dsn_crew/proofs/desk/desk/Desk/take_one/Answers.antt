@@ -2,7 +2,9 @@
 use Rattle.std.proofs.Common.{◌≡◌, [], length, ap, sym, ◌∙◌, subst}
 use Rattle.std.proofs.lemmas.Bool.{eqb-true}
 use Rattle.std.proofs.lemmas.List.{nil_from_length}
-use Rattle.dsn_crew.specs.desk.Desk.{BeginsWith, Desk, IsRequestTaken, with_kept}
+use Rattle.dsn_crew.specs.KeeperHistory.{BeginsWith}
+use Rattle.dsn_crew.specs.desk.Desk.{Desk, IsRequestTaken}
+use Rattle.dsn_crew.specs.inner.Desk.{with_kept}
 use Rattle.dsn_crew.proofs.desk.TakeLemmas.{taken_after}
 use Rattle.dsn_crew.proofs.desk.desk.Desk.take_one.Goals.{then-is_empty+in-Ok, else-is_empty}
 use Rattle.dsn_crew.proofs.desk.desk.Desk.take_one.Goals as goal

@@ -1,9 +1,10 @@
 -- The lane has one sending half, so what was taken is the first of what that half sent.
 use Rattle.std.proofs.Common.{arith, ap, ◌∙◌, ◌∷◌, ◌++◌, [], List}
 use Rattle.dsn_crew.specs.lane.Halves.{Half, Identity, Out}
-use Rattle.dsn_crew.specs.post.LetterSink.{FinishedSink}
-use Rattle.dsn_crew.specs.post.LetterSource.{taken_parcels}
-use Rattle.dsn_crew.specs.post.Parcel.{Parcel, parcels_of}
+use Rattle.dsn_crew.specs.inner.LetterSource.{FinishedSink}
+use Rattle.dsn_crew.specs.inner.LetterSource.{taken_parcels}
+use Rattle.dsn_crew.specs.post.Parcel.{Parcel}
+use Rattle.dsn_crew.specs.inner.LetterSource.{parcels_of}
 use Rattle.dsn_crew.proofs.post.LetterSinkLemmas.{closed_all, closed_few, closed_first, closed_marked}
 use Rattle.dsn_crew.proofs.post.finished_sink.FinishedSink.close.Goals as goal
 

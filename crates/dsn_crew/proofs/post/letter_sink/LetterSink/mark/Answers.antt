@@ -1,6 +1,7 @@
 -- The end mark follows the letters, or it is lost and they stay.
 use Rattle.std.proofs.Common.{ap, sym, ◌∙◌, subst}
-use Rattle.dsn_crew.specs.post.LetterSink.{FinishedSink, LetterSink}
+use Rattle.dsn_crew.specs.inner.LetterSource.{FinishedSink}
+use Rattle.dsn_crew.specs.post.LetterSink.{LetterSink}
 use Rattle.dsn_crew.proofs.post.LetterSinkLemmas.{IsSent, after_mark}
 use Rattle.dsn_crew.proofs.post.letter_sink.LetterSink.mark.Goals as goal
 

@@ -1,8 +1,9 @@
 -- A letter's number says how many came before it.
 use Rattle.std.proofs.Common.{ap, sym, ◌∙◌, ◌∷◌, [], Bool, length, refl, subst, length-append, arith}
 use Rattle.std.specs.Prelude.{IsSome}
-use Rattle.dsn_crew.specs.post.LetterSource.{taken_parcels}
-use Rattle.dsn_crew.specs.post.Parcel.{Parcel, letters_of}
+use Rattle.dsn_crew.specs.inner.LetterSource.{taken_parcels}
+use Rattle.dsn_crew.specs.post.Parcel.{Parcel}
+use Rattle.dsn_crew.specs.inner.LetterSource.{letters_of}
 use Rattle.dsn_crew.proofs.post.LetterSourceLemmas.{number_is, some_letters, source}
 use Rattle.dsn_crew.proofs.post.letter_source.LetterSource.take.Goals as goal
 

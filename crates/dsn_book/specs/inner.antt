@@ -1,0 +1,4 @@
+pub mod Entry
+pub mod Index
+pub mod Step
+pub mod Table

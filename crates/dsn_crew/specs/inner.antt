@@ -1,0 +1,14 @@
+pub mod Agent
+pub mod AgentsResult
+pub mod Breach
+pub mod CollectorResult
+pub mod Conclude
+pub mod CrewMemory
+pub mod Desk
+pub mod Halves
+pub mod LetterSource
+pub mod PortEnd
+pub mod Posting
+pub mod StartServing
+pub mod Step
+pub mod TakenBy

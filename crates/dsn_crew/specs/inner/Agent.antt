@@ -1,0 +1,122 @@
+-- Agents: what contracts see of an agent and its halves, and what a request of it comes to.
+use Rattle.std.specs.Prelude.{◌≡◌, Option, Some, None, Result, Ok, Err, Bool, true, false, ◌≢◌, ◌≤◌, List, All, length, ◌+◌, ◌++◌, IfSome, [], ◌∷◌, ℕ, if◌then◌else◌}
+use Rattle.dsn_crew.specs.agents.Agent.{LaneHalves, with_sent, answer_with, after_reply, Agent}
+use Rattle.dsn_crew.specs.agents.Port.{most_connections, Given, HasGiven, Conn, Session, bodies_of, answers_of, faults_of, AreSessions, AreOverPort, all_given}
+use Rattle.dsn_crew.specs.agents.Serve.{HasAsked}
+use Rattle.dsn_crew.specs.declared.agents.agent_line.AgentLine.{AgentLine}
+use Rattle.dsn_crew.specs.declared.agents.ask_fault.AskFault.TheVariants as asks
+use Rattle.dsn_crew.specs.declared.agents.ask_fault.AskFault.TheVariants.{Limit, Lost}
+use Rattle.dsn_crew.specs.declared.agents.ask_fault.AskFault.{AskFault}
+use Rattle.dsn_crew.specs.declared.agents.serve_fault.ServeFault.TheVariants.{Lost}
+use Rattle.dsn_crew.specs.declared.agents.turn.Turn.{Turn}
+use Rattle.dsn_crew.specs.declared.agents.unanswered.Unanswered.{Unanswered}
+use Rattle.dsn_crew.specs.declared.agents.unheard.Cause.TheVariants.{Unsent, Sent, Answered}
+use Rattle.dsn_crew.specs.declared.agents.unheard.Cause.{Cause}
+use Rattle.dsn_crew.specs.declared.agents.unheard.Unheard.{Unheard}
+use Rattle.dsn_crew.specs.inner.PortEnd.{PortEnd}
+use Rattle.dsn_frame.specs.Session.{Connection, Takes}
+use Rattle.dsn_frame.specs.declared.bodies.spoken.Spoken.TheVariants as spoken
+use Rattle.dsn_frame.specs.declared.bodies.spoken.Spoken.{Spoken}
+use Rattle.dsn_outcome.specs.Body.{body_of}
+use Rattle.dsn_outcome.specs.History.{replied_in, plain}
+use Rattle.dsn_outcome.specs.Request.{Body, Bye}
+use Rattle.dsn_outcome.specs.declared.answer.Answer.{Answer}
+use Rattle.dsn_outcome.specs.declared.answer.Reply.TheVariants.{Gone}
+use Rattle.dsn_outcome.specs.declared.body.Body
+use Rattle.dsn_text.specs.FaultCode.{lane_lost_code, used_up_code, out_of_turn_code}
+
+-- a body that has no answer is not sent, and handed back; or it is sent
+abbrev pub IsUnanswered : LaneHalves → Body → LaneHalves → Option Body.Body → Type 0
+IsUnanswered old body new (Some back) = (body_of back ≡ body) × (new ≡ old)
+IsUnanswered old body new None = new ≡ with_sent old body
+
+-- what a body that is sent comes to: the answer to it, or none
+abbrev pub IsExchange : LaneHalves → Body → LaneHalves → Result Answer Unanswered → Type 0
+IsExchange old body new (Ok answer) =
+    (answer ≡ answer_with old (replied_in answer))
+    × (new ≡ after_reply old body (replied_in answer))
+IsExchange old body new (Err lost) = IsUnanswered old body new lost.body
+
+-- a goodbye that was not sent
+abbrev pub is_unsent : Cause → Bool
+is_unsent (Unsent gone) = true
+is_unsent (Sent gone) = false
+is_unsent Answered = false
+
+abbrev pub was_unsent : Unheard → Type 0
+was_unsent unheard = is_unsent unheard.cause ≡ true
+
+-- what a goodbye that says why it was not heard comes to
+abbrev pub IsLeave : Agent → Result LaneHalves Unheard → Type 0
+IsLeave old (Ok finished) = (old.lost ≡ false) × (finished ≡ after_reply old.halves Bye (plain Gone))
+IsLeave old (Err unheard) = old.lost ≡ true → was_unsent unheard
+
+-- the fault that a goodbye answers where it was not heard
+abbrev pub IsFaultOf : Unheard → AskFault → Type 0
+IsFaultOf unheard (Limit back) = ⊥
+IsFaultOf unheard (Lost (Some back)) = body_of back ≡ Bye
+IsFaultOf unheard (Lost None) = is_unsent unheard.cause ≡ false
+
+-- what serving the connections of a port comes to, up to the goodbye: what the port gave, and these
+-- sessions, one over each connection; what they asked, and the replies among their answers, are
+-- what the agent asked and got, in order; its line counts them. Where it lost no lane, none of them
+-- ended so
+pub record HasServed (conns : Option (List Conn)) (may_give : List Given → Type 0)
+    (old new : Agent)
+    (line : AgentLine) : Type 0 where
+  pub sessions : List Session
+  pub lost : Bool
+  pub follow : AreSessions old.limit (length old.halves.requests.sent) sessions
+  pub over : AreOverPort conns sessions lost line.port_failed
+  pub gave : HasGiven may_give line lost
+  pub asked : HasAsked old new (bodies_of sessions) (answers_of sessions) lost
+  pub heard : lost ≡ false → All (λ (session : Session). session.end ≢ Some lane_lost_code) sessions
+  pub few : length sessions ≤ most_connections
+  pub requests : line.requests ≡ length new.halves.requests.sent
+  pub connections : line.connections ≡ length sessions
+  pub faults : line.faults ≡ faults_of sessions
+
+-- the same, and nothing beside was asked of the port: whatever it may give now it may have given
+-- after all that is known
+pub record HasServedOnly (conns : Option (List Conn)) (may_give may_now : List Given → Type 0)
+    (old new : Agent)
+    (line : AgentLine) : Type 0 where
+  pub served : HasServed conns may_give old new line
+  pub only : (rest : List Given)
+      → may_now rest → may_give (all_given line.connections served.gave.last ++ rest)
+
+-- what serving a port comes to: its connections were served, and then the agent said goodbye and
+-- was heard; else a lane was lost, and the line says what was served before
+pub record IsPortServed (conns : Option (List Conn)) (may_give : List Given → Type 0)
+    (agent : Agent) (end : PortEnd) : Type 0 where
+  pub last : Agent
+  pub served : HasServed conns may_give agent last end.line
+  pub goodbye : IfSome end.finished
+      (λ (finished : LaneHalves). (served.lost ≡ false) × (finished ≡ after_reply last.halves Bye (plain Gone)))
+
+-- what a frame is answered whose body was asked: none where the collector is gone
+abbrev pub asked_turn : Result Answer AskFault → Option Turn
+asked_turn (Ok answer) = Some (record { answer = spoken.Reply (replied_in answer); over = false })
+asked_turn (Err (asks.Limit body)) = Some (record { answer = spoken.Refused used_up_code; over = false })
+asked_turn (Err (asks.Lost back)) = None
+
+-- the answers that one frame has: none where the collector is gone
+abbrev pub answer_in : Option Turn → List Spoken
+answer_in None = []
+answer_in (Some turn) = turn.answer ∷ []
+
+-- the number with which one frame ends the session, if it does
+abbrev pub turn_end : Option Turn → Option ℕ
+turn_end None = Some lane_lost_code
+turn_end (Some turn) = if turn.over then Some out_of_turn_code else None
+
+abbrev pub has_lost : Option Turn → Bool
+has_lost None = true
+has_lost (Some turn) = false
+
+-- what a frame at its place came to, and what it left of the agent
+pub record IsTurn (old new : Agent) (place : ℕ) (bytes : List ℕ) (turn : Option Turn) : Type 0 where
+  pub bodies : List Body
+  pub takes : Takes Connection old.limit (length old.halves.requests.sent) place bytes bodies
+      (answer_in turn) (turn_end turn)
+  pub asked : HasAsked old new bodies (answer_in turn) (has_lost turn)

@@ -1,0 +1,96 @@
+-- Of private parts: how a run is concluded, from how it was collected, what came of its agents, and
+-- what was posted.
+use Rattle.std.specs.Prelude
+use Rattle.std.specs.Prelude.{◌≡◌, Bool, true, false, List, [], ◌++◌, Result, Ok, Err, Some}
+use Rattle.dsn_book.specs.declared.keeper.Keeper.{Ghosts as Keeper}
+use Rattle.dsn_book.specs.Step.{letters_in}
+use Rattle.dsn_outcome.specs.History.{Exchange}
+use Rattle.dsn_outcome.specs.Letter.{Letter}
+use Rattle.dsn_crew.specs.declared.post.posted.Posted.{Posted}
+use Rattle.dsn_crew.specs.agents.Agent.{LaneHalves, IsFinished}
+use Rattle.dsn_crew.specs.desk.Close.{AreCrew, AreOf, IsHeard}
+use Rattle.dsn_crew.specs.inner.Breach.{stop_cause}
+use Rattle.dsn_crew.specs.Crew.{Account, CrewFault}
+use Rattle.dsn_crew.specs.KeeperHistory.{BeginsWith}
+use Rattle.dsn_crew.specs.desk.Desk.{Desk, all_gone, history}
+use Rattle.dsn_crew.specs.inner.Desk.{IsStopped}
+use Rattle.dsn_crew.specs.declared.agents.agent_line.AgentLine.{AgentLine}
+use Rattle.dsn_crew.specs.declared.collector_result.CollectorResult.{CollectorResult}
+use Rattle.dsn_crew.specs.declared.collector_result.CollectorResult.TheVariants.{Whole, Failed}
+use Rattle.dsn_crew.specs.declared.crew_cause.CrewCause.{CrewCause}
+use Rattle.dsn_crew.specs.declared.crew_cause.CrewCause.TheVariants as causes
+use Rattle.dsn_crew.specs.declared.agents_result.AgentsResult.{AgentsResult}
+use Rattle.dsn_crew.specs.declared.agents_result.AgentsResult.TheVariants.{All, Missing, Lost}
+
+-- where all went well, the agents are those of the collector, and all of them are gone; a collector
+-- that has failed did so for this reason
+abbrev pub MayClose : {B : Type 0} → Keeper B → CollectorResult B → AgentsResult → Type 0
+MayClose keeper (Whole desk) (All lines agents) =
+    AreCrew agents.items desk × (all_gone desk ≡ true)
+MayClose keeper (Whole desk) Missing = Unit {0}
+MayClose keeper (Whole desk) (Lost unheard) = Unit {0}
+MayClose keeper (Failed book stop held desk) gathered = IsStopped keeper desk.value stop
+
+-- what a closed crew comes to, with its outbox
+abbrev pub account_of :
+    {B W : Type 0} → List AgentLine → List LaneHalves → Desk B → Posted W → Account W B
+account_of lines agents desk posted = record {
+  agents = lines;
+  letters = posted.posted;
+  unsent = posted.unsent;
+  whole = posted.whole;
+  outbox = posted.outbox;
+  book = desk.book;
+  taken = desk.requests.taken;
+  halves = agents;
+}
+
+-- what is left of one that isn't, with the letter that the collector held, and with what carried
+-- its requests out
+abbrev pub fault_of :
+    {B W : Type 0} → CrewCause → List Letter → B → Desk B → Posted W → CrewFault W B
+fault_of cause held book desk posted =
+    record {
+      cause = cause;
+      outbox = posted.outbox;
+      unsent = posted.unsent ++ held;
+      book = Some book;
+      taken = desk.requests.taken;
+      behind = desk.behind;
+    }
+
+-- a crew that was closed
+pub record HasClosed {B W : Type 0} (keeper : Keeper B) (lines : List AgentLine)
+    (agents : List LaneHalves) (desk : Desk B) (posted : Posted W)
+    (account : Account W B) : Type 0 where
+  pub all : posted.all ≡ true
+  pub account_is : account ≡ account_of lines agents desk posted
+  pub heard : (before : List Exchange) → BeginsWith keeper desk.start before
+      → Prelude.All (IsHeard keeper before desk) agents
+  pub finished : Prelude.All IsFinished agents
+  pub only : AreOf agents desk.requests.taken
+  pub has : (before : List Exchange) → BeginsWith keeper desk.start before
+      → keeper.has account.book (history keeper before desk) []
+
+-- the cause of one in which an agent was not started, by whether all letters came to the poster
+abbrev pub missing_cause : Bool → CrewCause
+missing_cause true = causes.Refused
+missing_cause false = causes.Lost
+
+-- where all went well the crew is closed; else this is its fault
+abbrev pub Concludes :
+    {B W : Type 0} → Keeper B → CollectorResult B → AgentsResult → Posted W
+    → Result (Account W B) (CrewFault W B) → Type 0
+Concludes keeper (Whole desk) (All lines agents) posted (Ok account) =
+    HasClosed keeper lines.items agents.items desk posted account
+Concludes keeper (Whole desk) (All lines agents) posted (Err fault) =
+    (posted.all ≡ false) × (fault ≡ fault_of causes.Lost [] desk.book desk posted)
+Concludes keeper (Whole desk) Missing posted (Ok account) = ⊥
+Concludes keeper (Whole desk) Missing posted (Err fault) =
+    fault ≡ fault_of (missing_cause posted.all) [] desk.book desk posted
+Concludes keeper (Whole desk) (Lost unheard) posted (Ok account) = ⊥
+Concludes keeper (Whole desk) (Lost unheard) posted (Err fault) =
+    fault ≡ fault_of causes.Lost [] desk.book desk posted
+Concludes keeper (Failed book stop held desk) gathered posted (Ok account) = ⊥
+Concludes keeper (Failed book stop held desk) gathered posted (Err fault) =
+    fault ≡ fault_of (stop_cause stop) (letters_in held) book desk.value posted

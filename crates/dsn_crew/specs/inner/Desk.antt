@@ -1,0 +1,99 @@
+-- Desks: what contracts see of the collector, and what each request that it takes comes to.
+use Rattle.std.specs.Prelude.{ℕ, Bool, List, [], None, Option, Some, ◌≡◌, ◌≤◌, length, is_some, ◌+◌, ◌∷◌, ◌++◌, take, drop}
+use Rattle.dsn_book.specs.declared.keeper.Keeper.{Ghosts as Keeper}
+use Rattle.dsn_book.specs.declared.not_kept.NotKept.{NotKept}
+use Rattle.dsn_crew.specs.declared.desk.stop_cause.StopCause.TheVariants.{Gone, Refused, Full, Unkept}
+use Rattle.dsn_crew.specs.declared.desk.stop_cause.StopCause.{StopCause}
+use Rattle.dsn_crew.specs.desk.Desk.{Desk}
+use Rattle.dsn_crew.specs.desk.Intake.{most_taken}
+use Rattle.dsn_crew.specs.lane.Halves.{Half, Out}
+use Rattle.dsn_outcome.specs.History.{Limits, Exchange, answer_of, exchange_of, history_after}
+use Rattle.dsn_outcome.specs.Request.{Request}
+use Rattle.dsn_outcome.specs.declared.answer.Answer.{Answer}
+
+-- a collector by its parts, with nothing behind what it carried out
+abbrev pub desk_of :
+    {B : Type 0} → B → B → Out Request → List (Half Answer) → ℕ → Bool → Desk B
+desk_of start book requests answers missed failed = record {
+  start = start;
+  book = book;
+  requests = requests;
+  behind = [];
+  answers = answers;
+  missed = missed;
+  failed = failed;
+  unkept = None;
+}
+
+-- why requests were not kept, where that is why a collector has failed
+abbrev pub unkept_of : Option StopCause → Option NotKept
+unkept_of None = None
+unkept_of (Some (Gone gone)) = None
+unkept_of (Some (Refused refused)) = None
+unkept_of (Some Full) = None
+unkept_of (Some (Unkept why)) = Some why
+
+-- a collector whose keeper refused those behind for this reason
+pub record HasRefused {B : Type 0} (keeper : Keeper B) (desk : Desk B)
+    (why : NotKept) : Type 0 where
+  pub unkept : desk.unkept ≡ Some why
+  pub was : B
+  pub refuses : keeper.refuses was desk.behind why desk.book
+  pub some : 1 ≤ length desk.behind
+
+-- why it has failed: a lane reported that its other side is gone; its sink handed a letter back; it
+-- carried out all that it may; or its keeper refused requests
+abbrev pub IsStopped : {B : Type 0} → Keeper B → Desk B → StopCause → Type 0
+IsStopped keeper desk (Gone gone) = desk.unkept ≡ None
+IsStopped keeper desk (Refused refused) = desk.unkept ≡ None
+IsStopped keeper desk Full =
+    (desk.unkept ≡ None) × (length desk.requests.taken ≡ most_taken)
+IsStopped keeper desk (Unkept why) = HasRefused keeper desk why
+
+-- what holds nothing yet, and has room for a half of each agent
+abbrev pub HasRoom : List (Half Answer) → List (Half Request) → ℕ → Type 0
+HasRoom answers held capacity = (held ≡ []) × (length answers ≤ capacity)
+
+-- one that has kept these requests behind what it carried out, over what its keeper is now
+abbrev pub with_kept : {B : Type 0} → Desk B → List Request → B → Desk B
+with_kept desk behind book = record desk { book = book; behind = behind }
+
+-- the half by which requests are taken, with those that were handed on, and those behind, which were
+-- taken and not handed on so far
+pub record Intake : Type 0 where
+  pub requests : Out Request
+  pub behind : List Request
+
+-- what is seen of a collector by its parts, with why it has failed
+abbrev pub desk_seen :
+    {B : Type 0} → B → B → Option StopCause → Intake → List (Half Answer) → ℕ → Desk B
+desk_seen start book stop intake answers missed = record {
+  start = start;
+  book = book;
+  requests = intake.requests;
+  behind = intake.behind;
+  answers = answers;
+  missed = missed;
+  failed = is_some stop;
+  unkept = unkept_of stop;
+}
+
+-- An answer that may be sent after a history: it is that of the last request which was carried out.
+-- What carries requests out has kept all behind it that were taken, so that a crash leaves them
+pub record MayBeSent {B : Type 0} (keeper : Keeper B) (limits : Limits) (before : List Exchange)
+    (intake : Intake) (book : B) (answer : Answer) : Type 0 where
+  pub earlier : List Request
+  pub last : Request
+  pub taken_are : intake.requests.taken ≡ earlier ++ last ∷ []
+  pub has : keeper.has book (history_after limits before intake.requests.taken) intake.behind
+  pub answers : answer
+      ≡ answer_of (history_after limits before earlier)
+      (exchange_of limits (history_after limits before earlier) last)
+
+-- what is seen of a half of which so many requests were handed on
+abbrev pub intake_of : ℕ → Out Request → Intake
+intake_of count out = record {
+  requests =
+      record { lane = out.lane; first = out.first; past = out.past; taken = take count out.taken };
+  behind = drop count out.taken;
+}

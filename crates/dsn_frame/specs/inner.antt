@@ -1,0 +1,3 @@
+pub mod BodyParts
+pub mod FrameBuffer
+pub mod Session

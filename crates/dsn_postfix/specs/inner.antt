@@ -1,0 +1,2 @@
+pub mod ListPlace
+pub mod RecipientSet

@@ -1,0 +1,2 @@
+pub mod LogParts
+pub mod QueueReading

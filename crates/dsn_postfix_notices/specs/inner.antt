@@ -1,0 +1,4 @@
+pub mod Finishing
+pub mod HandingIn
+pub mod MailFound
+pub mod RequestLetters

@@ -1,0 +1,7 @@
+pub mod CopiedFolder
+pub mod Daemon
+pub mod Harvest
+pub mod NotedAnswers
+pub mod Reading
+pub mod ReadingEnd
+pub mod Run

@@ -43,8 +43,9 @@ TEXT = """# What must be believed
 
 A contract says no more than its definitions. To trust a proved call, read its contract, and compare the definitions
 that it names with the RFCs and with docs/FORMATS.md. Nobody has to read `proofs/`, which the prover checks, nor
-`specs/inner/`, which only private functions and proofs name. `tests/believed.py` writes this page and keeps it true;
-`python3 -m tests.believed CRATE::CALL` prints the order for another call.
+`specs/inner/`, which only private functions, proofs and the invariants of types name: an invariant is proved of each
+value. `tests/believed.py` writes this page and keeps it true; `python3 -m tests.believed CRATE::CALL` prints the order
+for another call.
 
 The theorem (docs/THEOREM.md) takes {theorem:,} lines. All public contracts take {public:,} of the {all:,} lines of
 definitions. Imports and comments aren't counted.

@@ -6,8 +6,6 @@ use Rattle.dsn_text.specs.Optional.{is_none_or, unless_empty}
 use Rattle.dsn_text.specs.Text.{is_address, is_envelope_id, longest_header}
 use Rattle.dsn_outcome.specs.declared.draft_fault.DraftFault.{DraftFault}
 use Rattle.dsn_outcome.specs.declared.draft_fault.DraftFault.TheVariants as faults
-use Rattle.dsn_outcome.specs.Returned.{returned_of_byte}
-use Rattle.dsn_outcome.specs.Wording.{wording_of_byte}
 use Rattle.dsn_outcome.specs.declared.returned.Returned.{Returned}
 use Rattle.dsn_outcome.specs.declared.wording.Wording.{Wording}
 
@@ -35,13 +33,14 @@ abbrev pub differs : Option ℕ → ℕ → Bool
 differs None count = false
 differs (Some expected) count = not (expected == count)
 
--- the fields of a draft that are judged, as they are handed in
+-- the fields of a draft that are judged, as they are passed: what is returned and the wording are
+-- none if their bytes mean nothing
 pub record DraftFields : Type 0 where
   pub return_path : List ℕ
   pub envelope_id : List ℕ
   pub header : List ℕ
-  pub returned : ℕ
-  pub wording : ℕ
+  pub returned : Option Returned
+  pub wording : Option Wording
   pub extensions : List ℕ
 
 -- what is asked of a draft's fields, in the order in which a refusal names it
@@ -50,8 +49,8 @@ draft_checks fields =
     (nat_le (length fields.header) longest_header, faults.Header)
     ∷ (is_none_or is_address (unless_empty fields.return_path), faults.ReturnPath)
     ∷ (is_none_or is_envelope_id (unless_empty fields.envelope_id), faults.EnvelopeId)
-    ∷ (is_some (returned_of_byte fields.returned), faults.Returned)
-    ∷ (is_some (wording_of_byte fields.wording), faults.Wording)
+    ∷ (is_some fields.returned, faults.Returned)
+    ∷ (is_some fields.wording, faults.Wording)
     ∷ (is_extension_text fields.extensions, faults.Extensions)
     ∷ []
 

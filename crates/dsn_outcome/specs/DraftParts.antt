@@ -2,7 +2,7 @@
 use Rattle.dsn_outcome.specs.Draft.{DraftFields}
 use Rattle.dsn_outcome.specs.declared.draft_parts.DraftParts.{DraftParts}
 
--- the texts that the references point to, and the two bytes
+-- the texts that the references point to, and what they say besides
 abbrev pub draft_fields_of : DraftParts → DraftFields
 draft_fields_of parts = record {
   return_path = parts.return_path.now;

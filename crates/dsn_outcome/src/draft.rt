@@ -3,8 +3,6 @@
 ghost use Rattle.std.specs.Prelude.{◌≡◌, ◌≤◌, ◌↔◌, [], length, IsTrue, IsSome, IfOk, IfErr, OnOk, Some, None, unwrap_or};
 ghost use Rattle.dsn_outcome.specs.Draft.{first_draft_fault, is_count};
 ghost use Rattle.dsn_outcome.specs.DraftParts.{draft_fields_of};
-ghost use Rattle.dsn_outcome.specs.Returned.{returned_of_byte};
-ghost use Rattle.dsn_outcome.specs.Wording.{wording_of_byte};
 ghost use Rattle.dsn_text.specs.Extension.{is_extension_text};
 ghost use Rattle.dsn_text.specs.Optional.{is_none_or, unless_empty};
 ghost use Rattle.dsn_text.specs.Text.{is_address, is_envelope_id};
@@ -114,9 +112,9 @@ impl Draft {
             (λ draft. draft.extensions ≡ parts.entry.extensions.now) }
         ensures expected { IfOk result (λ draft. draft.expected ≡ parts.entry.expected) }
         ensures returned { IfOk result
-            (λ draft. returned_of_byte parts.entry.returned ≡ Some draft.returned) }
+            (λ draft. parts.entry.returned ≡ Some draft.returned) }
         ensures wording { IfOk result
-            (λ draft. wording_of_byte parts.entry.wording ≡ Some draft.wording) }
+            (λ draft. parts.entry.wording ≡ Some draft.wording) }
         ensures accepted { OnOk result (first_draft_fault (draft_fields_of parts.entry) ≡ None) }
         ensures refused { IfErr result
             (λ fault. fault
@@ -165,8 +163,8 @@ fn check(parts: DraftParts<'_>) -> Result<(Returned, Wording), DraftFault>
     ensures envelope_id { OnOk result
         (IsTrue (is_none_or is_envelope_id (unless_empty parts.entry.envelope_id.now))) }
     ensures extensions { OnOk result (IsTrue (is_extension_text parts.entry.extensions.now)) }
-    ensures returned { IfOk result (λ read. returned_of_byte parts.entry.returned ≡ Some read.0) }
-    ensures wording { IfOk result (λ read. wording_of_byte parts.entry.wording ≡ Some read.1) }
+    ensures returned { IfOk result (λ read. parts.entry.returned ≡ Some read.0) }
+    ensures wording { IfOk result (λ read. parts.entry.wording ≡ Some read.1) }
     ensures refused { IfErr result
         (λ fault. first_draft_fault (draft_fields_of parts.entry) ≡ Some fault) }
 {
@@ -180,8 +178,8 @@ fn check(parts: DraftParts<'_>) -> Result<(Returned, Wording), DraftFault>
     if !is_optional_envelope_id(parts.envelope_id) {
         return Err(DraftFault::EnvelopeId);
     }
-    let returned = Returned::from_byte(parts.returned).ok_or(DraftFault::Returned)?;
-    let wording = Wording::from_byte(parts.wording).ok_or(DraftFault::Wording)?;
+    let returned = parts.returned.ok_or(DraftFault::Returned)?;
+    let wording = parts.wording.ok_or(DraftFault::Wording)?;
     if !is_extension_text(parts.extensions) {
         return Err(DraftFault::Extensions);
     }

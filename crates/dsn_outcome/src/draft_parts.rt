@@ -1,6 +1,6 @@
 //! The fields of a draft as they are given. Implements docs/FORMATS.md, "Flush: close the log and
 //! make its notice".
-ghost use Rattle.std.specs.Prelude.{◌≡◌, [], None};
+ghost use Rattle.std.specs.Prelude.{◌≡◌, [], None, Some};
 ghost use Rattle.dsn_outcome.specs.declared.returned.Returned.TheVariants.{Header};
 ghost use Rattle.dsn_outcome.specs.declared.wording.Wording.TheVariants.{ByService};
 
@@ -45,10 +45,10 @@ pub struct DraftParts<'a> {
     pub header: &'a [u8],
     /// How many outcomes the log is to have; `None` for any.
     pub expected: Option<u32>,
-    /// The byte of what the header field holds, 0 or 1.
-    pub returned: u8,
-    /// The byte of how the notice's words are chosen, 0 or 1.
-    pub wording: u8,
+    /// What the header field holds; `None` if the byte that says it is unknown.
+    pub returned: Option<Returned>,
+    /// How the notice's words are chosen; `None` if the byte that says it is unknown.
+    pub wording: Option<Wording>,
     /// The extension fields of the message (RFC 3464 section 2.4): at most 8 lines, each ended by LF
     /// alone, of a name that begins with `X-`, a colon, a space and a value. Empty for none.
     pub extensions: &'a [u8],
@@ -61,8 +61,8 @@ impl<'a> DraftParts<'a> {
         ensures envelope_id { result.envelope_id.now ≡ envelope_id.now }
         ensures header { result.header.now ≡ header.now }
         ensures expected { result.expected ≡ None }
-        ensures returned { result.returned ≡ 0 }
-        ensures wording { result.wording ≡ 0 }
+        ensures returned { result.returned ≡ Some Header }
+        ensures wording { result.wording ≡ Some ByService }
         ensures extensions { result.extensions.now ≡ [] }
     {
         DraftParts {
@@ -70,8 +70,8 @@ impl<'a> DraftParts<'a> {
             envelope_id,
             header,
             expected: None,
-            returned: 0,
-            wording: 0,
+            returned: Some(Returned::Header),
+            wording: Some(Wording::ByService),
             extensions: b"",
         }
     }

@@ -6,7 +6,6 @@ use Rattle.std.specs.Prelude.{◌&&◌, nat_le, nat_lt}
 use Rattle.std.proofs.lemmas.Bool.{false≢true}
 use Rattle.dsn_outcome.specs.Draft.{DraftFields, first_draft_fault}
 use Rattle.dsn_outcome.specs.Letter.{Letter}
-use Rattle.dsn_outcome.specs.Returned.{returned_of_byte}
 use Rattle.dsn_outcome.specs.declared.draft_fault.DraftFault.{DraftFault}
 use Rattle.dsn_outcome.specs.declared.draft_fault.DraftFault.TheVariants as draft
 use Rattle.dsn_text.specs.Stamp.{last_moment}
@@ -20,7 +19,7 @@ use Rattle.dsn_postfix_files.specs.MessageHeader.{AreSameUpTo, front_size, longe
 use Rattle.dsn_postfix_notices.specs.declared.letters.letter_fault.LetterFault.{LetterFault}
 use Rattle.dsn_postfix_notices.specs.declared.letters.letter_fault.LetterFault.TheVariants.{Arrival, Count, Quotes}
 use Rattle.dsn_postfix_notices.specs.letters.LetterFault.{of_draft}
-use Rattle.dsn_postfix_notices.specs.letters.NoticeDraft.{IsDraftTold, draft_fields_told, first_draft_fault_told, is_returned_whole, returned_byte_of, returned_text, tried_until}
+use Rattle.dsn_postfix_notices.specs.letters.NoticeDraft.{IsDraftTold, draft_fields_told, first_draft_fault_told, is_returned_whole, returned_as, returned_text, tried_until}
 use Rattle.dsn_postfix_notices.specs.letters.NoticeLetter.{first_fault_of_told, first_letter_fault, first_of, has_a_count}
 use Rattle.dsn_postfix_notices.specs.letters.ReportedMessage.{MessageSaid}
 use Rattle.dsn_postfix_notices.specs.requests.RequestLetters.{AreLettersOf, IsSaidLetter, has_fault, next_serial}
@@ -118,7 +117,7 @@ draft-fault-same shows message notice =
       return_path = notice_address notice;
       envelope_id = message.envelope_id;
       header = [];
-      returned = returned_byte_of (whole i);
+      returned = Some (returned_as (whole i));
       wording = (draft_fields_told message notice).wording;
       extensions = (draft_fields_told message notice).extensions;
     }) (fits i)
@@ -199,7 +198,7 @@ said-letter shows message moment serial notice letter is =
           return_path_is = told.return_path_is;
           envelope_id_is = told.envelope_id_is;
           header_is = told.header_is ∙ header-by (with_front message) notice (draft_fields_told message notice).header is.sayable (returned-same shows message notice);
-          returned_is = subst (λ (whole : Bool). returned_of_byte (returned_byte_of whole) ≡ Some letter.draft.returned) (whole-same notice.returned message.size_limit message.text) told.returned_is;
+          returned_is = subst (λ (whole : Bool). letter.draft.returned ≡ returned_as whole) (whole-same notice.returned message.size_limit message.text) told.returned_is;
           worded_by_outcome = told.worded_by_outcome;
           extensions_is = told.extensions_is;
           none_expected = told.none_expected;

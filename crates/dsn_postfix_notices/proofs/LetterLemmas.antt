@@ -12,6 +12,8 @@ use Rattle.dsn_outcome.specs.declared.draft_fault.DraftFault.{DraftFault}
 use Rattle.dsn_outcome.specs.declared.draft_fault.DraftFault.TheVariants as draft
 use Rattle.dsn_outcome.specs.declared.outcome_fault.OutcomeFault.{OutcomeFault}
 use Rattle.dsn_outcome.specs.declared.outcome_fault.OutcomeFault.TheVariants as outcome
+use Rattle.dsn_outcome.specs.declared.returned.Returned.{Returned}
+use Rattle.dsn_outcome.specs.declared.wording.Wording.{Wording}
 use Rattle.dsn_postfix_files.specs.LogRecord.{LoggedFields}
 use Rattle.dsn_outcome.specs.Draft.{DraftFields, first_draft_fault}
 use Rattle.dsn_postfix.specs.PlannedNotice.{NoticeFacts}
@@ -44,7 +46,7 @@ outcome_fault_is None fault is = inl (ap of_outcome is)
 outcome_fault_is (Some found) fault is = inr (ap (λ it. Some (of_outcome it)) (sym is))
 
 -- fields of a draft that have the same parts
-abbrev fields_with : (path id header extensions : List ℕ) (returned wording : ℕ) → DraftFields
+abbrev fields_with : (path id header extensions : List ℕ) (returned : Option Returned) (wording : Option Wording) → DraftFields
 fields_with path id header extensions returned wording = record {
   return_path = path;
   envelope_id = id;
@@ -54,7 +56,7 @@ fields_with path id header extensions returned wording = record {
   extensions = extensions;
 }
 
-pub fields_are : (path path2 id header header2 extensions extensions2 : List ℕ) (returned returned2 wording wording2 : ℕ)
+pub fields_are : (path path2 id header header2 extensions extensions2 : List ℕ) (returned returned2 : Option Returned) (wording wording2 : Option Wording)
     → path ≡ path2 → header ≡ header2 → extensions ≡ extensions2 → returned ≡ returned2 → wording ≡ wording2
     → fields_with path id header extensions returned wording ≡ fields_with path2 id header2 extensions2 returned2 wording2
 fields_are path path2 id header header2 extensions extensions2 returned returned2 wording wording2 p h e r w = rw (p, h, e, r, w) refl

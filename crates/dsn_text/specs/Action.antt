@@ -1,5 +1,6 @@
 -- Actions: what a delivery agent did with a recipient (RFC 3464 section 2.3.3).
 use Rattle.std.specs.Prelude.{ℕ, Bool, true, List, ◌==◌, ◌||◌, Option, Some, None, is_none, codes, if◌then◌else◌}
+use Rattle.std.specs.Str.{bytes_eq}
 use Rattle.dsn_text.specs.declared.action.Action.{Action}
 use Rattle.dsn_text.specs.declared.action.Action.TheVariants.{Failed, Delayed, Delivered, Relayed, Expanded}
 
@@ -18,6 +19,15 @@ action_word Delayed = codes "delayed"
 action_word Delivered = codes "delivered"
 action_word Relayed = codes "relayed"
 action_word Expanded = codes "expanded"
+
+-- the action that has this word in a notice, if one has
+abbrev pub action_of_word : List ℕ → Option Action
+action_of_word word =
+    if bytes_eq word (codes "failed") then Some Failed
+    else (if bytes_eq word (codes "delayed") then Some Delayed
+    else (if bytes_eq word (codes "delivered") then Some Delivered
+    else (if bytes_eq word (codes "relayed") then Some Relayed
+    else (if bytes_eq word (codes "expanded") then Some Expanded else None))))
 
 -- the action that has this byte, if one has
 abbrev pub action_of_byte : ℕ → Option Action

@@ -1,7 +1,7 @@
 //! What a delivery agent did with a recipient (RFC 3464 section 2.3.3).
 //! Implements docs/FORMATS.md, "Append: log one recipient's outcome".
 ghost use Rattle.std.specs.Prelude.{◌≡◌};
-ghost use Rattle.dsn_text.specs.Action.{action_byte, action_word, action_of_byte};
+ghost use Rattle.dsn_text.specs.Action.{action_byte, action_of_byte, action_of_word, action_word};
 ghost use Rattle.dsn_text.specs.Action.{fits_class, fits_retry};
 
 use crate::stamp::Stamp;
@@ -59,6 +59,25 @@ impl Action {
             Action::Delivered => b"delivered",
             Action::Relayed => b"relayed",
             Action::Expanded => b"expanded",
+        }
+    }
+
+    /// The action that has this word in a notice, if one has.
+    pub fn from_word(word: &[u8]) -> Option<Action>
+        ensures { result ≡ action_of_word word.now }
+    {
+        if word == b"failed".as_slice() {
+            Some(Action::Failed)
+        } else if word == b"delayed".as_slice() {
+            Some(Action::Delayed)
+        } else if word == b"delivered".as_slice() {
+            Some(Action::Delivered)
+        } else if word == b"relayed".as_slice() {
+            Some(Action::Relayed)
+        } else if word == b"expanded".as_slice() {
+            Some(Action::Expanded)
+        } else {
+            None
         }
     }
 

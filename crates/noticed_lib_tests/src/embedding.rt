@@ -2,7 +2,8 @@
 use crate::assert_same::same;
 use dsn_frame::encode_request;
 use dsn_outcome::{
-    Body, Draft, DraftParts, Key, Outcome, Parts, Plain, QueueId, Service, Stamp, Types,
+    Body, Draft, DraftParts, Key, Outcome, Parts, Plain, QueueId, Returned, Service, Stamp, Types,
+    Wording,
 };
 use noticed_lib::{BatchEnd, Limits, Site, batch};
 use std::alloc::Global;
@@ -46,8 +47,8 @@ fn flush(alloc: Global) -> Result<Vec<u8>, Fail> {
         envelope_id: b"",
         header: b"",
         expected: Some(1),
-        returned: 0, // the header
-        wording: 0, // by the service
+        returned: Some(Returned::Header),
+        wording: Some(Wording::ByService),
         extensions: b"",
     };
     let draft = Draft::read(alloc, moment, arrival, parts)?;

@@ -619,7 +619,7 @@ refused-as true true true true true true false is = refl
 refused-as true true true true true true true is = refl
 
 pub draft_refused : (fields : FlushFields) (wishes : WishFields) → (nat_le fields.moment last_moment && nat_le fields.arrival last_moment) ≡ true
-    → draft_refusal (unwrap_or (first_draft_fault (record { return_path = fields.return_path; envelope_id = fields.envelope_id; header = fields.header; returned = wishes.returned; wording = wishes.wording; extensions = wishes.extensions })) drafts.NoMemory)
+    → draft_refusal (unwrap_or (first_draft_fault (record { return_path = fields.return_path; envelope_id = fields.envelope_id; header = fields.header; returned = returned_of_byte wishes.returned; wording = wording_of_byte wishes.wording; extensions = wishes.extensions })) drafts.NoMemory)
     ≡ unwrap_or (first_failed (flush_checks fields wishes)) faults.NoMemory
 draft_refused fields wishes dated =
     refused-as (nat_le fields.moment last_moment && nat_le fields.arrival last_moment) (nat_le (length fields.header) longest_header) (is_none_or is_address (unless_empty fields.return_path))

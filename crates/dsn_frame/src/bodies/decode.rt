@@ -20,7 +20,9 @@ use crate::bodies::body_parts::{
     WishParts,
 };
 use crate::bodies::{THIRD_VERSION, VERSION, read_fields};
-use dsn_outcome::{Body, Draft, DraftParts, Key, Node, Outcome, Parts, QueueId, Service, Stamp};
+use dsn_outcome::{
+    Body, Draft, DraftParts, Key, Node, Outcome, Parts, QueueId, Returned, Service, Stamp, Wording,
+};
 use std::alloc::Global;
 
 /// The request that a body encodes, with its number on the connection. It is never a goodbye. A
@@ -233,8 +235,8 @@ fn draft_from(
         envelope_id: fields.envelope_id,
         header: fields.header,
         expected: count_if_any(wishes.expected),
-        returned: wishes.returned,
-        wording: wishes.wording,
+        returned: Returned::from_byte(wishes.returned),
+        wording: Wording::from_byte(wishes.wording),
         extensions: wishes.extensions,
     };
     Ok(Draft::read(alloc, moment, arrival, parts)?)

@@ -2,7 +2,8 @@
 use Rattle.std.specs.Option.{option_map}
 use Rattle.std.specs.Prelude.{◌≡◌, ℕ, ◌+◌, Bool, true, false, ◌&&◌, nat_le, List, [], ◌∷◌, ◌++◌, length, codes, Option, Some, None, if◌then◌else◌}
 use Rattle.dsn_outcome.specs.Draft.{Draft, DraftFields, first_draft_fault}
-use Rattle.dsn_outcome.specs.Returned.{returned_of_byte}
+use Rattle.dsn_outcome.specs.declared.returned.Returned.{Returned}
+use Rattle.dsn_outcome.specs.declared.returned.Returned.TheVariants as returned
 use Rattle.dsn_outcome.specs.declared.wording.Wording.TheVariants.{ByOutcome}
 use Rattle.dsn_text.specs.Optional.{unless_empty}
 use Rattle.dsn_text.specs.Stamp.{last_moment}
@@ -60,21 +61,18 @@ abbrev pub returned_text : Bool → List ℕ → List ℕ
 returned_text true text = text
 returned_text false text = message_header text
 
-abbrev pub returned_byte_of : Bool → ℕ
-returned_byte_of true = 1
-returned_byte_of false = 0
-
--- the words go by what became of the recipients
-abbrev pub by_outcome : ℕ
-by_outcome = 1
+abbrev pub returned_as : Bool → Returned
+returned_as true = returned.Message
+returned_as false = returned.Header
 
 abbrev pub draft_fields_told : MessageSaid → NoticeFacts → DraftFields
 draft_fields_told message notice = record {
   return_path = notice_address notice;
   envelope_id = message.envelope_id;
   header = returned_text (is_returned_whole notice.returned message.size_limit message.text) message.text;
-  returned = returned_byte_of (is_returned_whole notice.returned message.size_limit message.text);
-  wording = by_outcome;
+  returned = Some (returned_as (is_returned_whole notice.returned message.size_limit message.text));
+  -- the words go by what became of the recipients
+  wording = Some ByOutcome;
   extensions = postfix_fields message.queue_id message.sender;
 }
 
@@ -92,7 +90,7 @@ pub record IsDraftTold (message : MessageSaid) (notice : NoticeFacts) (moment ar
   pub return_path_is : draft.return_path ≡ unless_empty (notice_address notice)
   pub envelope_id_is : draft.envelope_id ≡ unless_empty message.envelope_id
   pub header_is : draft.header ≡ (draft_fields_told message notice).header
-  pub returned_is : returned_of_byte (draft_fields_told message notice).returned ≡ Some draft.returned
+  pub returned_is : draft.returned ≡ returned_as (is_returned_whole notice.returned message.size_limit message.text)
   pub worded_by_outcome : draft.wording ≡ ByOutcome
   pub extensions_is : draft.extensions ≡ postfix_fields message.queue_id message.sender
   pub none_expected : draft.expected ≡ None

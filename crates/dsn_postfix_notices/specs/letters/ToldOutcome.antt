@@ -2,10 +2,10 @@
 -- but for texts that it has and an outcome hasn't: a longer diagnostic or reason ends after 800 bytes.
 use Rattle.std.specs.Prelude.{ℕ, ◌==◌, ◌&&◌, Bool, true, List, [], ◌∷◌, take, codes, Option, Some, None, unwrap_or, if◌then◌else◌}
 use Rattle.std.specs.List.{before_first, after_first}
-use Rattle.std.specs.Option.{option_map}
+use Rattle.std.specs.Option.{option_map, option_map_or}
 use Rattle.std.specs.Str.{bytes_eq, str_eq_ignore_ascii_case}
 use Rattle.dsn_outcome.specs.Outcome.{Fields, Outcome as ToldOutcome, first_outcome_fault}
-use Rattle.dsn_text.specs.Action.{action_of_byte}
+use Rattle.dsn_text.specs.Action.{action_byte, action_of_byte, action_of_word}
 use Rattle.dsn_text.specs.Optional.{unless_empty}
 use Rattle.dsn_text.specs.Text.{clean_text, longest_clean}
 use Rattle.dsn_text.specs.declared.action.Action.TheVariants.{Failed}
@@ -65,12 +65,7 @@ diagnostic_said (first ∷ kind) (byte ∷ text) reason = record {
 
 -- the byte of the action that a word names, or 0, which is none
 abbrev pub action_said : List ℕ → ℕ
-action_said word =
-    if bytes_eq word (codes "failed") then 1
-    else (if bytes_eq word (codes "delayed") then 2
-    else (if bytes_eq word (codes "delivered") then 3
-    else (if bytes_eq word (codes "relayed") then 4
-    else (if bytes_eq word (codes "expanded") then 5 else 0))))
+action_said word = option_map_or action_byte (action_of_word word) 0
 
 -- the fields of the outcome, where delivery is tried until that moment, if it is
 abbrev pub fields_told : Option ℕ → LoggedFields → Fields

@@ -2,21 +2,18 @@
 //! Implements docs/FORMATS.md, "The notice of a Postfix log".
 ghost use Rattle.std.specs.Prelude.{◌≡◌, ◌≤◌, ◌++◌, codes, IfErr, IfOk, IsSome, None, OnOk};
 ghost use Rattle.dsn_postfix_notices.specs.letters.LetterFault.{IsLetterFault};
-ghost use Rattle.dsn_postfix_notices.specs.letters.NoticeDraft.{IsDraftTold, first_draft_fault_told, is_returned_whole, is_said_sender, postfix_fields, returned_byte_of, returned_text, sender_field, tried_until};
+ghost use Rattle.dsn_postfix_notices.specs.letters.NoticeDraft.{IsDraftTold, first_draft_fault_told, is_returned_whole, is_said_sender, postfix_fields, returned_as, returned_text, sender_field, tried_until};
 ghost use Rattle.dsn_postfix_notices.specs.letters.ReportedMessage.{message_said_in};
 
 use crate::letters::letter_fault::LetterFault;
 use crate::letters::reported_message::ReportedMessage;
-use dsn_outcome::{Address, Draft, DraftParts, LONGEST_HEADER, Service, Stamp};
+use dsn_outcome::{Address, Draft, DraftParts, LONGEST_HEADER, Returned, Service, Stamp, Wording};
 use dsn_postfix::{PlannedNotice, ReturnedPart, needs_no_quotes};
 use dsn_postfix_files::header_of_message;
 use std::alloc::{AllocError, Global};
 
 /// The longest sender that an extension field says, in bytes: its value is at most 255 with `rfc822; `.
 const LONGEST_SENDER: usize = 247;
-
-/// The byte of words that go by what became of the recipients.
-const BY_OUTCOME: u8 = 1;
 
 /// Until when delivery is tried, where a notice of that kind says so.
 pub(super) fn tried_until(service: Service, arrival: Stamp, lifetime: u32) -> Option<Stamp>
@@ -84,11 +81,11 @@ fn returned_text(whole: bool, text: &[u8]) -> &[u8]
     if whole { text } else { header_of_message(text) }
 }
 
-/// The byte of what goes back.
-fn returned_byte_of(whole: bool) -> u8
-    ensures { result ≡ returned_byte_of whole }
+/// What the header field of the draft holds.
+fn returned_as(whole: bool) -> Returned
+    ensures { result ≡ returned_as whole }
 {
-    if whole { 1 } else { 0 }
+    if whole { Returned::Message } else { Returned::Header }
 }
 
 /// The draft of a planned notice.
@@ -122,8 +119,8 @@ pub(super) fn draft_told(
         envelope_id: message.envelope_id,
         header: returned_text(whole, message.text),
         expected: None,
-        returned: returned_byte_of(whole),
-        wording: BY_OUTCOME,
+        returned: Some(returned_as(whole)),
+        wording: Some(Wording::ByOutcome),
         extensions: &fields,
     };
     match Draft::read(alloc, moment, arrival, parts) {

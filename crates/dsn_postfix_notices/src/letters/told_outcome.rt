@@ -11,7 +11,7 @@ ghost use Rattle.dsn_text.specs.Text.{longest_clean};
 
 use crate::letters::letter_fault::LetterFault;
 use crate::letters::plain_status::plain_status;
-use dsn_outcome::{LONGEST_CLEAN, Node, Outcome, Parts, Service, Stamp, Types};
+use dsn_outcome::{Action, LONGEST_CLEAN, Node, Outcome, Parts, Service, Stamp, Types};
 use dsn_postfix_files::LogRecord;
 use std::alloc::Global;
 
@@ -136,18 +136,9 @@ fn diagnostic_said<'a>(kind: &'a [u8], text: &'a [u8], reason: &'a [u8]) -> Type
 fn action_said(word: &[u8]) -> u8
     ensures { result ≡ action_said word.now }
 {
-    if word == b"failed".as_slice() {
-        1
-    } else if word == b"delayed".as_slice() {
-        2
-    } else if word == b"delivered".as_slice() {
-        3
-    } else if word == b"relayed".as_slice() {
-        4
-    } else if word == b"expanded".as_slice() {
-        5
-    } else {
-        0
+    match Action::from_word(word) {
+        Some(action) => action.byte(),
+        None => 0,
     }
 }
 

@@ -1,4 +1,4 @@
-use Rattle.std.proofs.Common.{◌∙◌, ap, rules}
+use Rattle.std.proofs.Common.{◌∙◌, Some, ap, rules}
 use Rattle.std.specs.Option.{unwrap_or}
 use Rattle.dsn_outcome.specs.Draft.{DraftFields, first_draft_fault}
 use Rattle.dsn_outcome.specs.declared.draft_fault.DraftFault.TheVariants as draft
@@ -14,7 +14,7 @@ returns-clause-refused c =
     let told = draft_fields_told message notice in
     let same =
     fields_are c.deref-2.result.now told.return_path told.envelope_id c.returned_text.result.now told.header c.deref-3.result.now told.extensions
-    c.returned_byte_of.result told.returned told.wording told.wording
+    (Some c.returned_as.result) told.returned told.wording told.wording
     (search rules) (search rules) (search rules) (search rules) (search rules) in
     draft_fault_told_is message notice c.in-Err.fault c.from.result (search rules)
     (c.in-Err.ensures.refused ∙ ap (λ (fields : DraftFields). unwrap_or (first_draft_fault fields) draft.NoMemory) same)

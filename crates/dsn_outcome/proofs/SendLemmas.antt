@@ -7,7 +7,7 @@ use Rattle.dsn_outcome.proofs.letter_cell.LetterCell.TheLaws.TheKnot as cells
 use Rattle.dsn_outcome.proofs.outcome_node.Node.TheLaws.TheKnot as nodes
 use Rattle.dsn_outcome.specs.contracts.letter_cell.LetterCell as LetterCell
 use Rattle.dsn_outcome.specs.contracts.letter_cell.Sealed as Sealed
-use Rattle.dsn_outcome.specs.contracts.letter_cell.Terms as Terms
+use Rattle.dsn_outcome.specs.contracts.letter_cell.DraftTerms as DraftTerms
 use Rattle.dsn_text.specs.contracts.key.Key as Key
 use Rattle.dsn_outcome.specs.contracts.letter.Letter as Letter
 use Rattle.dsn_outcome.specs.contracts.letters.Letters as Letters
@@ -38,7 +38,7 @@ links = search (crosses, node, option.the_field_send, sendable) depth 20
 sealed : IsSend (Sealed.the_field).row
 sealed = search (links, key_field, sendable) depth 20
 
-terms : IsSend Terms.the_row
+terms : IsSend DraftTerms.the_row
 terms = search (crosses, option.the_field_send, sendable) depth 20
 
 cell_field : IsSend (LetterCell.the_field).row

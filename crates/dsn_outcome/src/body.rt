@@ -1,7 +1,7 @@
 //! What a delivery agent asks.
 //! Implements docs/FORMATS.md, "Requests".
 use crate::draft::Draft;
-use crate::letter_cell::Terms;
+use crate::letter_cell::DraftTerms;
 use crate::outcome::Outcome;
 use crate::outcome_node::Node;
 use dsn_text::{Key, QueueId};
@@ -27,7 +27,7 @@ pub enum BodyRef<'a> {
     /// Log this outcome of the message. The service is the outcome's.
     Append(&'a QueueId, &'a Outcome),
     /// Seal this log and make a notice of it.
-    Flush(&'a Key, &'a Terms),
+    Flush(&'a Key, &'a DraftTerms),
     /// Drop this log.
     Discard(&'a Key),
     /// Let this key go, if its log is closed.

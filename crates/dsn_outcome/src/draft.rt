@@ -10,7 +10,7 @@ ghost use Rattle.dsn_text.specs.Text.{is_address, is_envelope_id};
 use crate::draft_fault::DraftFault;
 use crate::draft_parts::{DraftParts, Wishes};
 use crate::extension_fields::ExtensionFields;
-use crate::letter_cell::{LetterCell, Terms};
+use crate::letter_cell::{DraftTerms, LetterCell};
 use crate::optional_texts::{
     is_optional_address, is_optional_envelope_id, optional_address, optional_envelope_id,
 };
@@ -63,7 +63,7 @@ impl Draft {
         ensures returned { IfOk result (λ draft. draft.returned ≡ wishes.returned) }
         ensures wording { IfOk result (λ draft. draft.wording ≡ wishes.wording) }
     {
-        let terms = Terms {
+        let terms = DraftTerms {
             moment,
             arrival,
             return_path,
@@ -78,7 +78,7 @@ impl Draft {
     }
 
     /// The draft of these terms, in a cell of its own, which nothing is linked to.
-    fn of(alloc: Global, terms: Terms) -> Result<Draft, NoMemory>
+    fn of(alloc: Global, terms: DraftTerms) -> Result<Draft, NoMemory>
         ensures { IfOk result (λ draft. draft ≡ terms) }
     {
         let cell = LetterCell {
@@ -125,7 +125,7 @@ impl Draft {
         let envelope_id = optional_envelope_id(alloc, parts.envelope_id)?;
         let header = RawHeader::kept(alloc, parts.header)?;
         let extensions = ExtensionFields::kept(alloc, parts.extensions)?;
-        let terms = Terms {
+        let terms = DraftTerms {
             moment,
             arrival,
             return_path,
@@ -147,7 +147,7 @@ impl Draft {
     }
 
     /// What it says.
-    pub fn terms(&self) -> &Terms
+    pub fn terms(&self) -> &DraftTerms
         ensures { result.now ≡ self.now }
     {
         &self.cell.terms

@@ -4,7 +4,7 @@ ghost use Rattle.std.specs.Option.{option_copied};
 
 use crate::chain::Chain;
 use crate::draft::Draft;
-use crate::letter_cell::{LetterCell, Sealed, Terms};
+use crate::letter_cell::{DraftTerms, LetterCell, Sealed};
 use crate::outcome_links::Outcomes;
 use dsn_text::{Address, EnvelopeId, Key, RawHeader, Stamp};
 use std::marker::Model;
@@ -88,7 +88,7 @@ impl Letter {
     }
 
     /// What its flush said.
-    pub fn terms(&self) -> &Terms
+    pub fn terms(&self) -> &DraftTerms
         ensures { result.now ≡ self.now.draft }
     {
         &self.cell.terms

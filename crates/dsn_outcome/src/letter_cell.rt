@@ -16,7 +16,7 @@ use std::marker::Model;
 /// What a flush says of its notice: to whom it goes, and what it quotes of the message. A draft and
 /// a letter lend it.
 #[derive(Drop)]
-pub struct Terms {
+pub struct DraftTerms {
     pub(crate) moment: Stamp,
     pub(crate) arrival: Stamp,
     pub(crate) return_path: Option<Address>,
@@ -28,7 +28,7 @@ pub struct Terms {
     pub(crate) wording: Wording,
 }
 
-impl Model for Terms {
+impl Model for DraftTerms {
     ghost use Rattle.std.specs.Prelude.{IsTrue};
     ghost use Rattle.dsn_outcome.specs.Draft.{Draft, is_count};
     ghost use Rattle.dsn_text.specs.Optional.{is_none_or};
@@ -50,7 +50,7 @@ impl Model for Terms {
     ghost invariant = { λ t. IsTrue (is_none_or is_count t.expected) };
 }
 
-impl Terms {
+impl DraftTerms {
     /// When the flush was asked for; the notice's date.
     pub fn moment(&self) -> Stamp
         ensures { result ≡ self.now.moment }
@@ -129,7 +129,7 @@ pub(crate) struct Sealed {
 /// A draft; once it is sealed, a letter; and with a link, a letter in a queue.
 #[derive(Drop)]
 pub(crate) struct LetterCell {
-    pub(crate) terms: Terms,
+    pub(crate) terms: DraftTerms,
     pub(crate) sealed: Option<Sealed>,
     pub(crate) next: Option<Box<LetterCell>>,
 }

@@ -45,7 +45,7 @@ pub use laws::{
     flushes_seal_what_they_expect, histories_answer_each_request, letters_are_numbered,
 };
 pub use letter::Letter;
-pub use letter_cell::Terms;
+pub use letter_cell::DraftTerms;
 pub use letters::Letters;
 pub use outcome::Outcome;
 pub use outcome_fault::OutcomeFault;

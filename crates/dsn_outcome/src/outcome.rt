@@ -10,7 +10,7 @@ use crate::outcome_fault::OutcomeFault;
 use crate::outcome_node::Node;
 use crate::outcome_parts::{Parts, Types};
 use crate::outcome_texts::OutcomeTexts;
-use dsn_text::{Action, Address, Clean, KeptStamp, Service, Stamp, Status, is_extension_text};
+use dsn_text::{Action, Address, Clean, PackedStamp, Service, Stamp, Status, is_extension_text};
 use std::alloc::Global;
 use std::marker::Model;
 
@@ -20,8 +20,8 @@ use std::marker::Model;
 #[derive(Drop)]
 pub struct Outcome {
     texts: OutcomeTexts,
-    last_attempt: KeptStamp,
-    retry_until: KeptStamp,
+    last_attempt: PackedStamp,
+    retry_until: PackedStamp,
     service: Service,
     action: Action,
     status: Status,
@@ -98,8 +98,8 @@ impl Outcome {
             texts: OutcomeTexts::new(
                 alloc, recipient, original, mta, types, extensions, diagnostic, reason,
             )?,
-            last_attempt: KeptStamp::new(last_attempt),
-            retry_until: KeptStamp::new(retry_until),
+            last_attempt: PackedStamp::new(last_attempt),
+            retry_until: PackedStamp::new(retry_until),
             service,
             action,
             status,

@@ -10,8 +10,8 @@ pub mod AttributeLaws
 pub mod AttributeLemmas
 pub mod FieldReadings
 pub mod ListLaws
-mod ListPlaceExamples
-pub mod ListPlaceLemmas
+mod ListStateExamples
+pub mod ListStateLemmas
 pub mod ListReadingLemmas
 pub mod NoticePlanLaws
 pub mod NoticePlanLemmas

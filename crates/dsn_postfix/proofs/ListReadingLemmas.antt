@@ -5,15 +5,15 @@ use Rattle.std.proofs.KnownBytes.{Consumes-trans}
 use Rattle.std.proofs.Math.Seq.{take-add}
 use Rattle.std.proofs.lemmas.List.{length-take, nil_from_length}
 use Rattle.dsn_postfix.specs.ListBuffer.{ReadsList, ReadsNoList, RoomAfterBytes, StopsReading, longest_list}
-use Rattle.dsn_postfix.specs.inner.ListPlace.{ReadsNoPiece, ReadsPiece, StopsAtPiece}
-use Rattle.dsn_postfix.specs.inner.ListPlace.{further, step_over}
+use Rattle.dsn_postfix.specs.inner.ListState.{ReadsNoPiece, ReadsPiece, StopsAtPiece}
+use Rattle.dsn_postfix.specs.inner.ListState.{further, step_over}
 use Rattle.dsn_postfix.specs.declared.list_fault.ListFault.{ListFault}
 use Rattle.dsn_postfix.specs.declared.list_fault.ListFault.TheVariants.{NoMemory, Nothing, CutShort, TooLong, Trailing, Read}
-use Rattle.dsn_postfix.specs.declared.list_place.ListPlace.{ListPlace}
-use Rattle.dsn_postfix.specs.declared.list_place.ListPlace.TheVariants.{Front}
-use Rattle.dsn_postfix.specs.declared.list_place.ListStep.{ListStep}
-use Rattle.dsn_postfix.specs.declared.list_place.ListStep.TheVariants.{Ended, Within}
-use Rattle.dsn_postfix.proofs.ListPlaceLemmas.{list_and_more, no_list, step_over-append, whole_list}
+use Rattle.dsn_postfix.specs.declared.list_state.ListState.{ListState}
+use Rattle.dsn_postfix.specs.declared.list_state.ListState.TheVariants.{Front}
+use Rattle.dsn_postfix.specs.declared.list_state.ListStep.{ListStep}
+use Rattle.dsn_postfix.specs.declared.list_state.ListStep.TheVariants.{Ended, Within}
+use Rattle.dsn_postfix.proofs.ListStateLemmas.{list_and_more, no_list, step_over-append, whole_list}
 
 -- ---- room
 
@@ -27,27 +27,27 @@ room_on before now after size more longer first second = record {
 -- ---- a piece after what was read
 
 -- what is known of a buffer once a piece was read into it, after so many bytes in which no list ends
-pub record ReadOn (a b c : Option (List ℕ)) (filled : ℕ) (old new : List ℕ) (place : ListPlace) (count : ℕ) : Type 0 where
+pub record ReadOn (a b c : Option (List ℕ)) (filled : ℕ) (old new : List ℕ) (place : ListState) (count : ℕ) : Type 0 where
   pub within : filled ≤ length old
   pub front : take filled new ≡ take filled old
   pub consumed : Consumes a b (take filled old)
   pub scanned : step_over Front (take filled old) ≡ Within place
   pub piece : ReadsPiece b c filled new count
 
-bytes_on : (a b c : Option (List ℕ)) (filled : ℕ) (old new : List ℕ) (place : ListPlace) (count : ℕ) → ReadOn a b c filled old new place count
+bytes_on : (a b c : Option (List ℕ)) (filled : ℕ) (old new : List ℕ) (place : ListState) (count : ℕ) → ReadOn a b c filled old new place count
     → take (filled + count) new ≡ take filled old ++ take count (drop filled new)
 bytes_on a b c filled old new place count on =
     take-add filled count new ∙ ap (λ (front : List ℕ). front ++ take count (drop filled new)) on.front
 
-pub consumed_on : (a b c : Option (List ℕ)) (filled : ℕ) (old new : List ℕ) (place : ListPlace) (count : ℕ) → ReadOn a b c filled old new place count → Consumes a c (take (filled + count) new)
+pub consumed_on : (a b c : Option (List ℕ)) (filled : ℕ) (old new : List ℕ) (place : ListState) (count : ℕ) → ReadOn a b c filled old new place count → Consumes a c (take (filled + count) new)
 consumed_on a b c filled old new place count on =
     subst (Consumes a c) (sym (bytes_on a b c filled old new place count on))
     (Consumes-trans a b c (take filled old) (take count (drop filled new)) on.consumed on.piece.consumed)
 
-long_on : (a b c : Option (List ℕ)) (filled : ℕ) (old new : List ℕ) (place : ListPlace) (count : ℕ) → ReadOn a b c filled old new place count → length (take (filled + count) new) ≡ filled + count
+long_on : (a b c : Option (List ℕ)) (filled : ℕ) (old new : List ℕ) (place : ListState) (count : ℕ) → ReadOn a b c filled old new place count → length (take (filled + count) new) ≡ filled + count
 long_on a b c filled old new place count on = length-take-le (filled + count) new on.piece.fits
 
-pub step_on : (a b c : Option (List ℕ)) (filled : ℕ) (old new : List ℕ) (place : ListPlace) (count : ℕ) (step : ListStep) → ReadOn a b c filled old new place count
+pub step_on : (a b c : Option (List ℕ)) (filled : ℕ) (old new : List ℕ) (place : ListState) (count : ℕ) (step : ListStep) → ReadOn a b c filled old new place count
     → step ≡ step_over place (take count (drop filled new)) → step_over Front (take (filled + count) new) ≡ further filled step
 step_on a b c filled old new place count step on is =
     ap (step_over Front) (bytes_on a b c filled old new place count on)
@@ -63,7 +63,7 @@ pub piece_short : (count : ℕ) (bytes : List ℕ) → length (take count bytes)
 piece_short count bytes = rw length-take (omega arith)
 
 -- the list ends with the piece
-pub list_read : (a b c : Option (List ℕ)) (before : ℕ) (filled : ℕ) (old new : List ℕ) (place : ListPlace) (count size : ℕ) → ReadOn a b c filled old new place count
+pub list_read : (a b c : Option (List ℕ)) (before : ℕ) (filled : ℕ) (old new : List ℕ) (place : ListState) (count size : ℕ) → ReadOn a b c filled old new place count
     → Ended size ≡ step_over place (take count (drop filled new)) → size ≡ count → length new ≤ longest_list → RoomAfterBytes (filled + count) before (length new)
     → (whole : ℕ) → whole ≡ filled + count → ReadsList a c before (length new) (take whole new)
 list_read a b c before filled old new place count size on ends all bounded room whole is =
@@ -76,7 +76,7 @@ list_read a b c before filled old new place count size on ends all bounded room 
     }
 
 -- the list ends within the piece
-pub more_read : (a b c : Option (List ℕ)) (before : ℕ) (filled : ℕ) (old new : List ℕ) (place : ListPlace) (count size : ℕ) → ReadOn a b c filled old new place count
+pub more_read : (a b c : Option (List ℕ)) (before : ℕ) (filled : ℕ) (old new : List ℕ) (place : ListState) (count size : ℕ) → ReadOn a b c filled old new place count
     → Ended size ≡ step_over place (take count (drop filled new)) → size < count → length new ≤ longest_list → RoomAfterBytes (filled + count) before (length new)
     → ReadsNoList a c before (length new) Trailing
 more_read a b c before filled old new place count size on ends some bounded room =
@@ -93,7 +93,7 @@ more_read a b c before filled old new place count size on ends some bounded room
 -- ---- no piece after what was read
 
 -- what a fault says of a piece, it says of the bytes before
-stops_on : (fault : ListFault) (place : ListPlace) (filled room : ℕ) (part : List ℕ) → length part ≡ filled → filled < longest_list → step_over Front part ≡ Within place
+stops_on : (fault : ListFault) (place : ListState) (filled room : ℕ) (part : List ℕ) → length part ≡ filled → filled < longest_list → step_over Front part ≡ Within place
     → StopsAtPiece fault filled room → StopsReading fault room part
 stops_on NoMemory place filled room part long short scanned full = (no_list part place scanned, (omega (arith, long, short), omega (arith, long, full)))
 stops_on Nothing place filled room part long short scanned none = nil_from_length part (omega (arith, long, none))
@@ -102,7 +102,7 @@ stops_on TooLong place filled room part long short scanned never = absurd never
 stops_on Trailing place filled room part long short scanned never = absurd never
 stops_on Read place filled room part long short scanned is = (no_list part place scanned, omega (arith, long, short))
 
-pub no_piece : (a b c : Option (List ℕ)) (before now after filled : ℕ) (bytes : List ℕ) (place : ListPlace) (fault : ListFault) → filled ≤ length bytes → filled < longest_list
+pub no_piece : (a b c : Option (List ℕ)) (before now after filled : ℕ) (bytes : List ℕ) (place : ListState) (fault : ListFault) → filled ≤ length bytes → filled < longest_list
     → Consumes a b (take filled bytes) → step_over Front (take filled bytes) ≡ Within place → RoomAfterBytes filled before now → RoomAfterBytes filled now after
     → ReadsNoPiece b c filled after fault → ReadsNoList a c before after fault
 no_piece a b c before now after filled bytes place fault within short consumed scanned first second none =
@@ -117,7 +117,7 @@ no_piece a b c before now after filled bytes place fault within short consumed s
     }
 
 -- no list ends in as many bytes as one may have
-pub too_long : (a b : Option (List ℕ)) (before after filled : ℕ) (bytes : List ℕ) (place : ListPlace) → filled ≡ longest_list → filled ≤ length bytes
+pub too_long : (a b : Option (List ℕ)) (before after filled : ℕ) (bytes : List ℕ) (place : ListState) → filled ≡ longest_list → filled ≤ length bytes
     → Consumes a b (take filled bytes) → step_over Front (take filled bytes) ≡ Within place → RoomAfterBytes filled before after → ReadsNoList a b before after TooLong
 too_long a b before after filled bytes place full within consumed scanned room =
     let long = length-take-le filled bytes within in

@@ -1,2 +1,2 @@
-pub mod ListPlace
+pub mod ListState
 pub mod RecipientSet

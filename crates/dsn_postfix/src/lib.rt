@@ -12,7 +12,7 @@ mod laws;
 mod list_buffer;
 mod list_dialogue;
 mod list_fault;
-mod list_place;
+mod list_state;
 mod logged_append;
 mod notice_plan;
 mod number;

@@ -5,10 +5,10 @@ ghost use Rattle.std.specs.Option.{option_map};
 ghost use Rattle.std.specs.Io.KnownBytes.{Keeps};
 ghost use Rattle.dsn_device.specs.Failures.{counted};
 ghost use Rattle.dsn_postfix.specs.ListBuffer.{HoldsList, IsList, ReadsList, ReadsNoList, RoomAfterBytes, device_failed, longest_list};
-ghost use Rattle.dsn_postfix.specs.inner.ListPlace.{IsListAtFront, ReadsNoPiece, ReadsPiece};
+ghost use Rattle.dsn_postfix.specs.inner.ListState.{IsListAtFront, ReadsNoPiece, ReadsPiece};
 
 use crate::list_fault::ListFault;
-use crate::list_place::{ListPlace, ListStep};
+use crate::list_state::{ListState, ListStep};
 use dsn_device::Source;
 use std::alloc::{AllocError, Global};
 use std::marker::Model;
@@ -33,7 +33,7 @@ pub struct ListBuffer {
 impl Model for ListBuffer {
     ghost use Rattle.std.specs.Prelude.{length, ◌≤◌};
     ghost use Rattle.dsn_postfix.specs.ListBuffer.{BufferedList, longest_list};
-    ghost use Rattle.dsn_postfix.specs.inner.ListPlace.{IsListAtFront, list_at_front};
+    ghost use Rattle.dsn_postfix.specs.inner.ListState.{IsListAtFront, list_at_front};
 
     ghost Value = { BufferedList };
 
@@ -119,7 +119,7 @@ fn read_into<S: Source>(bytes: &mut Vec<u8>, source: &mut S) -> Result<usize, Li
         → S.steady source.new × (S.failures source.new ≡ S.failures source.old) }
 {
     let mut filled = 0;
-    let mut place = ListPlace::Front;
+    let mut place = ListState::Front;
     // bounce(8) sets no bound to a list; here what a client can make the service keep is known.
     while filled < LONGEST_LIST {
         let count = read_piece(bytes, filled, source)?;

@@ -3,10 +3,10 @@ use Rattle.std.proofs.Common.{◌≡◌, ℕ, List, [], ◌∷◌, ◌++◌, Som
 use Rattle.std.specs.Prelude.{codes}
 use Rattle.dsn_smtp.specs.Reply.{IsServerReply, last_text_of}
 use Rattle.dsn_smtp.specs.ReplyCode.{class_of, is_reply_code}
-use Rattle.dsn_smtp.specs.inner.ReplyPlace.{scan}
+use Rattle.dsn_smtp.specs.inner.ReplyState.{scan}
 use Rattle.dsn_smtp.specs.declared.reply_class.ReplyClass.TheVariants.{Positive, Intermediate, RefusedForNow, RefusedForGood}
-use Rattle.dsn_smtp.specs.declared.reply_place.ReplyPlace.TheVariants.{Front}
-use Rattle.dsn_smtp.specs.declared.reply_place.ReplyScan.TheVariants.{Open, Whole, Behind, Wrong}
+use Rattle.dsn_smtp.specs.declared.reply_state.ReplyState.TheVariants.{Front}
+use Rattle.dsn_smtp.specs.declared.reply_state.ReplyScan.TheVariants.{Open, Whole, Behind, Wrong}
 
 -- RFC 5321 section 4.2.1: a reply of one line and one of three
 abbrev line : List ℕ → List ℕ

@@ -8,18 +8,18 @@ use Rattle.dsn_text.specs.Text.{is_between}
 use Rattle.dsn_smtp.specs.Reply.{AreReplyTexts, HasFurtherBytes, HasNoReply, IsLastText, IsNoFrontOfReply, IsServerReply, IsReplyText, after_code, is_text_byte}
 use Rattle.dsn_smtp.specs.ReplyCode.{IsReplyCode, is_reply_code}
 use Rattle.dsn_smtp.specs.ReplyReading.{IsUnended}
-use Rattle.dsn_smtp.specs.inner.ReplyPlace.{are_none, reply_place_after, scan, scan_on, step_if}
-use Rattle.dsn_smtp.specs.declared.reply_place.ReplyPlace.{ReplyPlace}
-use Rattle.dsn_smtp.specs.declared.reply_place.ReplyPlace.TheVariants.{Front, Second, Third, Mark, Text, LastText, LineFeed, LastLineFeed, FrontAgain, SecondAgain, ThirdAgain}
-use Rattle.dsn_smtp.specs.declared.reply_place.ReplyStep.{ReplyStep}
-use Rattle.dsn_smtp.specs.declared.reply_place.ReplyStep.TheVariants.{Within, Ended, Misplaced}
-use Rattle.dsn_smtp.specs.declared.reply_place.ReplyScan.{ReplyScan}
-use Rattle.dsn_smtp.specs.declared.reply_place.ReplyScan.TheVariants.{Open, Whole, Behind, Wrong}
+use Rattle.dsn_smtp.specs.inner.ReplyState.{are_none, reply_state_after, scan, scan_on, step_if}
+use Rattle.dsn_smtp.specs.declared.reply_state.ReplyState.{ReplyState}
+use Rattle.dsn_smtp.specs.declared.reply_state.ReplyState.TheVariants.{Front, Second, Third, Mark, Text, LastText, LineFeed, LastLineFeed, FrontAgain, SecondAgain, ThirdAgain}
+use Rattle.dsn_smtp.specs.declared.reply_state.ReplyStep.{ReplyStep}
+use Rattle.dsn_smtp.specs.declared.reply_state.ReplyStep.TheVariants.{Within, Ended, Misplaced}
+use Rattle.dsn_smtp.specs.declared.reply_state.ReplyScan.{ReplyScan}
+use Rattle.dsn_smtp.specs.declared.reply_state.ReplyScan.TheVariants.{Open, Whole, Behind, Wrong}
 
 -- ---- what reading takes for a reply is one
 
 -- what makes the bytes after a place a reply
-abbrev GoesOn : ReplyPlace → (bytes code : List ℕ) → Type 0
+abbrev GoesOn : ReplyState → (bytes code : List ℕ) → Type 0
 GoesOn Front bytes code = IsServerReply code bytes
 GoesOn (Second first) bytes code = IsServerReply code (first ∷ bytes)
 GoesOn (Third first second) bytes code = IsServerReply code (first ∷ second ∷ bytes)
@@ -33,7 +33,7 @@ GoesOn (SecondAgain c) bytes code = (code ≡ c) × IsServerReply c (slice_index
 GoesOn (ThirdAgain c) bytes code = (code ≡ c) × IsServerReply c (slice_index c 0 ∷ slice_index c 1 ∷ bytes)
 
 -- the digits that a place has are those of a code
-abbrev IsPlace : ReplyPlace → Type 0
+abbrev IsPlace : ReplyState → Type 0
 IsPlace Front = Unit {0}
 IsPlace (Second first) = IsTrue (is_between 50 53 first)
 IsPlace (Third first second) = IsTrue (is_between 50 53 first) × IsTrue (is_between 48 53 second)
@@ -143,7 +143,7 @@ spaced c rest reply = spaced_from c rest reply.earlier reply.last reply.legal (a
 
 -- ---- one byte
 
-abbrev place_in : ReplyStep → ReplyPlace
+abbrev place_in : ReplyStep → ReplyState
 place_in (Within p) = p
 place_in (Ended c) = Front
 place_in Misplaced = Front
@@ -153,26 +153,26 @@ code_in (Within p) = []
 code_in (Ended c) = c
 code_in Misplaced = []
 
-same_place : (p q : ReplyPlace) → Within p ≡ Within q → p ≡ q
+same_place : (p q : ReplyState) → Within p ≡ Within q → p ≡ q
 same_place p q e = ap place_in e
 
 same_code : (c d : List ℕ) → Ended c ≡ Ended d → c ≡ d
 same_code c d e = ap code_in e
 
 -- a byte leads from a place to the next
-record Leads (place : ReplyPlace) (byte : ℕ) (next : ReplyPlace) : Type 0 where
+record Leads (place : ReplyState) (byte : ℕ) (next : ReplyState) : Type 0 where
   fine : IsPlace next
   on : (rest code : List ℕ) → GoesOn next rest code → GoesOn place (byte ∷ rest) code
 
-made : {P : Type 0} → (b : Bool) (p q : ReplyPlace) → step_if b (Within p) ≡ Within q → (b ≡ true → p ≡ q → P) → P
+made : {P : Type 0} → (b : Bool) (p q : ReplyState) → step_if b (Within p) ≡ Within q → (b ≡ true → p ≡ q → P) → P
 made true p q e follows = follows refl (same_place p q e)
 made false p q e follows = absurd cc
 
-never_ended : (b : Bool) (p : ReplyPlace) (c : List ℕ) → step_if b (Within p) ≡ Ended c → ⊥
+never_ended : (b : Bool) (p : ReplyState) (c : List ℕ) → step_if b (Within p) ≡ Ended c → ⊥
 never_ended true p c e = cc
 never_ended false p c e = cc
 
-mark_leads : (c : List ℕ) (next : ReplyPlace) (byte : ℕ) (hyphen space return : Bool) → (hyphen ≡ true → byte ≡ 45) → (space ≡ true → byte ≡ 32) → (return ≡ true → byte ≡ 13) → IsReplyCode c
+mark_leads : (c : List ℕ) (next : ReplyState) (byte : ℕ) (hyphen space return : Bool) → (hyphen ≡ true → byte ≡ 45) → (space ≡ true → byte ≡ 32) → (return ≡ true → byte ≡ 13) → IsReplyCode c
     → (if hyphen then Within (Text c) else (if space then Within (LastText c) else step_if return (Within (LastLineFeed c)))) ≡ Within next → Leads (Mark c) byte next
 mark_leads c next byte true space return is_45 is_32 is_13 legal e =
     subst (Leads (Mark c) byte) (same_place (Text c) next e) (record { fine = legal; on = λ rest code g. rw (is_45 refl) g })
@@ -182,7 +182,7 @@ mark_leads c next byte false false true is_45 is_32 is_13 legal e =
     subst (Leads (Mark c) byte) (same_place (LastLineFeed c) next e) (record { fine = legal; on = λ rest code g. rw (is_13 refl) g })
 mark_leads c next byte false false false is_45 is_32 is_13 legal e = absurd cc
 
-text_leads : (c : List ℕ) (next : ReplyPlace) (byte : ℕ) (return feed : Bool) → byte == 13 ≡ return → byte == 10 ≡ feed → (return ≡ true → byte ≡ 13) → IsReplyCode c
+text_leads : (c : List ℕ) (next : ReplyState) (byte : ℕ) (return feed : Bool) → byte == 13 ≡ return → byte == 10 ≡ feed → (return ≡ true → byte ≡ 13) → IsReplyCode c
     → (if return then Within (LineFeed c) else (if feed then Misplaced else Within (Text c))) ≡ Within next → Leads (Text c) byte next
 text_leads c next byte true feed not_13 not_10 is_13 legal e =
     subst (Leads (Text c) byte) (same_place (LineFeed c) next e) (record { fine = legal; on = λ rest code g. rw (is_13 refl) g })
@@ -190,7 +190,7 @@ text_leads c next byte false true not_13 not_10 is_13 legal e = absurd cc
 text_leads c next byte false false not_13 not_10 is_13 legal e =
     subst (Leads (Text c) byte) (same_place (Text c) next e) (record { fine = legal; on = λ rest code g. (g.0, longer_text c rest byte (rw (not_13, not_10) refl) g.1) })
 
-last_leads : (c : List ℕ) (next : ReplyPlace) (byte : ℕ) (return feed : Bool) → byte == 13 ≡ return → byte == 10 ≡ feed → (return ≡ true → byte ≡ 13) → IsReplyCode c
+last_leads : (c : List ℕ) (next : ReplyState) (byte : ℕ) (return feed : Bool) → byte == 13 ≡ return → byte == 10 ≡ feed → (return ≡ true → byte ≡ 13) → IsReplyCode c
     → (if return then Within (LastLineFeed c) else (if feed then Misplaced else Within (LastText c))) ≡ Within next → Leads (LastText c) byte next
 last_leads c next byte true feed not_13 not_10 is_13 legal e =
     subst (Leads (LastText c) byte) (same_place (LastLineFeed c) next e) (record { fine = legal; on = λ rest code g. rw (is_13 refl) (g.0, spaced c rest g.1) })
@@ -201,7 +201,7 @@ last_leads c next byte false false not_13 not_10 is_13 legal e =
 is_number : (a b : ℕ) → a == b ≡ true → a ≡ b
 is_number a b e = grind (nat_tests, arith, e)
 
-leads : (place next : ReplyPlace) (byte : ℕ) → IsPlace place → reply_place_after place byte ≡ Within next → Leads place byte next
+leads : (place next : ReplyState) (byte : ℕ) → IsPlace place → reply_state_after place byte ≡ Within next → Leads place byte next
 leads Front next byte good e = made (is_between 50 53 byte) (Second byte) next e (λ yes is. subst (Leads Front byte) is (record { fine = yes; on = λ rest code g. g }))
 leads (Second first) next byte good e = made (is_between 48 53 byte) (Third first byte) next e (λ yes is. subst (Leads (Second first) byte) is (record { fine = (good, yes); on = λ rest code g. g }))
 leads (Third first second) next byte good e =
@@ -214,7 +214,7 @@ leads (LineFeed c) next byte good e =
     made (byte == 10) (FrontAgain c) next e (λ yes is. subst (Leads (LineFeed c) byte) is (record { fine = good; on = λ rest code g. rw (is_number byte 10 yes) (g.0, one_line_more c rest g.1) }))
 leads (LastLineFeed c) next byte good e = absurd (never (byte == 10) c next e)
   where
-    never : (b : Bool) (c : List ℕ) (p : ReplyPlace) → step_if b (Ended c) ≡ Within p → ⊥
+    never : (b : Bool) (c : List ℕ) (p : ReplyState) → step_if b (Ended c) ≡ Within p → ⊥
     never true c p e = cc
     never false c p e = cc
 leads (FrontAgain c) next byte good e =
@@ -226,7 +226,7 @@ leads (ThirdAgain c) next byte good e =
     (λ yes is. subst (Leads (ThirdAgain c) byte) is (record { fine = good; on = λ rest code g. rw (is_number byte (slice_index c 2) yes) (g.0, subst (IsServerReply c) (ap (λ (l : List ℕ). l ++ rest) (three c good)) g.1) }))
 
 -- the byte that ends a reply
-ended : (place : ReplyPlace) (byte : ℕ) (c : List ℕ) → IsPlace place → reply_place_after place byte ≡ Ended c → GoesOn place (byte ∷ []) c
+ended : (place : ReplyState) (byte : ℕ) (c : List ℕ) → IsPlace place → reply_state_after place byte ≡ Ended c → GoesOn place (byte ∷ []) c
 ended Front byte c good e = absurd (never_ended _ _ c e)
 ended (Second first) byte c good e = absurd (never_ended _ _ c e)
 ended (Third first second) byte c good e = absurd (never_ended _ _ c e)
@@ -262,7 +262,7 @@ ended (ThirdAgain d) byte c good e = absurd (never_ended _ _ c e)
 -- ---- whole bytes
 
 -- bytes that begin with a reply, and more
-record Found (place : ReplyPlace) (bytes : List ℕ) : Type 0 where
+record Found (place : ReplyState) (bytes : List ℕ) : Type 0 where
   front : List ℕ
   rest : List ℕ
   code : List ℕ
@@ -271,14 +271,14 @@ record Found (place : ReplyPlace) (bytes : List ℕ) : Type 0 where
   on : GoesOn place front code
 
 -- what is known of bytes that come to this
-abbrev Known : ReplyPlace → List ℕ → ReplyScan → Type 0
+abbrev Known : ReplyState → List ℕ → ReplyScan → Type 0
 Known place bytes Open = (rest code : List ℕ) × GoesOn place (bytes ++ rest) code
 Known place bytes (Whole code) = GoesOn place bytes code
 Known place bytes Behind = Found place bytes
 Known place bytes Wrong = Unit {0}
 
 -- each place can be gone on from
-completed : (place : ReplyPlace) → IsPlace place → Known place [] Open
+completed : (place : ReplyState) → IsPlace place → Known place [] Open
 completed Front good = (50 ∷ 48 ∷ 48 ∷ 13 ∷ 10 ∷ [], 50 ∷ 48 ∷ 48 ∷ [], shortest (50 ∷ 48 ∷ 48 ∷ []) refl)
 completed (Second a) good = (48 ∷ 48 ∷ 13 ∷ 10 ∷ [], a ∷ 48 ∷ 48 ∷ [], shortest (a ∷ 48 ∷ 48 ∷ []) (rw good refl))
 completed (Third a b) good = (48 ∷ 13 ∷ 10 ∷ [], a ∷ b ∷ 48 ∷ [], shortest (a ∷ b ∷ 48 ∷ []) (rw (good.0, good.1) refl))
@@ -293,7 +293,7 @@ completed (SecondAgain c) good =
 completed (ThirdAgain c) good =
     (slice_index c 2 ∷ 13 ∷ 10 ∷ [], c, (refl, subst (IsServerReply c) (ap (λ (l : List ℕ). l ++ 13 ∷ 10 ∷ []) (three c good)) (shortest c good)))
 
-later : (place next : ReplyPlace) (byte : ℕ) (bytes : List ℕ) → Leads place byte next → (s : ReplyScan) → Known next bytes s → Known place (byte ∷ bytes) s
+later : (place next : ReplyState) (byte : ℕ) (bytes : List ℕ) → Leads place byte next → (s : ReplyScan) → Known next bytes s → Known place (byte ∷ bytes) s
 later place next byte bytes l Open k = (k.0, k.1, l.on (bytes ++ k.0) k.1 k.2)
 later place next byte bytes l (Whole code) k = l.on bytes code k
 later place next byte bytes l Behind k = record {
@@ -306,7 +306,7 @@ later place next byte bytes l Behind k = record {
 }
 later place next byte bytes l Wrong k = tt
 
-known_on : (place : ReplyPlace) (byte : ℕ) (bytes : List ℕ) → IsPlace place → ((next : ReplyPlace) → IsPlace next → Known next bytes (scan next bytes)) → (s : ReplyStep) → reply_place_after place byte ≡ s
+known_on : (place : ReplyState) (byte : ℕ) (bytes : List ℕ) → IsPlace place → ((next : ReplyState) → IsPlace next → Known next bytes (scan next bytes)) → (s : ReplyStep) → reply_state_after place byte ≡ s
     → Known place (byte ∷ bytes) (scan_on (λ next. scan next bytes) (are_none bytes) s)
 known_on place byte bytes good each (Within next) e = later place next byte bytes (leads place next byte good e) (scan next bytes) (each next (leads place next byte good e).fine)
 known_on place byte [] good each (Ended c) e = ended place byte c good e
@@ -320,9 +320,9 @@ known_on place byte (other ∷ bytes) good each (Ended c) e = record {
 }
 known_on place byte bytes good each Misplaced e = tt
 
-known : (bytes : List ℕ) (place : ReplyPlace) → IsPlace place → Known place bytes (scan place bytes)
+known : (bytes : List ℕ) (place : ReplyState) → IsPlace place → Known place bytes (scan place bytes)
 known [] place good = completed place good
-known (byte ∷ bytes) place good = known_on place byte bytes good (λ next fine. known bytes next fine) (reply_place_after place byte) refl
+known (byte ∷ bytes) place good = known_on place byte bytes good (λ next fine. known bytes next fine) (reply_state_after place byte) refl
 
 -- ---- a reply is taken for one
 
@@ -385,16 +385,16 @@ HasEnded (Whole code) = Unit {0}
 HasEnded Behind = Unit {0}
 HasEnded Wrong = ⊥
 
-ended_after : (f g : ReplyPlace → ReplyScan) (a b : Bool) (s : ReplyStep) → ((next : ReplyPlace) → HasEnded (f next) → HasEnded (g next)) → HasEnded (scan_on f a s) → HasEnded (scan_on g b s)
+ended_after : (f g : ReplyState → ReplyScan) (a b : Bool) (s : ReplyStep) → ((next : ReplyState) → HasEnded (f next) → HasEnded (g next)) → HasEnded (scan_on f a s) → HasEnded (scan_on g b s)
 ended_after f g a b (Within next) each h = each next h
 ended_after f g a true (Ended c) each h = tt
 ended_after f g a false (Ended c) each h = tt
 ended_after f g a b Misplaced each h = h
 
-stays_ended : (bytes more : List ℕ) (place : ReplyPlace) → HasEnded (scan place bytes) → HasEnded (scan place (bytes ++ more))
+stays_ended : (bytes more : List ℕ) (place : ReplyState) → HasEnded (scan place bytes) → HasEnded (scan place (bytes ++ more))
 stays_ended [] more place h = absurd h
 stays_ended (byte ∷ bytes) more place h =
-    ended_after (λ next. scan next bytes) (λ next. scan next (bytes ++ more)) (are_none bytes) (are_none (bytes ++ more)) (reply_place_after place byte) (λ next h. stays_ended bytes more next h) h
+    ended_after (λ next. scan next bytes) (λ next. scan next (bytes ++ more)) (are_none bytes) (are_none (bytes ++ more)) (reply_state_after place byte) (λ next h. stays_ended bytes more next h) h
 
 abbrev IsWrong : ReplyScan → Type 0
 IsWrong Open = ⊥
@@ -402,16 +402,16 @@ IsWrong (Whole code) = ⊥
 IsWrong Behind = ⊥
 IsWrong Wrong = Unit {0}
 
-wrong_after : (f g : ReplyPlace → ReplyScan) (a b : Bool) (s : ReplyStep) → ((next : ReplyPlace) → IsWrong (f next) → IsWrong (g next)) → IsWrong (scan_on f a s) → IsWrong (scan_on g b s)
+wrong_after : (f g : ReplyState → ReplyScan) (a b : Bool) (s : ReplyStep) → ((next : ReplyState) → IsWrong (f next) → IsWrong (g next)) → IsWrong (scan_on f a s) → IsWrong (scan_on g b s)
 wrong_after f g a b (Within next) each h = each next h
 wrong_after f g true b (Ended c) each h = absurd h
 wrong_after f g false b (Ended c) each h = absurd h
 wrong_after f g a b Misplaced each h = tt
 
-stays_wrong : (bytes more : List ℕ) (place : ReplyPlace) → IsWrong (scan place bytes) → IsWrong (scan place (bytes ++ more))
+stays_wrong : (bytes more : List ℕ) (place : ReplyState) → IsWrong (scan place bytes) → IsWrong (scan place (bytes ++ more))
 stays_wrong [] more place h = absurd h
 stays_wrong (byte ∷ bytes) more place h =
-    wrong_after (λ next. scan next bytes) (λ next. scan next (bytes ++ more)) (are_none bytes) (are_none (bytes ++ more)) (reply_place_after place byte) (λ next h. stays_wrong bytes more next h) h
+    wrong_after (λ next. scan next bytes) (λ next. scan next (bytes ++ more)) (are_none bytes) (are_none (bytes ++ more)) (reply_state_after place byte) (λ next h. stays_wrong bytes more next h) h
 
 -- ---- what reading comes to
 

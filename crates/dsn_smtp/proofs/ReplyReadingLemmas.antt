@@ -5,13 +5,13 @@ use Rattle.std.proofs.KnownBytes.{Consumes-trans}
 use Rattle.std.proofs.Math.Seq.{take-add}
 use Rattle.std.proofs.lemmas.List.{nil_from_length}
 use Rattle.dsn_smtp.specs.Reply.{longest_server_reply}
-use Rattle.dsn_smtp.specs.inner.ReplyPlace.{scan}
-use Rattle.dsn_smtp.specs.inner.ReplyPlace.{ReadsNoReplyPiece, ReadsReplyPiece, StopsAtReplyPiece}
+use Rattle.dsn_smtp.specs.inner.ReplyState.{scan}
+use Rattle.dsn_smtp.specs.inner.ReplyState.{ReadsNoReplyPiece, ReadsReplyPiece, StopsAtReplyPiece}
 use Rattle.dsn_smtp.specs.ReplyReading.{ReadsNoReply, ReadsReply, StopsReply}
 use Rattle.dsn_smtp.specs.declared.reply_fault.ReplyFault.{ReplyFault}
 use Rattle.dsn_smtp.specs.declared.reply_fault.ReplyFault.TheVariants.{Nothing, CutShort, NoReply, TooLong, Trailing, Read}
-use Rattle.dsn_smtp.specs.declared.reply_place.ReplyPlace.TheVariants.{Front}
-use Rattle.dsn_smtp.specs.declared.reply_place.ReplyScan.TheVariants.{Open, Whole, Behind, Wrong}
+use Rattle.dsn_smtp.specs.declared.reply_state.ReplyState.TheVariants.{Front}
+use Rattle.dsn_smtp.specs.declared.reply_state.ReplyScan.TheVariants.{Open, Whole, Behind, Wrong}
 use Rattle.dsn_smtp.proofs.ReplyLemmas.{no_front, no_reply, reply_and_more, unended, whole_reply}
 
 -- what is known of a buffer once a piece was read into it, after so many bytes that were read

@@ -4,10 +4,10 @@ use crate::hand_in_fault::HandInFault;
 use crate::hand_in_step::HandInStep;
 use crate::kept_or_new::hand_in_over;
 use crate::mail_server::MailServer;
-use crate::notice::Notice;
 use crate::reply_buffer::ReplyBuffer;
 use crate::reply_fault::ReplyFault;
 use crate::session::Session;
+use crate::submission::Submission;
 use crossbeam_channel::{Receiver, Sender, bounded};
 use dsn_device::{Connection, Plain};
 use std::alloc::{AllocError, Global};
@@ -15,37 +15,37 @@ use std::net::TcpStream;
 use std::sync::Wait;
 use std::time::{Clock, Duration};
 
-/// How many notices are handed in at once. Others wait: a notice that was taken is told twice where
-/// the process is killed before its log is removed, and the more go to the server's disk at once,
-/// the longer that takes each.
+/// How many notices are submitted at once. Others wait: if the process is killed between the
+/// server's reply and the removal of the log, the sender is notified twice, and the more notices the
+/// server writes at once, the longer each takes.
 // Two keep a server busy: the rate at load is the queue manager's. A notice that waits has its log
 // locked, so an append to that log waits too, and fails after 20 seconds, as with bounce(8).
 const MOST_AT_ONCE: usize = 2;
 
-/// For how many seconds a notice waits for its turn: so a server that doesn't answer holds no more
-/// requests than these.
+/// For how many seconds a notice waits for its turn, so that a server that doesn't answer holds up
+/// only the requests of that time.
 const SECONDS_FOR_TURN: u64 = 60;
 
 /// A session over a socket.
 type MailSession = Session<Plain<Connection<TcpStream>>>;
 
-/// A turn to hand in one notice, with the session that the last one has left.
+/// The turn to submit one notice, with the session that the last one has left.
 #[derive(Drop)]
-struct Turn {
+struct KeptSession {
     session: Option<MailSession>,
     /// Whether the session was used since the last round.
     is_fresh: bool,
 }
 
-/// The turns that nobody has. A notice is handed in by who has one.
+/// The turns that no thread has. A thread submits a notice only while it has one.
 #[derive(Drop)]
 pub struct KeptSessions {
-    back: Sender<Turn>,
-    turns: Receiver<Turn>,
+    back: Sender<KeptSession>,
+    turns: Receiver<KeptSession>,
 }
 
 impl KeptSessions {
-    /// With no session.
+    /// All turns, without a session.
     pub fn new<W: Wait>(alloc: Global, waiting: &W) -> Result<KeptSessions, AllocError> {
         let (back, turns) = bounded(alloc, MOST_AT_ONCE)?;
         let kept = KeptSessions { back, turns };
@@ -55,14 +55,16 @@ impl KeptSessions {
         Ok(kept)
     }
 
-    /// Gives a turn back, with a session that is kept.
+    /// Returns a turn, with the session to be kept.
     fn put_back<W: Wait>(&self, waiting: &W, session: Option<MailSession>, is_fresh: bool) {
         // there is room: no more turns are taken than there are
-        let _ = self.back.try_send(waiting, Turn { session, is_fresh });
+        let _ = self
+            .back
+            .try_send(waiting, KeptSession { session, is_fresh });
     }
 
-    /// The session of a turn, or that of another turn that nobody has.
-    fn session_for<W: Wait>(&self, waiting: &W, turn: Turn) -> Option<MailSession> {
+    /// The session of a turn, or else that of another turn that no thread has.
+    fn session_for<W: Wait>(&self, waiting: &W, turn: KeptSession) -> Option<MailSession> {
         if turn.session.is_some() {
             return turn.session;
         }
@@ -71,13 +73,13 @@ impl KeptSessions {
         other.session
     }
 
-    /// Hands a notice to a mail server, in a session that is kept, or else in a new one. One that
-    /// waits too long for its turn is a greeting that wasn't heard.
+    /// Submits a notice in a kept session, or else in a new one. Returns `Unheard` at the greeting if it
+    /// waited too long for its turn.
     pub fn hand_in<W: Wait + Clock>(
         &self,
         waiting: &W,
         server: &mut MailServer<'_>,
-        notice: &Notice<'_>,
+        submission: &Submission<'_>,
         reply: &mut ReplyBuffer,
     ) -> Result<(), HandInFault> {
         let limit = Duration::from_secs(SECONDS_FOR_TURN);
@@ -86,7 +88,7 @@ impl KeptSessions {
         };
         let session = self.session_for(waiting, turn);
         let host = server.host;
-        let (session, handed) = match hand_in_over(server, session, host, notice, reply) {
+        let (session, handed) = match hand_in_over(server, session, host, submission, reply) {
             Ok(session) => (Some(session), Ok(())),
             Err(fault) => (None, Err(fault)),
         };
@@ -100,13 +102,13 @@ impl KeptSessions {
         handed
     }
 
-    /// Ends the sessions that weren't used since the call before this one.
+    /// Ends the sessions that weren't used since the last call.
     pub fn end_stale<W: Wait>(&self, waiting: &W) {
         for _ in 0..MOST_AT_ONCE {
             let Ok(turn) = self.turns.try_recv(waiting) else {
                 return;
             };
-            let Turn { session, is_fresh } = turn;
+            let KeptSession { session, is_fresh } = turn;
             if is_fresh {
                 self.put_back(waiting, session, false);
             } else {

@@ -4,13 +4,13 @@ ghost use Rattle.std.specs.Prelude.{◌≡◌, ◌<◌, ◌≤◌, [], length, t
 ghost use Rattle.std.specs.Io.KnownBytes.{Keeps};
 ghost use Rattle.dsn_device.specs.Failures.{counted};
 ghost use Rattle.dsn_smtp.specs.Reply.{last_text_of, longest_server_reply};
-ghost use Rattle.dsn_smtp.specs.inner.ReplyPlace.{ReadsNoReplyPiece, ReadsReplyPiece};
+ghost use Rattle.dsn_smtp.specs.inner.ReplyState.{ReadsNoReplyPiece, ReadsReplyPiece};
 ghost use Rattle.dsn_smtp.specs.ReplyReading.{ReadsNoReply, ReadsReply, reply_device_failed};
 
 use crate::queue_id_text::after_last_byte;
 use crate::reply_code::ReplyCode;
 use crate::reply_fault::ReplyFault;
-use crate::reply_place::{ReplyScan, scan};
+use crate::reply_state::{ReplyScan, scan};
 use dsn_device::Source;
 use std::marker::Model;
 

@@ -8,11 +8,11 @@ mod clean;
 mod envelope_id;
 mod extension;
 pub mod fault_code;
-mod kept_stamp;
 mod key;
 mod laws;
 mod mta_name;
 mod no_memory;
+mod packed_stamp;
 mod queue_id;
 mod raw_header;
 mod service;
@@ -30,11 +30,11 @@ pub use extension::{
     LONGEST_EXTENSION_NAME, LONGEST_EXTENSION_TEXT, LONGEST_EXTENSION_VALUE, MOST_EXTENSIONS,
     first_ended_line, is_extension_text,
 };
-pub use kept_stamp::KeptStamp;
 pub use key::Key;
 pub use laws::keys_are_ordered;
 pub use mta_name::{LONGEST_MTA_NAME, MtaName};
 pub use no_memory::NoMemory;
+pub use packed_stamp::PackedStamp;
 pub use queue_id::{LONGEST_QUEUE_ID, QueueId};
 pub use raw_header::{LONGEST_HEADER, RawHeader};
 pub use service::Service;

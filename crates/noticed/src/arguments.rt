@@ -1,7 +1,7 @@
 //! The arguments: which command they name, and what it is given.
 use crate::postfix_arguments::postfix_arguments;
 use crate::postfix_serving::PostfixServing;
-use crate::refusal::Refusal;
+use crate::start_error::StartError;
 use dsn_report::{Site, SiteFault};
 use noticed_lib::WatchOptions;
 use std::alloc::Global;
@@ -83,15 +83,15 @@ pub(crate) struct ServeOptions {
 }
 
 /// The command that the arguments name.
-pub(crate) fn command_of(rt: &HostRuntime) -> Result<Command, Refusal> {
+pub(crate) fn command_of(rt: &HostRuntime) -> Result<Command, StartError> {
     let mut words = match env::args(rt) {
         Ok(words) => words,
-        Err(error) if error.kind() == ErrorKind::OutOfMemory => return Err(Refusal::NoMemory),
+        Err(error) if error.kind() == ErrorKind::OutOfMemory => return Err(StartError::NoMemory),
         // A word that isn't UTF-8.
-        Err(_) => return Err(Refusal::Usage),
+        Err(_) => return Err(StartError::Usage),
     };
     let _program = words.next();
-    let command = words.next().ok_or(Refusal::Usage)?;
+    let command = words.next().ok_or(StartError::Usage)?;
     match command.as_str() {
         "batch" => batch_arguments(rt.alloc(), words),
         "serve" => serve_arguments(rt.alloc(), words),
@@ -105,27 +105,27 @@ pub(crate) fn command_of(rt: &HostRuntime) -> Result<Command, Refusal> {
             folder: folder_argument(words)?,
         }),
         "postfix" => Ok(Command::Postfix(postfix_arguments(rt.alloc(), words)?)),
-        _ => Err(Refusal::Usage),
+        _ => Err(StartError::Usage),
     }
 }
 
 /// The arguments `HOST` of `batch`.
-fn batch_arguments(alloc: Global, mut words: Args) -> Result<Command, Refusal> {
+fn batch_arguments(alloc: Global, mut words: Args) -> Result<Command, StartError> {
     let (Some(host), None) = (words.next(), words.next()) else {
-        return Err(Refusal::Usage);
+        return Err(StartError::Usage);
     };
     let site = site_of(alloc, &host)?;
     Ok(Command::Batch { site })
 }
 
 /// The arguments `[OPTION].. SOCKET HOST AGENTS MAX-USE` of `serve`.
-fn serve_arguments(alloc: Global, mut words: Args) -> Result<Command, Refusal> {
+fn serve_arguments(alloc: Global, mut words: Args) -> Result<Command, StartError> {
     let options = serve_options(&mut words)?;
     let (Some(socket), Some(host)) = (words.next(), words.next()) else {
-        return Err(Refusal::Usage);
+        return Err(StartError::Usage);
     };
     let (Some(agents), Some(max_use), None) = (words.next(), words.next(), words.next()) else {
-        return Err(Refusal::Usage);
+        return Err(StartError::Usage);
     };
     Ok(Command::Serve(Serving {
         agents: number_of(&agents, MOST_AGENTS)?,
@@ -139,7 +139,7 @@ fn serve_arguments(alloc: Global, mut words: Args) -> Result<Command, Refusal> {
 
 /// The options of `serve`, each given once at most. They are the words before its last four, so
 /// that a socket, say, may have the name of an option. A journal asks for an outbox by path.
-fn serve_options(words: &mut Args) -> Result<ServeOptions, Refusal> {
+fn serve_options(words: &mut Args) -> Result<ServeOptions, StartError> {
     let mut options = ServeOptions {
         journal: None,
         outbox: None,
@@ -155,82 +155,86 @@ fn serve_options(words: &mut Args) -> Result<ServeOptions, Refusal> {
         if words.len() <= SERVE_WORDS {
             break;
         }
-        let option = words.next().ok_or(Refusal::Usage)?;
+        let option = words.next().ok_or(StartError::Usage)?;
         take_option(&mut options, option.as_str(), words)?;
     }
     // A letter is marked once a flush returned, so that flush has to wait for a disk.
     if options.journal.is_some() && options.outbox.is_none() {
-        return Err(Refusal::Usage);
+        return Err(StartError::Usage);
     }
     Ok(options)
 }
 
 /// Takes one option of `serve`, with its argument.
-fn take_option(options: &mut ServeOptions, option: &str, words: &mut Args) -> Result<(), Refusal> {
+fn take_option(
+    options: &mut ServeOptions,
+    option: &str,
+    words: &mut Args,
+) -> Result<(), StartError> {
     let watch = &mut options.watch;
     match option {
         "--journal" if options.journal.is_none() => options.journal = Some(path_of(words)?),
         "--outbox" if options.outbox.is_none() => options.outbox = Some(path_of(words)?),
         "--idle" if watch.idle_limit.is_none() => {
-            let seconds = words.next().ok_or(Refusal::Usage)?;
+            let seconds = words.next().ok_or(StartError::Usage)?;
             watch.idle_limit = Some(number_of(&seconds, MOST_IDLE)?);
         }
         "--end-on-fault" if !watch.ends_on_fault => watch.ends_on_fault = true,
         "--log" if !watch.logs => watch.logs = true,
-        _ => return Err(Refusal::Usage),
+        _ => return Err(StartError::Usage),
     }
     Ok(())
 }
 
 /// The path that comes next.
-pub(crate) fn path_of(words: &mut Args) -> Result<String, Refusal> {
+pub(crate) fn path_of(words: &mut Args) -> Result<String, StartError> {
     match words.next() {
         Some(path) if !path.is_empty() => Ok(path),
-        _ => Err(Refusal::Usage),
+        _ => Err(StartError::Usage),
     }
 }
 
 /// The argument `SOCKET` of `stop` and `send`.
-fn socket_argument(mut words: Args) -> Result<String, Refusal> {
+fn socket_argument(mut words: Args) -> Result<String, StartError> {
     match (words.next(), words.next()) {
         (Some(socket), None) => socket_of(socket),
-        _ => Err(Refusal::Usage),
+        _ => Err(StartError::Usage),
     }
 }
 
 /// The argument `FOLDER` of `journal`.
-fn folder_argument(mut words: Args) -> Result<String, Refusal> {
+fn folder_argument(mut words: Args) -> Result<String, StartError> {
     let folder = path_of(&mut words)?;
     match words.next() {
         None => Ok(folder),
-        Some(_) => Err(Refusal::Usage),
+        Some(_) => Err(StartError::Usage),
     }
 }
 
 /// The path of a socket. An empty one would be bound to a name that every account gets to.
-fn socket_of(path: String) -> Result<String, Refusal> {
+fn socket_of(path: String) -> Result<String, StartError> {
     if path.is_empty() || path.len() > LONGEST_PATH {
-        return Err(Refusal::SocketPath);
+        return Err(StartError::SocketPath);
     }
     Ok(path)
 }
 
 /// The number from 1 to `most` that a word is in decimal, without leading zeros.
-pub(crate) fn number_of(word: &str, most: u32) -> Result<u32, Refusal> {
+pub(crate) fn number_of(word: &str, most: u32) -> Result<u32, StartError> {
     if !matches!(word.as_bytes().first(), Some(b'1'..=b'9')) {
-        return Err(Refusal::Usage);
+        return Err(StartError::Usage);
     }
     match word.parse::<u32>() {
         Ok(number) if number <= most => Ok(number),
-        _ => Err(Refusal::Usage),
+        _ => Err(StartError::Usage),
     }
 }
 
 /// The site that a host names.
-pub(crate) fn site_of(alloc: Global, host: &str) -> Result<Site, Refusal> {
+pub(crate) fn site_of(alloc: Global, host: &str) -> Result<Site, StartError> {
     match Site::new(alloc, host.as_bytes()) {
         Ok(site) => Ok(site),
-        Err(SiteFault::BadHost) => Err(Refusal::Usage),
-        Err(SiteFault::NoMemory) => Err(Refusal::NoMemory),
+        Err(SiteFault::BadHost) => Err(StartError::Usage),
+        Err(SiteFault::NoMemory) => Err(StartError::NoMemory),
     }
 }

@@ -1,18 +1,18 @@
 //! The command `batch`.
 use crate::buffer::{ROOM, let_go};
-use crate::refusal::Refusal;
+use crate::start_error::StartError;
 use dsn_outcome::Plain;
 use dsn_report::Site;
 use noticed_lib::{BatchEnd, Limits, batch};
 use std::io::{BufReader, BufWriter};
 
 /// Runs `batch` over the standard streams, and returns its status.
-pub(crate) fn run_batch(rt: &HostRuntime, site: Site) -> Result<u8, Refusal> {
+pub(crate) fn run_batch(rt: &HostRuntime, site: Site) -> Result<u8, StartError> {
     let reader = BufReader::with_capacity(rt.alloc(), ROOM, rt.stdin()).map_err(
-        |_| Refusal::NoMemory,
+        |_| StartError::NoMemory,
     )?;
     let writer = BufWriter::with_capacity(rt.alloc(), ROOM, rt.stdout()).map_err(
-        |_| Refusal::NoMemory,
+        |_| StartError::NoMemory,
     )?;
     let mut input = Plain::new(reader);
     let mut notes = Plain::new(rt.stderr());

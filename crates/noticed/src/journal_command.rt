@@ -1,7 +1,7 @@
 //! The command `journal`: what a journal's folder holds, to standard output.
 use crate::buffer::{ROOM, let_go};
 use crate::journal_files::{open_as_it_is, print_journal_fault};
-use crate::refusal::Refusal;
+use crate::start_error::StartError;
 use dsn_outcome::Plain;
 use noticed_lib::{JournalFolder, Limits, ListingFault, list_journal};
 use std::io::{BufWriter, Eprint};
@@ -11,7 +11,7 @@ const FAULT: u8 = 1;
 
 /// Prints what the journal of this folder holds, in lines of standard output, and changes nothing of
 /// it. No daemon has it meanwhile. Returns the status.
-pub(crate) fn run_journal(rt: &HostRuntime, folder: &str) -> Result<u8, Refusal> {
+pub(crate) fn run_journal(rt: &HostRuntime, folder: &str) -> Result<u8, StartError> {
     let JournalFolder {
         mut journal,
         mut marks,
@@ -21,7 +21,7 @@ pub(crate) fn run_journal(rt: &HostRuntime, folder: &str) -> Result<u8, Refusal>
         Err(error) => return Ok(print_journal_fault(rt, folder, &error)),
     };
     let writer = BufWriter::with_capacity(rt.alloc(), ROOM, rt.stdout()).map_err(
-        |_| Refusal::NoMemory,
+        |_| StartError::NoMemory,
     )?;
     let mut lines = Plain::new(writer);
     let limits = Limits::of_program();

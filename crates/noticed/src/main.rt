@@ -12,11 +12,11 @@ mod postfix_command;
 mod postfix_options;
 mod postfix_serving;
 mod postfix_values;
-mod refusal;
 mod send_command;
 mod serve_command;
 mod socket_fault;
 mod standard_streams;
+mod start_error;
 mod stop_command;
 
 use arguments::{Command, command_of};
@@ -24,10 +24,10 @@ use batch_command::run_batch;
 use dsn_text::fault_code;
 use journal_command::run_journal;
 use postfix_command::run_postfix;
-use refusal::Refusal;
 use send_command::run_send;
 use serve_command::run_serve;
 use standard_streams::take_closed_streams;
+use start_error::StartError;
 use std::process::ExitCode;
 use stop_command::run_stop;
 
@@ -43,36 +43,36 @@ fn main(rt: HostRuntime) -> ExitCode {
         Ok(Command::Send { socket }) => run_send(&rt, &rt, &socket),
         Ok(Command::Journal { folder }) => run_journal(&rt, &folder),
         Ok(Command::Postfix(serving)) => run_postfix(&rt, &rt, serving),
-        Err(refusal) => Err(refusal),
+        Err(start_error) => Err(start_error),
     };
     ExitCode::from(match done {
         Ok(status) => status,
-        Err(refusal) => print_refusal(&rt, &refusal),
+        Err(start_error) => print_start_error(&rt, &start_error),
     })
 }
 
 /// Sees to the standard streams, and then reads what the arguments ask for.
-fn begin(rt: &HostRuntime) -> Result<Command, Refusal> {
+fn begin(rt: &HostRuntime) -> Result<Command, StartError> {
     take_closed_streams(rt)?;
     command_of(rt)
 }
 
 /// Prints why a run doesn't begin, on standard error. Returns the status.
-fn print_refusal(rt: &HostRuntime, refusal: &Refusal) -> u8 {
-    match refusal {
-        Refusal::Usage => {
+fn print_start_error(rt: &HostRuntime, start_error: &StartError) -> u8 {
+    match start_error {
+        StartError::Usage => {
             let _ = eprintln!(rt; "{USAGE}");
             2
         }
-        Refusal::SocketPath => {
+        StartError::SocketPath => {
             let _ = eprintln!(rt; "the path of the socket must have 1 to 107 bytes");
             2
         }
-        Refusal::NoMemory => {
+        StartError::NoMemory => {
             let _ = eprintln!(rt; "fault {}", fault_code::NO_MEMORY);
             1
         }
-        Refusal::NoStream(error) => {
+        StartError::NoStream(error) => {
             let _ = eprintln!(rt; "the standard streams could not be seen to: {error}");
             1
         }

@@ -2,8 +2,8 @@
 //! It ends by a signal alone and has nothing to finish: what isn't answered is asked again. So it
 //! needs no `stop`, and its sockets stay.
 use crate::postfix_serving::PostfixServing;
-use crate::refusal::Refusal;
-use dsn_postfix_queue::PostfixPlace;
+use crate::start_error::StartError;
+use dsn_postfix_queue::PostfixSetup;
 use dsn_postfix_service::{Listeners, StartFault, serve_postfix};
 use dsn_text::fault_code;
 use std::sync::Wait;
@@ -19,7 +19,7 @@ pub(crate) fn run_postfix<R: Threads + Wait + Clock + Copy + Send + Sync + Drop 
     rt: &HostRuntime,
     waiting: &R,
     serving: PostfixServing,
-) -> Result<u8, Refusal> {
+) -> Result<u8, StartError> {
     let hashed = serving.values.hashed_queues(rt.alloc())?;
     let place = serving.place(hashed.as_slice());
     let listeners = match listen(rt, &place, serving.values.inherits) {
@@ -28,7 +28,7 @@ pub(crate) fn run_postfix<R: Threads + Wait + Clock + Copy + Send + Sync + Drop 
     };
     let served = serve_postfix(rt, waiting, &listeners, place, serving.settings());
     if served.is_err() {
-        return Err(Refusal::NoMemory);
+        return Err(StartError::NoMemory);
     }
     let _ = eprintln!(rt; "fault {}", fault_code::CREW_REFUSED);
     Ok(FAULT)
@@ -37,7 +37,7 @@ pub(crate) fn run_postfix<R: Threads + Wait + Clock + Copy + Send + Sync + Drop 
 /// The sockets of a run, which it makes or has inherited.
 fn listen(
     rt: &HostRuntime,
-    place: &PostfixPlace<'_>,
+    place: &PostfixSetup<'_>,
     inherits: bool,
 ) -> Result<Listeners, StartFault> {
     if !inherits {

@@ -2,7 +2,7 @@
 //! main.cf isn't read: its values may name one another and come from tables, and only Postfix's own
 //! library reads it as Postfix does. The few that count are options with Postfix's defaults.
 use crate::arguments::number_of;
-use crate::refusal::Refusal;
+use crate::start_error::StartError;
 use dsn_postfix_queue::MOST_DEPTH;
 use std::env::Args;
 
@@ -34,7 +34,7 @@ pub(crate) struct PostfixOptions {
 
 impl PostfixOptions {
     /// The options among these words, each given once at most: the words before the last three.
-    pub(crate) fn of(words: &mut Args) -> Result<PostfixOptions, Refusal> {
+    pub(crate) fn of(words: &mut Args) -> Result<PostfixOptions, StartError> {
         let mut options = PostfixOptions {
             lifetime: None,
             size_limit: None,
@@ -47,14 +47,14 @@ impl PostfixOptions {
             if words.len() <= WORDS {
                 break;
             }
-            let option = words.next().ok_or(Refusal::Usage)?;
+            let option = words.next().ok_or(StartError::Usage)?;
             options.take(option.as_str(), words)?;
         }
         Ok(options)
     }
 
     /// Takes one option, with its value if it has one.
-    fn take(&mut self, option: &str, words: &mut Args) -> Result<(), Refusal> {
+    fn take(&mut self, option: &str, words: &mut Args) -> Result<(), StartError> {
         match option {
             "--lifetime" if self.lifetime.is_none() => {
                 self.lifetime = Some(number_of(&value_of(words)?, MOST_LIFETIME)?);
@@ -72,13 +72,13 @@ impl PostfixOptions {
                 self.depth = Some(number_of(&value_of(words)?, MOST_DEPTH)?);
             }
             "--inherited" if !self.inherits => self.inherits = true,
-            _ => return Err(Refusal::Usage),
+            _ => return Err(StartError::Usage),
         }
         Ok(())
     }
 }
 
 /// The value of an option.
-fn value_of(words: &mut Args) -> Result<String, Refusal> {
-    words.next().ok_or(Refusal::Usage)
+fn value_of(words: &mut Args) -> Result<String, StartError> {
+    words.next().ok_or(StartError::Usage)
 }

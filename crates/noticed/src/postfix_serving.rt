@@ -2,7 +2,7 @@
 use crate::postfix_values::PostfixValues;
 use dsn_postfix::QueueName;
 use dsn_postfix_notices::ServiceSettings;
-use dsn_postfix_queue::{FolderHashing, PostfixPlace};
+use dsn_postfix_queue::{FolderHashing, PostfixSetup};
 use dsn_report::Site;
 use dsn_text::MtaName;
 use std::net::SocketAddr;
@@ -24,8 +24,8 @@ pub(crate) struct PostfixServing {
 
 impl PostfixServing {
     /// Where the Postfix is, whose hashed queues have these names, and the mail server beside it.
-    pub(crate) fn place<'a>(&'a self, hashed: &'a [QueueName<'a>]) -> PostfixPlace<'a> {
-        PostfixPlace {
+    pub(crate) fn place<'a>(&'a self, hashed: &'a [QueueName<'a>]) -> PostfixSetup<'a> {
+        PostfixSetup {
             root: self.folder.as_str(),
             hashing: FolderHashing {
                 queues: hashed,

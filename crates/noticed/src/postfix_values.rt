@@ -1,6 +1,6 @@
 //! What options of `postfix` change.
 use crate::postfix_options::PostfixOptions;
-use crate::refusal::Refusal;
+use crate::start_error::StartError;
 use dsn_postfix::QueueName;
 use std::alloc::Global;
 
@@ -36,7 +36,7 @@ impl PostfixValues {
         alloc: Global,
         options: PostfixOptions,
         host: &str,
-    ) -> Result<PostfixValues, Refusal> {
+    ) -> Result<PostfixValues, StartError> {
         let PostfixOptions {
             lifetime,
             size_limit,
@@ -60,7 +60,7 @@ impl PostfixValues {
     }
 
     /// The names of the hashed queues.
-    pub(crate) fn hashed_queues(&self, alloc: Global) -> Result<Vec<QueueName<'_>>, Refusal> {
+    pub(crate) fn hashed_queues(&self, alloc: Global) -> Result<Vec<QueueName<'_>>, StartError> {
         match &self.hashed {
             Some(names) => queue_names(alloc, names.as_str()),
             None => queue_names(alloc, USUAL_HASHED),
@@ -69,17 +69,17 @@ impl PostfixValues {
 }
 
 /// The sender of notices about notices, where no option names it.
-fn usual_double_bounce(alloc: Global, host: &str) -> Result<String, Refusal> {
-    format!(in alloc; "double-bounce@{host}").map_err(|_| Refusal::NoMemory)
+fn usual_double_bounce(alloc: Global, host: &str) -> Result<String, StartError> {
+    format!(in alloc; "double-bounce@{host}").map_err(|_| StartError::NoMemory)
 }
 
 /// The names of queues in a text, with commas, spaces or tabs between them.
-fn queue_names(alloc: Global, text: &str) -> Result<Vec<QueueName<'_>>, Refusal> {
+fn queue_names(alloc: Global, text: &str) -> Result<Vec<QueueName<'_>>, StartError> {
     let mut names = Vec::new(alloc);
     for word in text.split([',', ' ', '\t']) {
         if !word.is_empty() {
-            let name = QueueName::new(word.as_bytes()).ok_or(Refusal::Usage)?;
-            names.push(name).map_err(|_| Refusal::NoMemory)?;
+            let name = QueueName::new(word.as_bytes()).ok_or(StartError::Usage)?;
+            names.push(name).map_err(|_| StartError::NoMemory)?;
         }
     }
     Ok(names)

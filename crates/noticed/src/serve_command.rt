@@ -3,8 +3,8 @@ use crate::arguments::{ServeOptions, Serving};
 use crate::buffer::{ROOM, let_go};
 use crate::journal_files::{open_folder, open_outbox, print_journal_fault, print_outbox_fault};
 use crate::outbox_writer::OutboxWriter;
-use crate::refusal::Refusal;
 use crate::socket_fault::{print_socket_error, print_socket_fault};
+use crate::start_error::StartError;
 use dsn_journal::FileDisk;
 use dsn_outcome::Plain;
 use noticed_lib::{
@@ -24,7 +24,7 @@ pub(crate) fn run_serve<R: Threads + Wait + Clock + Sync>(
     rt: &HostRuntime,
     waiting: &R,
     serving: Serving,
-) -> Result<u8, Refusal> {
+) -> Result<u8, StartError> {
     let Serving {
         socket,
         host,
@@ -42,7 +42,9 @@ pub(crate) fn run_serve<R: Threads + Wait + Clock + Sync>(
         Ok(outbox) => outbox,
         Err(status) => return Ok(status),
     };
-    let writer = BufWriter::with_capacity(rt.alloc(), ROOM, outbox).map_err(|_| Refusal::NoMemory)?;
+    let writer = BufWriter::with_capacity(rt.alloc(), ROOM, outbox).map_err(
+        |_| StartError::NoMemory,
+    )?;
     let folder = match folder_at(rt, journal) {
         Ok(folder) => folder,
         Err(status) => return Ok(status),

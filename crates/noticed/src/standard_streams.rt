@@ -1,5 +1,5 @@
 //! The descriptors of the standard streams, where they are closed.
-use crate::refusal::Refusal;
+use crate::start_error::StartError;
 use std::fs::File;
 use std::io::ErrorKind;
 use std::os::fd::{AsRawFd, IntoRawFd};
@@ -14,7 +14,7 @@ const TOO_MANY_FILES: i32 = 24;
 /// and is read or written as a standard stream. Each then is the root folder, which can be neither
 /// read nor written: what is asked of the stream fails, as it does where it is closed. An error
 /// comes where one could not be taken, though a socket might still get it.
-pub(crate) fn take_closed_streams(rt: &HostRuntime) -> Result<(), Refusal> {
+pub(crate) fn take_closed_streams(rt: &HostRuntime) -> Result<(), StartError> {
     for _ in 0..STREAMS {
         // Not the null device: on it a daemon without standard output would lose its notices and
         // say nothing.
@@ -25,8 +25,10 @@ pub(crate) fn take_closed_streams(rt: &HostRuntime) -> Result<(), Refusal> {
             Ok(_) => return Ok(()),
             // No descriptor is left, so a socket can get none either.
             Err(error) if error.raw_os_error() == Some(TOO_MANY_FILES) => return Ok(()),
-            Err(error) if error.kind() == ErrorKind::OutOfMemory => return Err(Refusal::NoMemory),
-            Err(error) => return Err(Refusal::NoStream(error)),
+            Err(error) if error.kind() == ErrorKind::OutOfMemory => return Err(
+                StartError::NoMemory,
+            ),
+            Err(error) => return Err(StartError::NoStream(error)),
         }
     }
     Ok(())

@@ -1,6 +1,6 @@
 //! The command `stop`: it ends the daemon at a socket, and waits until it has ended.
-use crate::refusal::Refusal;
 use crate::socket_fault::print_socket_fault;
+use crate::start_error::StartError;
 use std::alloc::Global;
 use std::fs::{Files, Metadata};
 use std::io::{Eprint, ErrorKind, Read};
@@ -18,10 +18,10 @@ pub(crate) fn run_stop<R: Files + Net + Eprint>(
     rt: &R,
     alloc: Global,
     socket: &str,
-) -> Result<u8, Refusal> {
+) -> Result<u8, StartError> {
     match stop(rt, alloc, socket) {
         Ok(()) => Ok(0),
-        Err(error) if error.kind() == ErrorKind::OutOfMemory => Err(Refusal::NoMemory),
+        Err(error) if error.kind() == ErrorKind::OutOfMemory => Err(StartError::NoMemory),
         Err(error) => Ok(print_socket_fault(rt, socket, &error)),
     }
 }

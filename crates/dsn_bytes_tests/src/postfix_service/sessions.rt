@@ -3,7 +3,7 @@ use crate::assert_same::same;
 use crate::postfix_service::server::{Server, host, path, refused_at};
 use dsn_outcome::{Plain, Stream};
 use dsn_smtp::{
-    Connect, HandInFault, HandInStep, Notice, ReplyBuffer, ReplyFault, Session, hand_in_over,
+    Connect, HandInFault, HandInStep, Submission, ReplyBuffer, ReplyFault, Session, hand_in_over,
 };
 use dsn_text::{Address, MtaName};
 use std::alloc::{AllocGlobal, Global};
@@ -139,7 +139,7 @@ fn fault_of<S: Stream + Drop, C: Connect<S>>(
     host: &MtaName,
     path: &Address,
 ) -> Option<HandInFault> {
-    let notice = Notice {
+    let notice = Submission {
         path,
         message: MESSAGE,
     };

@@ -20,7 +20,7 @@ use crate::bodies::body_parts::{
 use crate::bodies::write_fields::{body_len, push_frame};
 use crate::bodies::{SECOND_VERSION, THIRD_VERSION, VERSION};
 use dsn_outcome::{
-    Address, Body, BodyRef, EnvelopeId, Key, NoMemory, Outcome, QueueId, Service, Stamp, Terms,
+    Address, Body, BodyRef, EnvelopeId, Key, NoMemory, Outcome, QueueId, Service, Stamp, DraftTerms,
     Types,
 };
 use std::alloc::Global;
@@ -184,7 +184,7 @@ fn recipient_parts(outcome: &Outcome) -> RecipientParts<'_>
 
 /// All fields of a flush: its further wishes are of the third version.
 #[tactic(auto, unfolding(crate::specs::bodies::Request::flush_written_as))]
-fn flush_body<'a>(number: u32, key: &'a Key, terms: &'a Terms) -> BodyParts<'a>
+fn flush_body<'a>(number: u32, key: &'a Key, terms: &'a DraftTerms) -> BodyParts<'a>
     ensures same { wire_body_in result ≡ flush_written_as number key.now terms.now }
     ensures id_legal { IsQueueId key.now.id }
     ensures legal { IsLegalDraft terms.now }
@@ -211,7 +211,7 @@ fn count_or_any(expected: Option<u32>) -> u32
 }
 
 /// The fields of a flush of each version, and its further wishes.
-fn flush_parts(terms: &Terms) -> (FlushParts<'_>, WishParts<'_>)
+fn flush_parts(terms: &DraftTerms) -> (FlushParts<'_>, WishParts<'_>)
     ensures same { flush_fields_in result.0 ≡ flush_fields_for terms.now }
     ensures wishes { wish_fields_in result.1 ≡ wish_fields_for terms.now }
     ensures legal { IsLegalDraft terms.now }

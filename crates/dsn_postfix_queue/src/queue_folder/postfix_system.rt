@@ -11,13 +11,13 @@ use crate::queue_folder::log_file::{
 use crate::queue_folder::message_file::{LARGE, mark_done, open_shared, read_large};
 use crate::queue_folder::notice_words::{FAILURE_NOTICE, is_discarded, notice_kind};
 use crate::queue_folder::own_service::ask_own_service;
-use crate::queue_folder::postfix_place::PostfixPlace;
+use crate::queue_folder::postfix_setup::PostfixSetup;
 use crate::queue_folder::queue_files::{log_elsewhere, log_path, path_of};
 use crate::queue_folder::service_name::service_name;
 use dsn_device::{Connection, Plain};
 use dsn_postfix::{PostfixRequest, QueueName};
 use dsn_postfix_notices::{DeedFault, MailSystem, PassReason, queue_id_of};
-use dsn_smtp::{HandInFault, KeptSessions, MailServer, Notice, ReplyBuffer, queue_id_in};
+use dsn_smtp::{HandInFault, KeptSessions, MailServer, ReplyBuffer, Submission, queue_id_in};
 use dsn_text::{Address, QueueId, Service};
 use std::alloc::Global;
 use std::fmt::Display;
@@ -42,7 +42,7 @@ pub struct PostfixSystem<'a, W> {
     rt: &'a HostRuntime,
     /// What may wait for another thread.
     waiting: &'a W,
-    place: &'a PostfixPlace<'a>,
+    place: &'a PostfixSetup<'a>,
     /// The sessions with the mail server that all threads share.
     sessions: &'a KeptSessions,
     /// The turn to hold a large queue file that all threads share.
@@ -70,7 +70,7 @@ impl<'a, W> PostfixSystem<'a, W> {
     pub fn new(
         rt: &'a HostRuntime,
         waiting: &'a W,
-        place: &'a PostfixPlace<'a>,
+        place: &'a PostfixSetup<'a>,
         sessions: &'a KeptSessions,
         large_files: &'a LargeFiles,
         events: &'a EventLog,
@@ -102,7 +102,7 @@ impl<'a, W> PostfixSystem<'a, W> {
 /// A connection to Postfix's own service of a name.
 fn own_service(
     rt: &HostRuntime,
-    place: &PostfixPlace<'_>,
+    place: &PostfixSetup<'_>,
     service: Service,
 ) -> io::Result<Connection<UnixStream>> {
     let name = service_name(service);
@@ -224,7 +224,7 @@ impl<W: Wait + Clock> MailSystem for PostfixSystem<'_, W> {
     }
 
     fn has_log(&mut self, service: Service, id: QueueId) -> Result<bool, DeedFault> {
-        let (rt, place): (&HostRuntime, &PostfixPlace<'_>) = (self.rt, self.place);
+        let (rt, place): (&HostRuntime, &PostfixSetup<'_>) = (self.rt, self.place);
         let path = self.deed(PATH, log_path(rt, place, service, id))?;
         if self.deed(path.as_str(), has_bytes(rt, path.as_str()))? {
             return Ok(true);
@@ -239,7 +239,7 @@ impl<W: Wait + Clock> MailSystem for PostfixSystem<'_, W> {
         service: Service,
         id: QueueId,
     ) -> Result<Option<Vec<u8>>, DeedFault> {
-        let (rt, place): (&HostRuntime, &PostfixPlace<'_>) = (self.rt, self.place);
+        let (rt, place): (&HostRuntime, &PostfixSetup<'_>) = (self.rt, self.place);
         self.log = None;
         let path = self.deed(PATH, log_path(rt, place, service, id))?;
         let Some(file) = self.deed(path.as_str(), open_locked(rt, path.as_str()))? else {
@@ -257,7 +257,7 @@ impl<W: Wait + Clock> MailSystem for PostfixSystem<'_, W> {
         id: QueueId,
         bytes: &[u8],
     ) -> Result<(), DeedFault> {
-        let (rt, place): (&HostRuntime, &PostfixPlace<'_>) = (self.rt, self.place);
+        let (rt, place): (&HostRuntime, &PostfixSetup<'_>) = (self.rt, self.place);
         let path = self.deed(PATH, log_path(rt, place, service, id))?;
         let is_new = !self.deed(path.as_str(), is_there(rt, path.as_str()))?;
         // the queue manager would look for that one, and never ask for the notice of a new one
@@ -269,7 +269,7 @@ impl<W: Wait + Clock> MailSystem for PostfixSystem<'_, W> {
     }
 
     fn remove_log(&mut self, service: Service, id: QueueId) -> Result<(), DeedFault> {
-        let (rt, place): (&HostRuntime, &PostfixPlace<'_>) = (self.rt, self.place);
+        let (rt, place): (&HostRuntime, &PostfixSetup<'_>) = (self.rt, self.place);
         let path = self.deed(PATH, log_path(rt, place, service, id))?;
         let removed = self.deed(path.as_str(), remove_if_there(rt, path.as_str()));
         self.log = None;
@@ -282,7 +282,7 @@ impl<W: Wait + Clock> MailSystem for PostfixSystem<'_, W> {
         queue: &QueueName<'_>,
         id: QueueId,
     ) -> Result<Vec<u8>, DeedFault> {
-        let (rt, place): (&HostRuntime, &PostfixPlace<'_>) = (self.rt, self.place);
+        let (rt, place): (&HostRuntime, &PostfixSetup<'_>) = (self.rt, self.place);
         self.message = None;
         self.end_turn();
         let path = self.deed(PATH, path_of(rt, place, queue.bytes(), id))?;
@@ -302,10 +302,15 @@ impl<W: Wait + Clock> MailSystem for PostfixSystem<'_, W> {
         message: &[u8],
         reply: &mut ReplyBuffer,
     ) -> Result<(), HandInFault> {
-        let (rt, place): (&HostRuntime, &PostfixPlace<'_>) = (self.rt, self.place);
+        let (rt, place): (&HostRuntime, &PostfixSetup<'_>) = (self.rt, self.place);
         let sessions: &KeptSessions = self.sessions;
         let mut server = MailServer::new(rt, &place.hand_in, place.host);
-        let handed = sessions.hand_in(self.waiting, &mut server, &Notice { path, message }, reply);
+        let handed = sessions.hand_in(
+            self.waiting,
+            &mut server,
+            &Submission { path, message },
+            reply,
+        );
         if let Some(error) = &server.unconnected {
             self.say_error(place.hand_in, error);
         }
@@ -338,7 +343,7 @@ impl<W: Wait + Clock> MailSystem for PostfixSystem<'_, W> {
         self.say_passed_on(service, &why);
         // that service says so itself
         self.is_discarded = false;
-        let (rt, place): (&HostRuntime, &PostfixPlace<'_>) = (self.rt, self.place);
+        let (rt, place): (&HostRuntime, &PostfixSetup<'_>) = (self.rt, self.place);
         let connected = own_service(rt, place, service);
         let mut stream = Plain::new(self.deed(service_name(service), connected)?);
         ask_own_service(rt.alloc(), &mut stream, request)

@@ -1,6 +1,6 @@
 //! Whether the queues of a Postfix are hashed as the settings say, by what stands in them.
 //! Implements docs/FORMATS.md, "Files".
-use crate::queue_folder::postfix_place::PostfixPlace;
+use crate::queue_folder::postfix_setup::PostfixSetup;
 use crate::queue_folder::queue_entry::depth_against;
 use std::fs::DirEntry;
 use std::io::ErrorKind;
@@ -48,7 +48,7 @@ struct Folder {
 }
 
 /// Looks at what stands in the queues, and returns an error if that can't be with these settings.
-pub fn check_queues(rt: &HostRuntime, place: &PostfixPlace<'_>) -> Result<(), QueueFault> {
+pub fn check_queues(rt: &HostRuntime, place: &PostfixSetup<'_>) -> Result<(), QueueFault> {
     for queue in QUEUES {
         match first_against(rt, place, queue) {
             Ok(None) => {}
@@ -62,7 +62,7 @@ pub fn check_queues(rt: &HostRuntime, place: &PostfixPlace<'_>) -> Result<(), Qu
 /// The first entry of a queue that is against the settings, if there is one.
 fn first_against(
     rt: &HostRuntime,
-    place: &PostfixPlace<'_>,
+    place: &PostfixSetup<'_>,
     queue: &str,
 ) -> io::Result<Option<OtherDepth>> {
     let mut folders = Vec::new(rt.alloc());
@@ -85,7 +85,7 @@ fn first_against(
 /// to those that are still to be looked into.
 fn look_into(
     rt: &HostRuntime,
-    place: &PostfixPlace<'_>,
+    place: &PostfixSetup<'_>,
     queue: &str,
     folder: &Folder,
     folders: &mut Vec<Folder>,

@@ -1,7 +1,7 @@
 //! The paths of logs and of messages in the queue folder of a Postfix.
 //! Implements docs/FORMATS.md, "Files".
 use crate::queue_folder::log_file::has_bytes;
-use crate::queue_folder::postfix_place::PostfixPlace;
+use crate::queue_folder::postfix_setup::PostfixSetup;
 use crate::queue_folder::queue_check::MOST_DEPTH;
 use crate::queue_folder::queue_path::path_in_queue;
 use crate::queue_folder::service_name::service_name;
@@ -12,7 +12,7 @@ use std::io::{Error, ErrorKind};
 /// The path of a log.
 pub(super) fn log_path(
     rt: &HostRuntime,
-    place: &PostfixPlace<'_>,
+    place: &PostfixSetup<'_>,
     service: Service,
     id: QueueId,
 ) -> io::Result<String> {
@@ -22,7 +22,7 @@ pub(super) fn log_path(
 /// The path of a file in a queue.
 pub(super) fn path_of(
     rt: &HostRuntime,
-    place: &PostfixPlace<'_>,
+    place: &PostfixSetup<'_>,
     queue: &[u8],
     id: QueueId,
 ) -> io::Result<String> {
@@ -32,7 +32,7 @@ pub(super) fn path_of(
 /// The path of a file that stands so many folders deep in a queue.
 fn path_at(
     rt: &HostRuntime,
-    place: &PostfixPlace<'_>,
+    place: &PostfixSetup<'_>,
     queue: &[u8],
     depth: u32,
     id: QueueId,
@@ -47,7 +47,7 @@ fn path_at(
 /// empty.
 pub(super) fn log_elsewhere(
     rt: &HostRuntime,
-    place: &PostfixPlace<'_>,
+    place: &PostfixSetup<'_>,
     service: Service,
     id: QueueId,
 ) -> io::Result<Option<String>> {

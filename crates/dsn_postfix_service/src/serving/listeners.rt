@@ -3,7 +3,7 @@
 use crate::serving::account::{check_owner, own_account, owner_of_sockets};
 use crate::serving::folder_lock::FolderLock;
 use crate::serving::start_fault::StartFault;
-use dsn_postfix_queue::{PostfixPlace, check_queues, socket_name};
+use dsn_postfix_queue::{PostfixSetup, check_queues, socket_name};
 use dsn_text::Service;
 use os::FromRawFd;
 use std::fs::Permissions;
@@ -30,7 +30,7 @@ impl Listeners {
     /// Locks the folder and makes its sockets, in place of those that a run before has left. Nothing is
     /// made if the folder belongs to another account, or if the queues aren't hashed as the place says.
     /// An error of the kind `WouldBlock` says that another process has the lock.
-    pub fn make(rt: &HostRuntime, place: &PostfixPlace<'_>) -> Result<Listeners, StartFault> {
+    pub fn make(rt: &HostRuntime, place: &PostfixSetup<'_>) -> Result<Listeners, StartFault> {
         check_place(rt, place)?;
         let folder = place.root;
         let lock = FolderLock::take(rt, folder)?;
@@ -51,7 +51,7 @@ impl Listeners {
     /// Nothing else of the process may have these descriptors.
     pub unsafe fn inherit(
         rt: &HostRuntime,
-        place: &PostfixPlace<'_>,
+        place: &PostfixSetup<'_>,
     ) -> Result<Listeners, StartFault> {
         check_place(rt, place)?;
         let folder = place.root;
@@ -79,7 +79,7 @@ impl Listeners {
 }
 
 /// Checks as whom a Postfix is served, and that its queues are hashed as is said.
-fn check_place(rt: &HostRuntime, place: &PostfixPlace<'_>) -> Result<(), StartFault> {
+fn check_place(rt: &HostRuntime, place: &PostfixSetup<'_>) -> Result<(), StartFault> {
     check_owner(owner_of_sockets(rt, place.root)?, own_account())?;
     check_queues(rt, place)?;
     Ok(())

@@ -1,7 +1,7 @@
 //! What the threads that serve a Postfix share.
 use crate::serving::service_queue::ServiceQueue;
 use dsn_postfix_notices::ServiceSettings;
-use dsn_postfix_queue::{EventLog, LargeFiles, PostfixPlace};
+use dsn_postfix_queue::{EventLog, LargeFiles, PostfixSetup};
 use dsn_smtp::KeptSessions;
 use dsn_text::Service;
 use std::alloc::{AllocError, Global};
@@ -17,7 +17,7 @@ const SERIALS: u64 = 1_000_000;
 #[derive(Drop)]
 pub(super) struct PostfixShare<'a> {
     /// The Postfix that is served.
-    pub(super) place: PostfixPlace<'a>,
+    pub(super) place: PostfixSetup<'a>,
     /// What its notices need to know.
     pub(super) settings: ServiceSettings<'a>,
     /// The sessions with its mail server.
@@ -43,7 +43,7 @@ impl<'a> PostfixShare<'a> {
     pub(super) fn new<R: Wait>(
         alloc: Global,
         waiting: &R,
-        place: PostfixPlace<'a>,
+        place: PostfixSetup<'a>,
         settings: ServiceSettings<'a>,
         events: Arc<EventLog, Global>,
     ) -> Result<PostfixShare<'a>, AllocError> {

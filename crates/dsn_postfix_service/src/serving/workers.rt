@@ -10,7 +10,7 @@ use dsn_device::{Connection, Plain};
 use dsn_postfix::{PostfixRequest, decode_postfix_request, logged_as};
 use dsn_postfix_notices::{ServiceSettings, queue_id_of};
 use dsn_postfix_queue::{
-    EventLog, PostfixPlace, PostfixSystem, ascii_text, asked_text, socket_name,
+    EventLog, PostfixSetup, PostfixSystem, ascii_text, asked_text, socket_name,
 };
 use dsn_text::{QueueId, Service};
 use std::alloc::AllocError;
@@ -58,7 +58,7 @@ pub fn serve_postfix<'a, R: Threads + Wait + Clock + Copy + Send + Sync + Drop +
     rt: &'a HostRuntime,
     waiting: &R,
     listeners: &Listeners,
-    place: PostfixPlace<'a>,
+    place: PostfixSetup<'a>,
     settings: ServiceSettings<'a>,
 ) -> Result<(), AllocError> {
     match EventLog::start(rt, waiting) {

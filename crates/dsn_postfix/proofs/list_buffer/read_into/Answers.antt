@@ -2,7 +2,7 @@ use Rattle.std.proofs.Common.{◌+◌, ◌-◌, ap, drop, ◌∙◌, arith}
 use Rattle.std.proofs.KnownBytes.{Keeps-trans}
 use Rattle.std.proofs.lemmas.Result.{err_from_is_err_and}
 use Rattle.dsn_postfix.proofs.ListReadingLemmas.{ReadOn, consumed_on, list_read, more_read, no_piece, piece_is, piece_short, room_on, step_on, too_long}
-use Rattle.dsn_postfix.specs.inner.ListPlace.{step_over}
+use Rattle.dsn_postfix.specs.inner.ListState.{step_over}
 use Rattle.dsn_postfix.proofs.list_buffer.read_into.Goals as goal
 
 -- no piece was read

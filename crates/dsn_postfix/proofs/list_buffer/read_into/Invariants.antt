@@ -2,9 +2,9 @@
 use Rattle.std.proofs.Common.{◌≡◌, ◌≤◌, ◌-◌, length, take}
 use Rattle.std.specs.Io.KnownBytes.{Consumes, Keeps}
 use Rattle.dsn_postfix.specs.ListBuffer.{RoomAfterBytes, longest_list}
-use Rattle.dsn_postfix.specs.inner.ListPlace.{step_over}
-use Rattle.dsn_postfix.specs.declared.list_place.ListPlace.TheVariants.{Front}
-use Rattle.dsn_postfix.specs.declared.list_place.ListStep.TheVariants.{Within}
+use Rattle.dsn_postfix.specs.inner.ListState.{step_over}
+use Rattle.dsn_postfix.specs.declared.list_state.ListState.TheVariants.{Front}
+use Rattle.dsn_postfix.specs.declared.list_state.ListStep.TheVariants.{Within}
 use Rattle.dsn_postfix.proofs.list_buffer.read_into.Given as goal
 
 abbrev pub invariant-loop-filled : goal.invariant-loop-filled

@@ -16,12 +16,12 @@ pub returns-in_err-session : goal.returns-in_err-session
 returns-in_err-session g c =
     let exit = err_from_is_err_and c.from_residual-in_err-session.result c.from_residual-in_err-session.ensures.1 in
     rw (exit.1, exit.2) (connected c.in_ok-stream.stream c.in_ok-stream.ensures
-    (asked_in_none g.S.Source g.S.Drain c.in_ok-stream.stream c.args.host.now (commands_of c.args.notice.now.path.now c.args.notice.now.message.now)
+    (asked_in_none g.S.Source g.S.Drain c.in_ok-stream.stream c.args.host.now (commands_of c.args.submission.now.path.now c.args.submission.now.message.now)
     c.args.buffer.now c.begin.new.buffer c.in_err-session.field-0.0 c.in_err-session.ensures))
 
 -- one was
 pub returns : goal.returns
 returns g c =
     connected c.in_ok-stream.stream c.in_ok-stream.ensures
-    (asked_in_new g.S.Source g.S.Drain c.in_ok-stream.stream c.in_ok-session.session c.args.host.now (commands_of c.args.notice.now.path.now c.args.notice.now.message.now)
+    (asked_in_new g.S.Source g.S.Drain c.in_ok-stream.stream c.in_ok-session.session c.args.host.now (commands_of c.args.submission.now.path.now c.args.submission.now.message.now)
     c.args.buffer.now c.begin.new.buffer c.hand_in.new.buffer c.hand_in.result c.in_ok-session.ensures c.hand_in.ensures.over)

@@ -2,9 +2,9 @@
 use Rattle.std.proofs.Common.{◌≡◌, ◌≤◌, ◌-◌, length, take}
 use Rattle.std.specs.Io.KnownBytes.{Consumes, Keeps}
 use Rattle.dsn_smtp.specs.Reply.{longest_server_reply}
-use Rattle.dsn_smtp.specs.inner.ReplyPlace.{scan}
-use Rattle.dsn_smtp.specs.declared.reply_place.ReplyPlace.TheVariants.{Front}
-use Rattle.dsn_smtp.specs.declared.reply_place.ReplyScan.TheVariants.{Open}
+use Rattle.dsn_smtp.specs.inner.ReplyState.{scan}
+use Rattle.dsn_smtp.specs.declared.reply_state.ReplyState.TheVariants.{Front}
+use Rattle.dsn_smtp.specs.declared.reply_state.ReplyScan.TheVariants.{Open}
 use Rattle.dsn_smtp.proofs.reply_buffer.read_into.Given as goal
 
 abbrev pub invariant-loop-filled : goal.invariant-loop-filled

@@ -4,10 +4,10 @@ use Rattle.std.specs.Io.KnownBytes.{Consumes}
 use Rattle.dsn_postfix.specs.ListBuffer.{IsList, EndsInput}
 use Rattle.dsn_postfix.specs.declared.list_fault.ListFault.TheVariants.{NoMemory, Nothing, CutShort, TooLong, Trailing, Read}
 use Rattle.dsn_postfix.specs.declared.list_fault.ListFault.{ListFault}
-use Rattle.dsn_postfix.specs.declared.list_place.ListPlace.TheVariants.{Front, Name, Value}
-use Rattle.dsn_postfix.specs.declared.list_place.ListPlace.{ListPlace}
-use Rattle.dsn_postfix.specs.declared.list_place.ListStep.TheVariants.{Ended, Within}
-use Rattle.dsn_postfix.specs.declared.list_place.ListStep.{ListStep}
+use Rattle.dsn_postfix.specs.declared.list_state.ListState.TheVariants.{Front, Name, Value}
+use Rattle.dsn_postfix.specs.declared.list_state.ListState.{ListState}
+use Rattle.dsn_postfix.specs.declared.list_state.ListStep.TheVariants.{Ended, Within}
+use Rattle.dsn_postfix.specs.declared.list_state.ListStep.{ListStep}
 
 -- the list at the front of these bytes, which has so many of them
 abbrev pub list_at_front : List ℕ → Option ℕ → Option (List ℕ)
@@ -39,14 +39,14 @@ pub record ReadsPiece (old new : Option (List ℕ)) (size : ℕ) (bytes : List �
   pub fits : size + count ≤ length bytes
   pub consumed : Consumes old new (take count (drop size bytes))
 
--- the place after a byte: nowhere where it ends the list, which a zero does in front of a name
-abbrev pub place_after : ListPlace → ℕ → Option ListPlace
-place_after Front zero = None
-place_after Front (suc byte) = Some Name
-place_after Name zero = Some Value
-place_after Name (suc byte) = Some Name
-place_after Value zero = Some Front
-place_after Value (suc byte) = Some Value
+-- the state after a byte: none if it ends the list, as a zero does in front of a name
+abbrev pub state_after : ListState → ℕ → Option ListState
+state_after Front zero = None
+state_after Front (suc byte) = Some Name
+state_after Name zero = Some Value
+state_after Name (suc byte) = Some Name
+state_after Value zero = Some Front
+state_after Value (suc byte) = Some Value
 
 -- what comes of bytes after so many others
 abbrev pub further : ℕ → ListStep → ListStep
@@ -54,7 +54,7 @@ further before (Ended size) = Ended (before + size)
 further before (Within place) = Within place
 
 -- how bytes go on with a list from a place: they end it, with so many of them, or leave reading at a place
-abbrev pub step_over : ListPlace → List ℕ → ListStep
+abbrev pub step_over : ListState → List ℕ → ListStep
 step_over place [] = Within place
 step_over Front (zero ∷ rest) = Ended 1
 step_over Front (suc byte ∷ rest) = further 1 (step_over Name rest)

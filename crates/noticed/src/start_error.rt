@@ -1,9 +1,9 @@
-//! Why a run doesn't begin.
+//! Why a command wasn't started.
 use std::io;
 
-/// Why a run doesn't begin.
+/// Why a command wasn't started.
 #[derive(Drop)]
-pub(crate) enum Refusal {
+pub(crate) enum StartError {
     /// The arguments are wrong.
     Usage,
     /// The path of the socket is empty, or longer than the system takes.

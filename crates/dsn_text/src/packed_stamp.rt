@@ -8,12 +8,12 @@ use std::marker::Model;
 
 /// A moment that may be missing, in eight bytes, where an `Option<Stamp>` has sixteen.
 #[derive(Debug, Drop)]
-pub struct KeptStamp {
+pub struct PackedStamp {
     // The seconds since 1970 began; a number after the last moment means that there is none.
     seconds: u64,
 }
 
-impl Model for KeptStamp {
+impl Model for PackedStamp {
     ghost use Rattle.std.specs.Prelude.{ℕ, Option};
     ghost use Rattle.dsn_text.specs.inner.Kept.{moment_within};
 
@@ -22,9 +22,9 @@ impl Model for KeptStamp {
     ghost view = { λ kept. moment_within kept.seconds };
 }
 
-impl KeptStamp {
+impl PackedStamp {
     /// Keeps a moment, or that there is none.
-    pub fn new(stamp: Option<Stamp>) -> KeptStamp
+    pub fn new(stamp: Option<Stamp>) -> PackedStamp
         ensures same { result ≡ stamp }
         ensures dated { IsTrue (is_none_or is_moment result) }
     {
@@ -32,7 +32,7 @@ impl KeptStamp {
             Some(stamp) => stamp.seconds(),
             None => u64::MAX,
         };
-        KeptStamp { seconds }
+        PackedStamp { seconds }
     }
 
     /// The moment, if there is one.

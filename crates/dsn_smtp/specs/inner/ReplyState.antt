@@ -5,12 +5,12 @@ use Rattle.dsn_smtp.specs.ReplyCode.{is_reply_code}
 use Rattle.dsn_smtp.specs.ReplyReading.{EndsBeforeReply}
 use Rattle.dsn_smtp.specs.declared.reply_fault.ReplyFault.TheVariants.{Nothing, CutShort, NoReply, TooLong, Trailing, Read}
 use Rattle.dsn_smtp.specs.declared.reply_fault.ReplyFault.{ReplyFault}
-use Rattle.dsn_smtp.specs.declared.reply_place.ReplyPlace.TheVariants.{Front, Second, Third, Mark, Text, LastText, LineFeed, LastLineFeed, FrontAgain, SecondAgain, ThirdAgain}
-use Rattle.dsn_smtp.specs.declared.reply_place.ReplyPlace.{ReplyPlace}
-use Rattle.dsn_smtp.specs.declared.reply_place.ReplyScan.TheVariants.{Whole, Behind, Wrong, Open}
-use Rattle.dsn_smtp.specs.declared.reply_place.ReplyScan.{ReplyScan}
-use Rattle.dsn_smtp.specs.declared.reply_place.ReplyStep.TheVariants.{Misplaced, Within, Ended}
-use Rattle.dsn_smtp.specs.declared.reply_place.ReplyStep.{ReplyStep}
+use Rattle.dsn_smtp.specs.declared.reply_state.ReplyState.TheVariants.{Front, Second, Third, Mark, Text, LastText, LineFeed, LastLineFeed, FrontAgain, SecondAgain, ThirdAgain}
+use Rattle.dsn_smtp.specs.declared.reply_state.ReplyState.{ReplyState}
+use Rattle.dsn_smtp.specs.declared.reply_state.ReplyScan.TheVariants.{Whole, Behind, Wrong, Open}
+use Rattle.dsn_smtp.specs.declared.reply_state.ReplyScan.{ReplyScan}
+use Rattle.dsn_smtp.specs.declared.reply_state.ReplyStep.TheVariants.{Misplaced, Within, Ended}
+use Rattle.dsn_smtp.specs.declared.reply_state.ReplyStep.{ReplyStep}
 use Rattle.dsn_text.specs.Text.{is_between}
 
 -- the step that is made where a test holds; else the byte stands where none such can
@@ -19,23 +19,23 @@ step_if true step = step
 step_if false step = Misplaced
 
 -- what a byte comes to at a place
-abbrev pub reply_place_after : ReplyPlace → ℕ → ReplyStep
-reply_place_after Front byte = step_if (is_between 50 53 byte) (Within (Second byte))
-reply_place_after (Second first) byte = step_if (is_between 48 53 byte) (Within (Third first byte))
-reply_place_after (Third first second) byte =
+abbrev pub reply_state_after : ReplyState → ℕ → ReplyStep
+reply_state_after Front byte = step_if (is_between 50 53 byte) (Within (Second byte))
+reply_state_after (Second first) byte = step_if (is_between 48 53 byte) (Within (Third first byte))
+reply_state_after (Third first second) byte =
     step_if (is_reply_code (first ∷ second ∷ byte ∷ [])) (Within (Mark (first ∷ second ∷ byte ∷ [])))
-reply_place_after (Mark code) byte =
+reply_state_after (Mark code) byte =
     if byte == 45 then Within (Text code)
     else (if byte == 32 then Within (LastText code) else step_if (byte == 13) (Within (LastLineFeed code)))
-reply_place_after (Text code) byte =
+reply_state_after (Text code) byte =
     if byte == 13 then Within (LineFeed code) else (if byte == 10 then Misplaced else Within (Text code))
-reply_place_after (LastText code) byte =
+reply_state_after (LastText code) byte =
     if byte == 13 then Within (LastLineFeed code) else (if byte == 10 then Misplaced else Within (LastText code))
-reply_place_after (LineFeed code) byte = step_if (byte == 10) (Within (FrontAgain code))
-reply_place_after (LastLineFeed code) byte = step_if (byte == 10) (Ended code)
-reply_place_after (FrontAgain code) byte = step_if (byte == slice_index code 0) (Within (SecondAgain code))
-reply_place_after (SecondAgain code) byte = step_if (byte == slice_index code 1) (Within (ThirdAgain code))
-reply_place_after (ThirdAgain code) byte = step_if (byte == slice_index code 2) (Within (Mark code))
+reply_state_after (LineFeed code) byte = step_if (byte == 10) (Within (FrontAgain code))
+reply_state_after (LastLineFeed code) byte = step_if (byte == 10) (Ended code)
+reply_state_after (FrontAgain code) byte = step_if (byte == slice_index code 0) (Within (SecondAgain code))
+reply_state_after (SecondAgain code) byte = step_if (byte == slice_index code 1) (Within (ThirdAgain code))
+reply_state_after (ThirdAgain code) byte = step_if (byte == slice_index code 2) (Within (Mark code))
 
 -- whether there are no bytes
 abbrev pub are_none : List ℕ → Bool
@@ -43,16 +43,16 @@ are_none [] = true
 are_none (byte ∷ rest) = false
 
 -- what bytes come to after a step, of which it is known what they come to from a place
-abbrev pub scan_on : (ReplyPlace → ReplyScan) → Bool → ReplyStep → ReplyScan
+abbrev pub scan_on : (ReplyState → ReplyScan) → Bool → ReplyStep → ReplyScan
 scan_on from none (Within place) = from place
 scan_on from true (Ended code) = Whole code
 scan_on from false (Ended code) = Behind
 scan_on from none Misplaced = Wrong
 
 -- what bytes come to from a place
-abbrev pub scan : ReplyPlace → List ℕ → ReplyScan
+abbrev pub scan : ReplyState → List ℕ → ReplyScan
 scan place [] = Open
-scan place (byte ∷ rest) = scan_on (λ next. scan next rest) (are_none rest) (reply_place_after place byte)
+scan place (byte ∷ rest) = scan_on (λ next. scan next rest) (are_none rest) (reply_state_after place byte)
 
 -- no piece could be read after so many bytes
 abbrev pub StopsAtReplyPiece : ReplyFault → ℕ → Type 0

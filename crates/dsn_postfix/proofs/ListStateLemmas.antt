@@ -4,11 +4,11 @@ use Rattle.std.specs.Option.{option_map}
 use Rattle.std.proofs.lemmas.List.{drop_all, length-drop}
 use Rattle.dsn_postfix.specs.Attribute.{Attribute, BeginsWithList, attributes_after, text_attribute}
 use Rattle.dsn_postfix.specs.ListBuffer.{HasMore, HasNoList, IsList}
-use Rattle.dsn_postfix.specs.inner.ListPlace.{further, step_over}
-use Rattle.dsn_postfix.specs.declared.list_place.ListPlace.{ListPlace}
-use Rattle.dsn_postfix.specs.declared.list_place.ListPlace.TheVariants.{Front, Name, Value}
-use Rattle.dsn_postfix.specs.declared.list_place.ListStep.{ListStep}
-use Rattle.dsn_postfix.specs.declared.list_place.ListStep.TheVariants.{Ended, Within}
+use Rattle.dsn_postfix.specs.inner.ListState.{further, step_over}
+use Rattle.dsn_postfix.specs.declared.list_state.ListState.{ListState}
+use Rattle.dsn_postfix.specs.declared.list_state.ListState.TheVariants.{Front, Name, Value}
+use Rattle.dsn_postfix.specs.declared.list_state.ListStep.{ListStep}
+use Rattle.dsn_postfix.specs.declared.list_state.ListStep.TheVariants.{Ended, Within}
 use Rattle.dsn_postfix.proofs.ListLaws.{read_was_written}
 
 -- ---- bytes after others
@@ -17,12 +17,12 @@ further_once_more : (n : ℕ) (s : ListStep) → further 1 (further n s) ≡ fur
 further_once_more n (Ended size) = ap Ended (omega arith)
 further_once_more n (Within place) = refl
 
-further_within : (n : ℕ) (s : ListStep) (place : ListPlace) → further n s ≡ Within place → s ≡ Within place
+further_within : (n : ℕ) (s : ListStep) (place : ListState) → further n s ≡ Within place → s ≡ Within place
 further_within n (Ended size) place e = absurd cc
 further_within n (Within other) place e = e
 
 -- what follows bytes that end no list goes on from the place that they leave
-pub step_over-append : (place next : ListPlace) (xs ys : List ℕ) → step_over place xs ≡ Within next
+pub step_over-append : (place next : ListState) (xs ys : List ℕ) → step_over place xs ≡ Within next
     → step_over place (xs ++ ys) ≡ further (length xs) (step_over next ys)
 step_over-append place next [] ys e = moved place next ys e
   where
@@ -30,12 +30,12 @@ step_over-append place next [] ys e = moved place next ys e
     nothing_before (Ended size) = ap Ended (omega arith)
     nothing_before (Within place) = refl
 
-    place_in : ListStep → ListPlace
+    place_in : ListStep → ListState
     place_in (Ended size) = Front
     place_in (Within p) = p
 
-    moved : (p q : ListPlace) (ys : List ℕ) → Within p ≡ Within q → step_over p ys ≡ further 0 (step_over q ys)
-    moved p q ys e = ap (λ (x : ListPlace). step_over x ys) (ap place_in e) ∙ nothing_before (step_over q ys)
+    moved : (p q : ListState) (ys : List ℕ) → Within p ≡ Within q → step_over p ys ≡ further 0 (step_over q ys)
+    moved p q ys e = ap (λ (x : ListState). step_over x ys) (ap place_in e) ∙ nothing_before (step_over q ys)
 step_over-append Front next (zero ∷ xs) ys e = absurd cc
 step_over-append Front next (suc byte ∷ xs) ys e =
     ap (further 1) (step_over-append Name next xs ys (further_within 1 (step_over Name xs) next e)) ∙ further_once_more (length xs) (step_over next ys)
@@ -51,7 +51,7 @@ step_over-append Value next (suc byte ∷ xs) ys e =
 -- ---- reading that is within an attribute
 
 -- the place where reading stands after a name, if it was read, and the front of a text
-abbrev place_of : Option (List ℕ) → List ℕ → ListPlace
+abbrev place_of : Option (List ℕ) → List ℕ → ListState
 place_of None [] = Front
 place_of None (byte ∷ front) = Name
 place_of (Some name) front = Value
@@ -67,7 +67,7 @@ Read = Option (List Attribute × List ℕ)
 none_more : (name value : List ℕ) (read : Read) → read ≡ None → option_map {U = List Attribute × List ℕ} (λ (x : List Attribute × List ℕ). (text_attribute name value ∷ x.0, x.1)) read ≡ None
 none_more name value read e = ap (option_map {U = List Attribute × List ℕ} (λ (x : List Attribute × List ℕ). (text_attribute name value ∷ x.0, x.1))) e
 
-none_from : (bytes : List ℕ) (within : Option (List ℕ)) (front : List ℕ) (place : ListPlace) → step_over (place_of within front) bytes ≡ Within place → attributes_after bytes within front ≡ None
+none_from : (bytes : List ℕ) (within : Option (List ℕ)) (front : List ℕ) (place : ListState) → step_over (place_of within front) bytes ≡ Within place → attributes_after bytes within front ≡ None
 none_from [] within front place e = refl
 none_from (zero ∷ bytes) None [] place e = absurd cc
 none_from (zero ∷ bytes) None (byte ∷ front) place e =
@@ -79,7 +79,7 @@ none_from (suc byte ∷ bytes) within front place e =
     (further_within 1 (step_over (place_of within (front ++ suc byte ∷ [])) bytes) place (sym (place_of-more within front byte bytes) ∙ e))
 
 -- bytes that end no list have none
-pub no_list : (bytes : List ℕ) (place : ListPlace) → step_over Front bytes ≡ Within place → HasNoList bytes
+pub no_list : (bytes : List ℕ) (place : ListState) → step_over Front bytes ≡ Within place → HasNoList bytes
 no_list bytes place e = none_from bytes None [] place e
 
 -- a list was read, and what follows so many bytes is left

@@ -2,9 +2,9 @@
 use Rattle.std.proofs.Common.{◌≡◌, ℕ, List, [], ◌∷◌, ◌++◌, refl}
 use Rattle.std.specs.Prelude.{codes}
 use Rattle.dsn_postfix.specs.ListBuffer.{HasNoList}
-use Rattle.dsn_postfix.specs.inner.ListPlace.{step_over}
-use Rattle.dsn_postfix.specs.declared.list_place.ListPlace.TheVariants.{Front, Name, Value}
-use Rattle.dsn_postfix.specs.declared.list_place.ListStep.TheVariants.{Ended, Within}
+use Rattle.dsn_postfix.specs.inner.ListState.{step_over}
+use Rattle.dsn_postfix.specs.declared.list_state.ListState.TheVariants.{Front, Name, Value}
+use Rattle.dsn_postfix.specs.declared.list_state.ListStep.TheVariants.{Ended, Within}
 
 -- the list that answers a request that was carried out: `status`, `0`
 abbrev answer : List ℕ

@@ -1,14 +1,14 @@
-//! Where reading stands within a reply, and what it makes of the bytes so far.
+//! The state of reading a reply, byte by byte.
 //! Implements RFC 5321 section 4.2.
 ghost use Rattle.std.specs.Prelude.{◌≡◌, ◌==◌, if◌then◌else◌};
 ghost use Rattle.dsn_smtp.specs.ReplyCode.{is_reply_code};
-ghost use Rattle.dsn_smtp.specs.inner.ReplyPlace.{reply_place_after, scan, step_if};
+ghost use Rattle.dsn_smtp.specs.inner.ReplyState.{reply_state_after, scan, step_if};
 
 use crate::reply_code::ReplyCode;
 
-/// Where reading stands within a reply, before its next byte. Once the first line's code is read, each place knows it.
+/// The state before the next byte of a reply. Each state after the first line's code has that code.
 #[derive(Clone, Copy)]
-pub(crate) enum ReplyPlace {
+pub(crate) enum ReplyState {
     /// In front of the reply.
     Front,
     /// In front of the first code's second digit, after this one.
@@ -33,18 +33,18 @@ pub(crate) enum ReplyPlace {
     ThirdAgain(ReplyCode),
 }
 
-/// What a byte comes to.
+/// The result of one byte.
 #[derive(Clone, Copy)]
 pub(crate) enum ReplyStep {
-    /// The reply goes on from this place.
-    Within(ReplyPlace),
+    /// The reply goes on in this state.
+    Within(ReplyState),
     /// The reply ends with the byte, and has this code.
     Ended(ReplyCode),
     /// No reply has the byte there.
     Misplaced,
 }
 
-/// What bytes come to.
+/// The result of some bytes.
 #[derive(Clone, Copy)]
 pub(crate) enum ReplyScan {
     /// More bytes may make them a reply.
@@ -57,48 +57,48 @@ pub(crate) enum ReplyScan {
     Wrong,
 }
 
-impl ReplyPlace {
+impl ReplyState {
     /// What a byte comes to there.
     fn after(&self, byte: u8) -> ReplyStep
-        ensures { result ≡ reply_place_after self.now byte }
+        ensures { result ≡ reply_state_after self.now byte }
     {
         match *self {
-            ReplyPlace::Front => step_if(
+            ReplyState::Front => step_if(
                 matches!(byte, b'2'..=b'5'),
-                ReplyStep::Within(ReplyPlace::Second(byte)),
+                ReplyStep::Within(ReplyState::Second(byte)),
             ),
-            ReplyPlace::Second(first) => step_if(
+            ReplyState::Second(first) => step_if(
                 matches!(byte, b'0'..=b'5'),
-                ReplyStep::Within(ReplyPlace::Third(first, byte)),
+                ReplyStep::Within(ReplyState::Third(first, byte)),
             ),
-            ReplyPlace::Third(first, second) => after_digits([first, second, byte]),
-            ReplyPlace::Mark(code) => after_code(code, byte),
-            ReplyPlace::Text(code) => within_text(
+            ReplyState::Third(first, second) => after_digits([first, second, byte]),
+            ReplyState::Mark(code) => after_code(code, byte),
+            ReplyState::Text(code) => within_text(
                 byte,
-                ReplyPlace::Text(code),
-                ReplyPlace::LineFeed(code),
+                ReplyState::Text(code),
+                ReplyState::LineFeed(code),
             ),
-            ReplyPlace::LastText(code) => within_text(
+            ReplyState::LastText(code) => within_text(
                 byte,
-                ReplyPlace::LastText(code),
-                ReplyPlace::LastLineFeed(code),
+                ReplyState::LastText(code),
+                ReplyState::LastLineFeed(code),
             ),
-            ReplyPlace::LineFeed(code) => step_if(
+            ReplyState::LineFeed(code) => step_if(
                 byte == b'\n',
-                ReplyStep::Within(ReplyPlace::FrontAgain(code)),
+                ReplyStep::Within(ReplyState::FrontAgain(code)),
             ),
-            ReplyPlace::LastLineFeed(code) => step_if(byte == b'\n', ReplyStep::Ended(code)),
-            ReplyPlace::FrontAgain(code) => step_if(
+            ReplyState::LastLineFeed(code) => step_if(byte == b'\n', ReplyStep::Ended(code)),
+            ReplyState::FrontAgain(code) => step_if(
                 byte == code.digits()[0],
-                ReplyStep::Within(ReplyPlace::SecondAgain(code)),
+                ReplyStep::Within(ReplyState::SecondAgain(code)),
             ),
-            ReplyPlace::SecondAgain(code) => step_if(
+            ReplyState::SecondAgain(code) => step_if(
                 byte == code.digits()[1],
-                ReplyStep::Within(ReplyPlace::ThirdAgain(code)),
+                ReplyStep::Within(ReplyState::ThirdAgain(code)),
             ),
-            ReplyPlace::ThirdAgain(code) => step_if(
+            ReplyState::ThirdAgain(code) => step_if(
                 byte == code.digits()[2],
-                ReplyStep::Within(ReplyPlace::Mark(code)),
+                ReplyStep::Within(ReplyState::Mark(code)),
             ),
         }
     }
@@ -113,28 +113,28 @@ fn step_if(test: bool, step: ReplyStep) -> ReplyStep
 
 /// What the third digit of a code comes to, with the two before it.
 fn after_digits(digits: [u8; 3]) -> ReplyStep
-    ensures { result ≡ step_if (is_reply_code digits) (ReplyStep.Within (ReplyPlace.Mark digits)) }
+    ensures { result ≡ step_if (is_reply_code digits) (ReplyStep.Within (ReplyState.Mark digits)) }
 {
     match ReplyCode::new(digits) {
-        Some(code) => ReplyStep::Within(ReplyPlace::Mark(code)),
+        Some(code) => ReplyStep::Within(ReplyState::Mark(code)),
         None => ReplyStep::Misplaced,
     }
 }
 
 /// What the byte after a line's code comes to.
 fn after_code(code: ReplyCode, byte: u8) -> ReplyStep
-    ensures { result ≡ reply_place_after (ReplyPlace.Mark code) byte }
+    ensures { result ≡ reply_state_after (ReplyState.Mark code) byte }
 {
     match byte {
-        b'-' => ReplyStep::Within(ReplyPlace::Text(code)),
-        b' ' => ReplyStep::Within(ReplyPlace::LastText(code)),
-        b'\r' => ReplyStep::Within(ReplyPlace::LastLineFeed(code)),
+        b'-' => ReplyStep::Within(ReplyState::Text(code)),
+        b' ' => ReplyStep::Within(ReplyState::LastText(code)),
+        b'\r' => ReplyStep::Within(ReplyState::LastLineFeed(code)),
         _ => ReplyStep::Misplaced,
     }
 }
 
-/// What a byte within a text comes to, at a place, before the place of its LF.
-fn within_text(byte: u8, text: ReplyPlace, line_feed: ReplyPlace) -> ReplyStep
+/// What a byte within a text comes to, at a state, before the state of its LF.
+fn within_text(byte: u8, text: ReplyState, line_feed: ReplyState) -> ReplyStep
     ensures { result ≡ (if byte == 13 then ReplyStep.Within line_feed
         else (if byte == 10 then ReplyStep.Misplaced else ReplyStep.Within text)) }
 {
@@ -145,15 +145,15 @@ fn within_text(byte: u8, text: ReplyPlace, line_feed: ReplyPlace) -> ReplyStep
     }
 }
 
-/// What bytes come to.
+/// The result of some bytes.
 pub(crate) fn scan(bytes: &[u8]) -> ReplyScan
-    ensures { result ≡ scan ReplyPlace.Front bytes.now }
+    ensures { result ≡ scan ReplyState.Front bytes.now }
 {
-    let mut place = ReplyPlace::Front;
+    let mut state = ReplyState::Front;
     let mut rest = bytes;
     while let [byte, after @ ..] = rest {
-        match place.after(*byte) {
-            ReplyStep::Within(next) => place = next,
+        match state.after(*byte) {
+            ReplyStep::Within(next) => state = next,
             ReplyStep::Ended(code) if after.is_empty() => return ReplyScan::Whole(code),
             ReplyStep::Ended(_) => return ReplyScan::Behind,
             ReplyStep::Misplaced => return ReplyScan::Wrong,

@@ -1,6 +1,11 @@
-"""Checks wrong arguments (status 2, no standard output, the usage line on standard error) and unusual correct ones."""
+"""Checks wrong arguments (status 2, no standard output, the reason, where to find help and the usage line on standard error),
+unusual correct ones, the help and the version."""
 
-from tests.support.running import EXAMPLES, Checks, Ran, empty_outbox, run
+import re
+
+from tests.support.running import EXAMPLES, ROOT, Checks, Ran, empty_outbox, run
+
+FAULT_CODES = ROOT / "crates/dsn_text/src/fault_code.rt"
 
 USAGE = (
     b"usage: noticed batch HOST"
@@ -21,9 +26,6 @@ WRONG = {
     "an unknown command": ["bounce", HOST],
     "a command in capitals": ["BATCH", HOST],
     "a command with a space": ["batch ", HOST],
-    "-h": ["-h"],
-    "--help": ["--help"],
-    "--version": ["--version"],
     "an option before the command": ["--", "batch", HOST],
     "the host alone": [HOST],
     "batch with no host": ["batch"],
@@ -55,13 +57,14 @@ WRONG = {
     "serve with a host of 256 bytes": ["serve", SOCKET, "a" * 256, "2", "1"],
     "serve with a socket that is no UTF-8": ["serve", b"\xff", HOST, "2", "1"],
     "serve with an unknown option": ["serve", "--verbose", SOCKET, HOST, "2", "1"],
-    "serve with an option after its socket": ["serve", SOCKET, "--log", HOST, "2", "1"],
-    "serve with an option at its end": ["serve", SOCKET, HOST, "2", "1", "--log"],
+    "serve with a host like an option": ["serve", SOCKET, "--verbose", "2", "1"],
+    "stop with a socket like an option": ["stop", "--log"],
+    "postfix with a host like an option": ["postfix", QUEUE, "--lifetime", HAND_IN],
+    "batch with a host like an option": ["batch", "--"],
     "serve with a log twice": ["serve", "--log", "--log", SOCKET, HOST, "2", "1"],
     "serve with an end on a fault twice": ["serve", "--end-on-fault", "--end-on-fault", SOCKET, HOST, "2", "1"],
     "serve with two idle limits": ["serve", "--idle", "1", "--idle", "1", SOCKET, HOST, "2", "1"],
     "serve with an idle limit without seconds": ["serve", "--idle", SOCKET, HOST, "2", "1"],
-    "serve with an idle limit in one word": ["serve", "--idle=1", SOCKET, HOST, "2", "1"],
     "serve with an outbox and no path": ["serve", "--outbox", SOCKET, HOST, "2", "1"],
     "serve with a journal whose folder is no UTF-8": [
         "serve",
@@ -141,9 +144,6 @@ WRONG = {
     "postfix with an unknown option": ["postfix", "--verbose", "1", QUEUE, HOST, HAND_IN],
     "postfix with an option of serve": ["postfix", "--log", QUEUE, HOST, HAND_IN],
     "postfix with a version": ["postfix", "--postfix", "3.7", QUEUE, HOST, HAND_IN],
-    "postfix with an option after its folder": ["postfix", QUEUE, "--lifetime", "1", HOST, HAND_IN],
-    "postfix with an option at its end": ["postfix", QUEUE, HOST, HAND_IN, "--lifetime", "1"],
-    "postfix with an option in one word": ["postfix", "--lifetime=1", QUEUE, HOST, HAND_IN],
     "postfix with --inherited twice": ["postfix", "--inherited", "--inherited", QUEUE, HOST, HAND_IN],
     "postfix with --inherited and a value": ["postfix", "--inherited", "yes", QUEUE, HOST, HAND_IN],
     "postfix with an option in capitals": ["postfix", "--LIFETIME", "1", QUEUE, HOST, HAND_IN],
@@ -227,14 +227,15 @@ NO_PATHS = ["", "s" * 108, "/" + "s" * 300]
 RIGHT = {
     "one agent, one connection": ["serve", SOCKET, HOST, "1", "1"],
     "the most of both": ["serve", SOCKET, HOST, "16", "1000000"],
-    "a host like an option": ["serve", SOCKET, "--help", "2", "1"],
     "an idle limit": ["serve", "--idle", "86400", SOCKET, HOST, "2", "1"],
     "all options": ["serve", "--log", "--idle", "1", "--end-on-fault", SOCKET, HOST, "2", "1"],
+    "an option in one word": ["serve", "--idle=1", SOCKET, HOST, "2", "1"],
+    "an option after the socket": ["serve", SOCKET, "--log", HOST, "2", "1"],
+    "an option at the end": ["serve", SOCKET, HOST, "2", "1", "--log"],
+    "a socket after --": ["stop", "--", SOCKET],
     "an outbox": ["serve", "--outbox", "/dev/null", SOCKET, HOST, "2", "1"],
-    "a socket like an option": ["send", "--help"],
     "a client": ["send", SOCKET],
     "a stop": ["stop", SOCKET],
-    "a stop of a socket like an option": ["stop", "--log"],
 }
 
 # right, but there is no such folder: fault 61 with the folder of Postfix's sockets
@@ -247,14 +248,48 @@ RIGHT_OF_POSTFIX = {
     "no hashed queue": ["--hash-queue-names", "", QUEUE, HOST, HAND_IN],
     "a list of hashed queues": ["--hash-queue-names", "deferred, defer\tbounce", QUEUE, HOST, HAND_IN],
     "an address without a domain": ["--double-bounce", "double-bounce", QUEUE, HOST, HAND_IN],
-    "a host like an option": [QUEUE, "--lifetime", HAND_IN],
     "inherited sockets": ["--inherited", QUEUE, HOST, HAND_IN],
     "inherited sockets before another option": ["--inherited", "--lifetime", "1", QUEUE, HOST, HAND_IN],
     "all options": [*(word for it in POSTFIX_OPTIONS.items() for word in it), QUEUE, HOST, HAND_IN],
 }
 
-# hosts that look like something else: `batch` has no options, so each is a host name
-ODD_HOSTS = ["-h", "--help", "--", "-", ".", "..", "0", "a", "A" * 255]
+# hosts that look like something else
+ODD_HOSTS = ["-", ".", "..", "0", "a", "A" * 255]
+
+# what the reason of wrong arguments says, word for word
+REASONS = {
+    b"error: AGENTS must be 1 to 16, not '17'": ["serve", SOCKET, HOST, "17", "1"],
+    b"error: MAX-USE must be 1 to 1000000, not '01'": ["serve", SOCKET, HOST, "1", "01"],
+    b"error: idle must be 1 to 86400, not '5m'": ["serve", "--idle", "5m", SOCKET, HOST, "1", "1"],
+    b"error: HOST must be 1 to 255 letters, digits, dots and hyphens, not 'a_b'": ["batch", "a_b"],
+    b"error: HAND-IN must be an IP address with a port, not 'localhost:25'": ["postfix", QUEUE, HOST, "localhost:25"],
+    b"error: an argument is not UTF-8": ["batch", b"\xff"],
+    b"error: unexpected argument '--hlep' found": ["batch", "--hlep"],
+    b"error: unrecognized subcommand 'bounce'": ["bounce", HOST],
+    b"error: the following required arguments were not provided:\n  <HOST>": ["batch"],
+}
+HINT = b"\ntry 'noticed help'\n"
+
+# words that ask for something to read, and what it begins with and has
+READ = {
+    "noticed --help": (["--help"], b"Logs outcomes of deliveries", b"\nUsage: noticed <COMMAND>\n"),
+    "noticed -h": (["-h"], b"Logs outcomes of deliveries", b"\n  postfix  Serves a Postfix in place of bounce(8)\n"),
+    "noticed help": (["help"], b"Logs outcomes of deliveries", b"\n  batch    "),
+    "noticed help serve": (
+        ["help", "serve"],
+        b"Answers clients",
+        b"\nUsage: noticed serve [OPTIONS] <SOCKET> <HOST> <AGENTS> <MAX-USE>\n",
+    ),
+    "noticed postfix --help": (["postfix", "--help"], b"Serves a Postfix", b"[default: 432000]"),
+    "noticed batch --help": (["batch", "--help"], b"Answers the request frames", b"<HOST>"),
+    "noticed --version": (["--version"], b"noticed ", b"."),
+    "noticed help faults": (
+        ["help", "faults"],
+        b" 1  ",
+        b"\n61  a socket could not be bound, connected or removed, or an accept failed\n",
+    ),
+    "noticed faults": (["faults"], b" 1  ", b"\n31  the outbox could not be written\n"),
+}
 
 
 def wrong_of_postfix() -> dict:
@@ -276,7 +311,9 @@ def wrong_of_postfix() -> dict:
 
 
 def main():
-    checks = Checks("arguments: status 2 and the usage line alone for wrong ones; odd ones that are right run")
+    checks = Checks(
+        "arguments: status 2, the reason and the usage line for wrong ones; odd ones that are right run; help"
+    )
     given = (EXAMPLES / "one-bounce.frames").read_bytes()
     wrong = dict(WRONG)
     wrong |= {f"{it!r} agents": ["serve", SOCKET, HOST, it, "1"] for it in NO_AGENTS}
@@ -284,7 +321,19 @@ def main():
     wrong |= {f"{it!r} seconds": ["serve", "--idle", it, SOCKET, HOST, "2", "1"] for it in NO_SECONDS}
     wrong |= wrong_of_postfix()
     for what, words in wrong.items():
-        checks.equal(what, run(words, given), Ran(b"", USAGE, 2))
+        ran = run(words, given)
+        reason, hint, usage = ran.notes.partition(HINT)
+        checks.equal(what, (ran.outbox, reason[:7], hint, usage, ran.status), (b"", b"error: ", HINT, USAGE, 2))
+    for reason, words in REASONS.items():
+        checks.equal(reason.decode(), run(words, given), Ran(b"", reason + HINT + USAGE, 2))
+    for what, (words, begins, has) in READ.items():
+        ran = run(words, given)
+        checks.equal(
+            what, (ran.outbox.startswith(begins), has in ran.outbox, ran.notes, ran.status), (True, True, b"", 0)
+        )
+    listed = [int(line.split()[0]) for line in run(["faults"]).outbox.splitlines()]
+    codes = [int(it) for it in re.findall(r"^pub const \w+: u32 = (\d+);$", FAULT_CODES.read_text(), re.M)]
+    checks.equal("each number is listed once, in order", listed, sorted(codes))
     for path in NO_PATHS:
         for words in (["serve", path, HOST, "2", "1"], ["stop", path], ["send", path]):
             checks.equal(f"{words[0]} with a path of {len(path)} bytes", run(words, given), Ran(b"", PATH, 2))

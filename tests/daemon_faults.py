@@ -23,7 +23,7 @@ from tests.support.daemon_and_clients import (
 from tests.support.preloading import built, compare_ends, each_refused, preloading
 from tests.support.running import HOST, Checks, Ran, empty_outbox, run
 
-MOST = 200  # growths of a run; more than this and the sweep is broken
+MOST = 500  # growths of a run; more than this and the sweep is broken
 IN_USE = "Address already in use (os error 98)"
 NOT_THERE = "No such file or directory (os error 2)"
 NO_FOLDER = "Not a directory (os error 20)"

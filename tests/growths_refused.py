@@ -12,7 +12,7 @@ from tests.support.preloading import built, compare_ends, each_refused, preloadi
 from tests.support.running import EXAMPLES, ROOT, Checks, Ran, batch, empty_outbox
 
 PROBE = os.environ.get("PROBE") or str(ROOT / "crates/probe/out/probe")
-MOST = 200  # growths of a run; more than this and the sweep is broken
+MOST = 500  # growths of a run; more than this and the sweep is broken
 UNBEGUN = Ran(b"", b"fault 9\n", 1)  # nothing is read or written
 FIRST_FRAME = 52  # bytes of the example's append
 

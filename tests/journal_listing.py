@@ -23,7 +23,7 @@ from tests.support.system import deploy_block
 SIZE, MARKS = 16_384, 4_096  # bytes of a journal and of marks here
 FOLDERS = 60  # random ones
 CLIENTS, BACKUPS, ROOMY = 4, 20, 8 << 20  # and bytes of a journal that doesn't get full while it is copied
-MOST = 300  # growths of a listing; more than this and the sweep is broken
+MOST = 500  # growths of a listing; more than this and the sweep is broken
 
 
 def state(folder: Path) -> dict:

@@ -39,7 +39,8 @@ def compare(checks: Checks, what: str, given: bytes, host: str = HOST):
 def hosts(checks: Checks):
     """A host of each length, with a notice that has all its fields."""
     for length in range(1, HOST_NAME + 1):
-        name = some(length, b"abcdefghijklmnopqrstuvwxyz0123456789.-ABC").decode()
+        # a hyphen in front would begin an option
+        name = (some(1) + some(length - 1, b"abcdefghijklmnopqrstuvwxyz0123456789.-ABC")).decode()
         compare(checks, f"a host of {length} bytes", EXAMPLE, name)
     checks.equal("a host of 256 bytes", run(["batch", some(HOST_NAME + 1).decode()]).status, 2)
 

@@ -20,7 +20,7 @@ from tests.support.daemon_and_clients import (
 from tests.support.preloading import built, each_refused
 from tests.support.running import Checks, Ran, run
 
-MOST = 100  # growths of a run; more than this and the sweep is broken
+MOST = 500  # growths of a run; more than this and the sweep is broken
 TOO_LONG = Ran(b"", b"the path of the socket must have 1 to 107 bytes\n", 2)
 
 

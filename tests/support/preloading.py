@@ -25,13 +25,17 @@ def preloading(library: Path, **variables) -> dict:
 
 
 def each_refused(library: Path, most: int, run, whole) -> list:
-    """How a run ends where its first growth of memory is refused, its second, and so on up to the first run that is
-    whole, or so many. `run` is given the environment."""
+    """How a run ends if its first growth of memory is refused, its second, and so on until none is left, or so many.
+    A refusal that changes nothing is left out (the parser of the command line has one): none is left once two runs
+    after another are whole. `run` is given the environment."""
     ends = []
     for number in range(1, most):
-        ends.append(run(preloading(library, REFUSE=number)))
-        if ends[-1] == whole:
-            break
+        end = run(preloading(library, REFUSE=number))
+        if whole in ends:
+            if end == whole:
+                break
+            ends.pop()
+        ends.append(end)
     return ends
 
 

@@ -1,12 +1,14 @@
 //! The arguments: which command they name, and what it is given.
-use crate::postfix_arguments::postfix_arguments;
+use crate::command_line::command_line;
+use crate::fault_list::fault_list;
 use crate::postfix_serving::PostfixServing;
+use crate::postfix_values::postfix_serving;
 use crate::start_error::StartError;
+use clap::ArgMatches;
 use dsn_report::{Site, SiteFault};
 use noticed_lib::WatchOptions;
 use std::alloc::Global;
 use std::env;
-use std::env::Args;
 use std::io::ErrorKind;
 use std::rt::Env;
 
@@ -21,9 +23,6 @@ const MOST_IDLE: u32 = 86_400;
 
 /// The longest path of a socket that the system takes, in bytes.
 const LONGEST_PATH: usize = 107;
-
-/// How many words `serve` has after its options.
-const SERVE_WORDS: usize = 4;
 
 /// What the arguments ask for.
 #[derive(Drop)]
@@ -52,6 +51,8 @@ pub(crate) enum Command {
     },
     /// `postfix [OPTION].. QUEUE-FOLDER HOST HAND-IN`.
     Postfix(PostfixServing),
+    /// `faults`.
+    Faults,
 }
 
 /// What `serve` is given.
@@ -82,151 +83,103 @@ pub(crate) struct ServeOptions {
     pub(crate) watch: WatchOptions,
 }
 
-/// The command that the arguments name.
+/// The command that the arguments name, with what it is given.
 pub(crate) fn command_of(rt: &HostRuntime) -> Result<Command, StartError> {
-    let mut words = match env::args(rt) {
+    let alloc = rt.alloc();
+    let words = words_of(rt)?;
+    let faults = fault_list(alloc)?;
+    let line = command_line(alloc, faults.as_str())?;
+    let given = line.try_get_matches_from(words.as_slice())?;
+    match given.subcommand() {
+        Some((name, given)) => command_given(alloc, name, given),
+        // The parser requires a command.
+        None => Err(StartError::wrong(alloc, "COMMAND", "one of the program's", "")),
+    }
+}
+
+/// The words of the command line, the program's name among them.
+fn words_of(rt: &HostRuntime) -> Result<Vec<String>, StartError> {
+    let words = match env::args(rt) {
         Ok(words) => words,
         Err(error) if error.kind() == ErrorKind::OutOfMemory => return Err(StartError::NoMemory),
-        // A word that isn't UTF-8.
-        Err(_) => return Err(StartError::Usage),
+        Err(_) => return Err(StartError::NotText),
     };
-    let _program = words.next();
-    let command = words.next().ok_or(StartError::Usage)?;
-    match command.as_str() {
-        "batch" => batch_arguments(rt.alloc(), words),
-        "serve" => serve_arguments(rt.alloc(), words),
+    Ok(words.collect(rt.alloc())?)
+}
+
+/// The command of this name, with what it is given.
+fn command_given(alloc: Global, name: &str, given: &ArgMatches<'_>) -> Result<Command, StartError> {
+    match name {
+        "batch" => Ok(Command::Batch {
+            site: site_of(alloc, text_of(given, "HOST"))?,
+        }),
+        "serve" => Ok(Command::Serve(serving_of(alloc, given)?)),
         "stop" => Ok(Command::Stop {
-            socket: socket_argument(words)?,
+            socket: socket_of(alloc, given)?,
         }),
         "send" => Ok(Command::Send {
-            socket: socket_argument(words)?,
+            socket: socket_of(alloc, given)?,
         }),
         "journal" => Ok(Command::Journal {
-            folder: folder_argument(words)?,
+            folder: owned(alloc, text_of(given, "FOLDER"))?,
         }),
-        "postfix" => Ok(Command::Postfix(postfix_arguments(rt.alloc(), words)?)),
-        _ => Err(StartError::Usage),
+        "faults" => Ok(Command::Faults),
+        _ => Ok(Command::Postfix(postfix_serving(alloc, given)?)),
     }
 }
 
-/// The arguments `HOST` of `batch`.
-fn batch_arguments(alloc: Global, mut words: Args) -> Result<Command, StartError> {
-    let (Some(host), None) = (words.next(), words.next()) else {
-        return Err(StartError::Usage);
-    };
-    let site = site_of(alloc, &host)?;
-    Ok(Command::Batch { site })
-}
-
-/// The arguments `[OPTION].. SOCKET HOST AGENTS MAX-USE` of `serve`.
-fn serve_arguments(alloc: Global, mut words: Args) -> Result<Command, StartError> {
-    let options = serve_options(&mut words)?;
-    let (Some(socket), Some(host)) = (words.next(), words.next()) else {
-        return Err(StartError::Usage);
-    };
-    let (Some(agents), Some(max_use), None) = (words.next(), words.next(), words.next()) else {
-        return Err(StartError::Usage);
-    };
-    Ok(Command::Serve(Serving {
-        agents: number_of(&agents, MOST_AGENTS)?,
-        max_use: number_of(&max_use, MOST_USE)?,
-        site: site_of(alloc, &host)?,
-        socket: socket_of(socket)?,
-        host,
-        options,
-    }))
-}
-
-/// The options of `serve`, each given once at most. They are the words before its last four, so
-/// that a socket, say, may have the name of an option. A journal asks for an outbox by path.
-fn serve_options(words: &mut Args) -> Result<ServeOptions, StartError> {
-    let mut options = ServeOptions {
-        journal: None,
-        outbox: None,
-        watch: WatchOptions {
-            idle_limit: None,
-            ends_on_fault: false,
-            logs: false,
+/// What `serve` is given.
+fn serving_of(alloc: Global, given: &ArgMatches<'_>) -> Result<Serving, StartError> {
+    let host = text_of(given, "HOST");
+    Ok(Serving {
+        agents: number_of(alloc, given, "AGENTS", MOST_AGENTS)?,
+        max_use: number_of(alloc, given, "MAX-USE", MOST_USE)?,
+        site: site_of(alloc, host)?,
+        socket: socket_of(alloc, given)?,
+        host: owned(alloc, host)?,
+        options: ServeOptions {
+            journal: owned_if(alloc, given.get_str("journal"))?,
+            outbox: owned_if(alloc, given.get_str("outbox"))?,
+            watch: WatchOptions {
+                idle_limit: idle_limit(alloc, given)?,
+                ends_on_fault: given.get_flag("end-on-fault"),
+                logs: given.get_flag("log"),
+            },
         },
-    };
-    // Only the words before the last four are options, so `serve` with four words means what it
-    // says even if one of them is an option's name. `--help` and `.` are legal host names.
-    for _ in SERVE_WORDS..words.len() {
-        if words.len() <= SERVE_WORDS {
-            break;
+    })
+}
+
+/// For how many seconds a client may be silent, if the option says so.
+fn idle_limit(alloc: Global, given: &ArgMatches<'_>) -> Result<Option<u32>, StartError> {
+    if !given.contains_id("idle") {
+        return Ok(None);
+    }
+    Ok(Some(number_of(alloc, given, "idle", MOST_IDLE)?))
+}
+
+/// The text of an argument; the empty text if it isn't given.
+pub(crate) fn text_of<'a>(given: &ArgMatches<'a>, name: &str) -> &'a str {
+    given.get_str(name).unwrap_or("")
+}
+
+/// The number that an argument says: 1 to `most` in decimal, without leading zeros.
+pub(crate) fn number_of(
+    alloc: Global,
+    given: &ArgMatches<'_>,
+    name: &str,
+    most: u32,
+) -> Result<u32, StartError> {
+    let word = text_of(given, name);
+    if matches!(word.as_bytes().first(), Some(b'1'..=b'9')) {
+        if let Ok(number) = word.parse::<u32>() {
+            if number <= most {
+                return Ok(number);
+            }
         }
-        let option = words.next().ok_or(StartError::Usage)?;
-        take_option(&mut options, option.as_str(), words)?;
     }
-    // A letter is marked once a flush returned, so that flush has to wait for a disk.
-    if options.journal.is_some() && options.outbox.is_none() {
-        return Err(StartError::Usage);
-    }
-    Ok(options)
-}
-
-/// Takes one option of `serve`, with its argument.
-fn take_option(
-    options: &mut ServeOptions,
-    option: &str,
-    words: &mut Args,
-) -> Result<(), StartError> {
-    let watch = &mut options.watch;
-    match option {
-        "--journal" if options.journal.is_none() => options.journal = Some(path_of(words)?),
-        "--outbox" if options.outbox.is_none() => options.outbox = Some(path_of(words)?),
-        "--idle" if watch.idle_limit.is_none() => {
-            let seconds = words.next().ok_or(StartError::Usage)?;
-            watch.idle_limit = Some(number_of(&seconds, MOST_IDLE)?);
-        }
-        "--end-on-fault" if !watch.ends_on_fault => watch.ends_on_fault = true,
-        "--log" if !watch.logs => watch.logs = true,
-        _ => return Err(StartError::Usage),
-    }
-    Ok(())
-}
-
-/// The path that comes next.
-pub(crate) fn path_of(words: &mut Args) -> Result<String, StartError> {
-    match words.next() {
-        Some(path) if !path.is_empty() => Ok(path),
-        _ => Err(StartError::Usage),
-    }
-}
-
-/// The argument `SOCKET` of `stop` and `send`.
-fn socket_argument(mut words: Args) -> Result<String, StartError> {
-    match (words.next(), words.next()) {
-        (Some(socket), None) => socket_of(socket),
-        _ => Err(StartError::Usage),
-    }
-}
-
-/// The argument `FOLDER` of `journal`.
-fn folder_argument(mut words: Args) -> Result<String, StartError> {
-    let folder = path_of(&mut words)?;
-    match words.next() {
-        None => Ok(folder),
-        Some(_) => Err(StartError::Usage),
-    }
-}
-
-/// The path of a socket. An empty one would be bound to a name that every account gets to.
-fn socket_of(path: String) -> Result<String, StartError> {
-    if path.is_empty() || path.len() > LONGEST_PATH {
-        return Err(StartError::SocketPath);
-    }
-    Ok(path)
-}
-
-/// The number from 1 to `most` that a word is in decimal, without leading zeros.
-pub(crate) fn number_of(word: &str, most: u32) -> Result<u32, StartError> {
-    if !matches!(word.as_bytes().first(), Some(b'1'..=b'9')) {
-        return Err(StartError::Usage);
-    }
-    match word.parse::<u32>() {
-        Ok(number) if number <= most => Ok(number),
-        _ => Err(StartError::Usage),
+    match format!(in alloc; "1 to {most}") {
+        Ok(allowed) => Err(StartError::wrong(alloc, name, allowed.as_str(), word)),
+        Err(_) => Err(StartError::NoMemory),
     }
 }
 
@@ -234,7 +187,34 @@ pub(crate) fn number_of(word: &str, most: u32) -> Result<u32, StartError> {
 pub(crate) fn site_of(alloc: Global, host: &str) -> Result<Site, StartError> {
     match Site::new(alloc, host.as_bytes()) {
         Ok(site) => Ok(site),
-        Err(SiteFault::BadHost) => Err(StartError::Usage),
+        Err(SiteFault::BadHost) => Err(StartError::wrong(
+            alloc,
+            "HOST",
+            "1 to 255 letters, digits, dots and hyphens",
+            host,
+        )),
         Err(SiteFault::NoMemory) => Err(StartError::NoMemory),
+    }
+}
+
+/// The path of the socket. An empty one would be bound to a name that every account gets to.
+fn socket_of(alloc: Global, given: &ArgMatches<'_>) -> Result<String, StartError> {
+    let path = text_of(given, "SOCKET");
+    if path.is_empty() || path.len() > LONGEST_PATH {
+        return Err(StartError::SocketPath);
+    }
+    owned(alloc, path)
+}
+
+/// A text of its own.
+pub(crate) fn owned(alloc: Global, text: &str) -> Result<String, StartError> {
+    Ok(format!(in alloc; "{text}")?)
+}
+
+/// A text of its own, if there is one.
+fn owned_if(alloc: Global, text: Option<&str>) -> Result<Option<String>, StartError> {
+    match text {
+        Some(text) => Ok(Some(owned(alloc, text)?)),
+        None => Ok(None),
     }
 }

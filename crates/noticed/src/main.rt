@@ -4,12 +4,12 @@
 mod arguments;
 mod batch_command;
 mod buffer;
+mod command_line;
+mod fault_list;
 mod journal_command;
 mod journal_files;
 mod outbox_writer;
-mod postfix_arguments;
 mod postfix_command;
-mod postfix_options;
 mod postfix_serving;
 mod postfix_values;
 mod send_command;
@@ -22,6 +22,7 @@ mod stop_command;
 use arguments::{Command, command_of};
 use batch_command::run_batch;
 use dsn_text::fault_code;
+use fault_list::fault_list;
 use journal_command::run_journal;
 use postfix_command::run_postfix;
 use send_command::run_send;
@@ -43,6 +44,7 @@ fn main(rt: HostRuntime) -> ExitCode {
         Ok(Command::Send { socket }) => run_send(&rt, &rt, &socket),
         Ok(Command::Journal { folder }) => run_journal(&rt, &folder),
         Ok(Command::Postfix(serving)) => run_postfix(&rt, &rt, serving),
+        Ok(Command::Faults) => print_faults(&rt),
         Err(start_error) => Err(start_error),
     };
     ExitCode::from(match done {
@@ -57,24 +59,64 @@ fn begin(rt: &HostRuntime) -> Result<Command, StartError> {
     command_of(rt)
 }
 
-/// Prints why a run doesn't begin, on standard error. Returns the status.
+/// Prints the numbers of faults and refusals with their words. Returns the status.
+fn print_faults(rt: &HostRuntime) -> Result<u8, StartError> {
+    let list = fault_list(rt.alloc())?;
+    match print!(rt; "{list}") {
+        Ok(()) => Ok(0),
+        Err(_) => Ok(1),
+    }
+}
+
+/// Prints why a command isn't started, or the help or the version that was asked for. Returns the
+/// status.
 fn print_start_error(rt: &HostRuntime, start_error: &StartError) -> u8 {
     match start_error {
-        StartError::Usage => {
-            let _ = eprintln!(rt; "{USAGE}");
-            2
+        StartError::CommandLine(shown) if !shown.use_stderr() => {
+            let _ = shown.print(rt);
+            return 0;
+        }
+        StartError::CommandLine(error) => {
+            print_reason(rt, error);
+        }
+        StartError::Wrong(reason) => {
+            let _ = eprintln!(rt; "error: {reason}");
+        }
+        StartError::NotText => {
+            let _ = eprintln!(rt; "error: an argument is not UTF-8");
         }
         StartError::SocketPath => {
             let _ = eprintln!(rt; "the path of the socket must have 1 to 107 bytes");
-            2
+            return 2;
         }
         StartError::NoMemory => {
             let _ = eprintln!(rt; "fault {}", fault_code::NO_MEMORY);
-            1
+            return 1;
         }
         StartError::NoStream(error) => {
             let _ = eprintln!(rt; "the standard streams could not be seen to: {error}");
-            1
+            return 1;
         }
+    }
+    let _ = eprintln!(rt; "try 'noticed help'");
+    let _ = eprintln!(rt; "{USAGE}");
+    2
+}
+
+/// Prints what the parser of the command line says of an error.
+fn print_reason(rt: &HostRuntime, error: &clap::Error) {
+    match format!(in rt.alloc(); "{error}") {
+        Ok(text) => {
+            let _ = eprintln!(rt; "{}", reason_in(text.as_str()));
+        }
+        Err(_) => {}
+    }
+}
+
+/// What stands before the first empty line: behind it the parser has a usage of its own.
+fn reason_in(text: &str) -> &str {
+    match text.split_once("\n\n") {
+        Some((reason, _usage)) => reason,
+        None => text,
     }
 }

@@ -1,19 +1,23 @@
-//! What options of `postfix` change.
-use crate::postfix_options::PostfixOptions;
+//! The arguments of `postfix`.
+//! main.cf isn't read: its values may name one another and come from tables, and only Postfix's own
+//! library reads it as Postfix does. The few that count are options with Postfix's defaults.
+use crate::arguments::{number_of, owned, site_of, text_of};
+use crate::postfix_serving::PostfixServing;
 use crate::start_error::StartError;
+use clap::ArgMatches;
 use dsn_postfix::QueueName;
+use dsn_postfix_queue::MOST_DEPTH;
+use dsn_text::{MtaName, TextFault};
 use std::alloc::Global;
+use std::net::SocketAddr;
 
-/// What holds where no option says otherwise, as in postconf(5).
-const USUAL_LIFETIME: u32 = 432_000;
+/// The longest time for which a delivery is tried, in seconds: a hundred days, as Postfix has it.
+const MOST_LIFETIME: u32 = 8_640_000;
 
-const USUAL_SIZE_LIMIT: u32 = 50_000;
+/// The largest `bounce_size_limit` of Postfix, in bytes.
+const MOST_SIZE_LIMIT: u32 = 2_147_483_647;
 
-const USUAL_HASHED: &str = "deferred, defer";
-
-const USUAL_DEPTH: u32 = 1;
-
-/// What options of `postfix` change.
+/// The values of the options of `postfix`.
 #[derive(Drop)]
 pub(crate) struct PostfixValues {
     /// For how many seconds a delivery is tried.
@@ -22,65 +26,88 @@ pub(crate) struct PostfixValues {
     pub(crate) size_limit: u32,
     /// The sender of notices about notices.
     pub(crate) double_bounce: String,
-    /// The names of the hashed queues, where an option gives them.
-    hashed: Option<String>,
-    /// How deep their files stand.
+    /// The names of the hashed queues, with commas, spaces or tabs between them.
+    hashed: String,
+    /// By how many levels of folders they are hashed.
     pub(crate) depth: u32,
     /// Whether the sockets are inherited.
     pub(crate) inherits: bool,
 }
 
 impl PostfixValues {
-    /// The values that these options ask for, for a host.
-    pub(crate) fn of(
-        alloc: Global,
-        options: PostfixOptions,
-        host: &str,
-    ) -> Result<PostfixValues, StartError> {
-        let PostfixOptions {
-            lifetime,
-            size_limit,
-            double_bounce,
-            hashed,
-            depth,
-            inherits,
-        } = options;
-        let double_bounce = match double_bounce {
-            Some(address) => address,
-            None => usual_double_bounce(alloc, host)?,
-        };
-        Ok(PostfixValues {
-            lifetime: lifetime.unwrap_or(USUAL_LIFETIME),
-            size_limit: size_limit.unwrap_or(USUAL_SIZE_LIMIT),
-            double_bounce,
-            hashed,
-            depth: depth.unwrap_or(USUAL_DEPTH),
-            inherits,
-        })
-    }
-
     /// The names of the hashed queues.
     pub(crate) fn hashed_queues(&self, alloc: Global) -> Result<Vec<QueueName<'_>>, StartError> {
-        match &self.hashed {
-            Some(names) => queue_names(alloc, names.as_str()),
-            None => queue_names(alloc, USUAL_HASHED),
+        let mut names = Vec::new(alloc);
+        for word in self.hashed.as_str().split([',', ' ', '\t']) {
+            if !word.is_empty() {
+                let Some(name) = QueueName::new(word.as_bytes()) else {
+                    let allowed = "names of queues";
+                    return Err(StartError::wrong(alloc, "hash-queue-names", allowed, word));
+                };
+                names.push(name).map_err(|_| StartError::NoMemory)?;
+            }
         }
+        Ok(names)
     }
 }
 
-/// The sender of notices about notices, where no option names it.
-fn usual_double_bounce(alloc: Global, host: &str) -> Result<String, StartError> {
-    format!(in alloc; "double-bounce@{host}").map_err(|_| StartError::NoMemory)
+/// What `postfix` is given.
+pub(crate) fn postfix_serving(
+    alloc: Global,
+    given: &ArgMatches<'_>,
+) -> Result<PostfixServing, StartError> {
+    let host = text_of(given, "HOST");
+    Ok(PostfixServing {
+        site: site_of(alloc, host)?,
+        client: client_of(alloc, host)?,
+        hand_in: address_of(alloc, text_of(given, "HAND-IN"))?,
+        values: values_of(alloc, given, host)?,
+        folder: owned(alloc, text_of(given, "QUEUE-FOLDER"))?,
+    })
 }
 
-/// The names of queues in a text, with commas, spaces or tabs between them.
-fn queue_names(alloc: Global, text: &str) -> Result<Vec<QueueName<'_>>, StartError> {
-    let mut names = Vec::new(alloc);
-    for word in text.split([',', ' ', '\t']) {
-        if !word.is_empty() {
-            let name = QueueName::new(word.as_bytes()).ok_or(StartError::Usage)?;
-            names.push(name).map_err(|_| StartError::NoMemory)?;
-        }
+/// The values of the options.
+fn values_of(
+    alloc: Global,
+    given: &ArgMatches<'_>,
+    host: &str,
+) -> Result<PostfixValues, StartError> {
+    Ok(PostfixValues {
+        lifetime: number_of(alloc, given, "lifetime", MOST_LIFETIME)?,
+        size_limit: number_of(alloc, given, "bounce-size-limit", MOST_SIZE_LIMIT)?,
+        double_bounce: double_bounce_of(alloc, given, host)?,
+        hashed: owned(alloc, text_of(given, "hash-queue-names"))?,
+        depth: number_of(alloc, given, "hash-queue-depth", MOST_DEPTH)?,
+        inherits: given.get_flag("inherited"),
+    })
+}
+
+/// The sender of notices about notices.
+fn double_bounce_of(
+    alloc: Global,
+    given: &ArgMatches<'_>,
+    host: &str,
+) -> Result<String, StartError> {
+    match given.get_str("double-bounce") {
+        Some(address) => owned(alloc, address),
+        None => Ok(format!(in alloc; "double-bounce@{host}")?),
     }
-    Ok(names)
+}
+
+/// The address and the port that a word names; a server listens at none with the number 0. It is no
+/// name: a name would be looked up for each notice, and a notice would wait for that.
+fn address_of(alloc: Global, word: &str) -> Result<SocketAddr, StartError> {
+    match word.parse::<SocketAddr>() {
+        Ok(address) if address.port() > 0 => Ok(address),
+        _ => Err(StartError::wrong(alloc, "HAND-IN", "an IP address with a port", word)),
+    }
+}
+
+/// The name that a host has for a mail server.
+fn client_of(alloc: Global, host: &str) -> Result<MtaName, StartError> {
+    match MtaName::new(alloc, host.as_bytes()) {
+        Ok(name) => Ok(name),
+        Err(TextFault::NoMemory) => Err(StartError::NoMemory),
+        Err(_) => Err(StartError::wrong(alloc, "HOST", "the name of a host", host)),
+    }
 }

@@ -1,15 +1,53 @@
 //! Why a command wasn't started.
+use clap::error::ErrorKind;
+use dsn_text::NoMemory;
+use std::alloc::{AllocError, Global};
 use std::io;
 
 /// Why a command wasn't started.
 #[derive(Drop)]
 pub(crate) enum StartError {
-    /// The arguments are wrong.
-    Usage,
+    /// What the command line's parser has to say: what is wrong, the help, or the version.
+    CommandLine(clap::Error),
+    /// An argument is wrong: which one, and what is allowed.
+    Wrong(String),
+    /// An argument is not UTF-8.
+    NotText,
     /// The path of the socket is empty, or longer than the system takes.
     SocketPath,
     /// The memory to begin was refused.
     NoMemory,
     /// A standard stream is closed, and its descriptor could not be taken.
     NoStream(io::Error),
+}
+
+impl StartError {
+    /// That an argument has to be something else than this word.
+    pub(crate) fn wrong(alloc: Global, argument: &str, allowed: &str, word: &str) -> StartError {
+        match format!(in alloc; "{argument} must be {allowed}, not '{word}'") {
+            Ok(line) => StartError::Wrong(line),
+            Err(_) => StartError::NoMemory,
+        }
+    }
+}
+
+impl From<AllocError> for StartError {
+    fn from(_error: AllocError) -> StartError {
+        StartError::NoMemory
+    }
+}
+
+impl From<NoMemory> for StartError {
+    fn from(_error: NoMemory) -> StartError {
+        StartError::NoMemory
+    }
+}
+
+impl From<clap::Error> for StartError {
+    fn from(error: clap::Error) -> StartError {
+        if error.kind() == ErrorKind::OutOfMemory {
+            return StartError::NoMemory;
+        }
+        StartError::CommandLine(error)
+    }
 }

@@ -1,0 +1,140 @@
+//! The command line: its commands with their options and arguments, and the help of each.
+//! docs/FORMATS.md, "Command line and exit status", has the bounds.
+use clap::builder::ValueParser;
+use clap::{Arg, ArgAction, Command};
+use std::alloc::{AllocError, Global};
+
+/// The version of the program.
+const VERSION: &str = "0.9.0";
+
+/// The command line of the program, with this list of faults.
+pub(crate) fn command_line<'a>(alloc: Global, faults: &'a str) -> Result<Command<'a>, AllocError> {
+    Command::new(alloc, "noticed")
+        .version(VERSION)
+        .about("Logs outcomes of deliveries, and makes a delivery status notification of each log")
+        .subcommand_required(true)
+        .subcommand(batch(alloc)?)?
+        .subcommand(serve(alloc)?)?
+        .subcommand(stop(alloc)?)?
+        .subcommand(send(alloc)?)?
+        .subcommand(journal(alloc)?)?
+        .subcommand(postfix(alloc)?)?
+        .subcommand(
+            Command::new(alloc, "faults")
+                .about("Lists the numbers of faults and refusals")
+                .override_help(faults),
+        )
+}
+
+fn batch<'a>(alloc: Global) -> Result<Command<'a>, AllocError> {
+    Command::new(alloc, "batch")
+        .about(
+            "Answers the request frames of standard input, and writes the outbox to standard output",
+        )
+        .arg(host(alloc))
+}
+
+fn serve<'a>(alloc: Global) -> Result<Command<'a>, AllocError> {
+    Command::new(alloc, "serve")
+        .about("Answers clients that connect to a Unix socket, and writes the outbox")
+        .arg(
+            option(alloc, "journal", "FOLDER")
+                .help("Keeps each request in FOLDER before it is answered")
+                .requires_arg("outbox")?,
+        )?
+        .arg(option(alloc, "outbox", "PATH").help("Writes the outbox to PATH, synced"))?
+        .arg(option(alloc, "idle", "SECONDS").help(
+            "Cuts off a client that is silent for SECONDS, 1 to 86400",
+        ))?
+        .arg(flag(alloc, "end-on-fault").help("Ends the run once the outbox could not be written"))?
+        .arg(flag(alloc, "log").help("Logs events on standard error"))?
+        .arg(socket(alloc))?
+        .arg(host(alloc))?
+        .arg(argument(alloc, "AGENTS").help("How many clients are served at once, 1 to 16"))?
+        .arg(argument(alloc, "MAX-USE").help("How many connections each agent takes, 1 to 1000000"))
+}
+
+fn stop<'a>(alloc: Global) -> Result<Command<'a>, AllocError> {
+    Command::new(alloc, "stop")
+        .about("Ends the daemon of a socket in order")
+        .arg(socket(alloc))
+}
+
+fn send<'a>(alloc: Global) -> Result<Command<'a>, AllocError> {
+    Command::new(alloc, "send")
+        .about("Sends the request frames of standard input to a daemon, and prints its answers")
+        .arg(socket(alloc))
+}
+
+fn journal<'a>(alloc: Global) -> Result<Command<'a>, AllocError> {
+    Command::new(alloc, "journal")
+        .about("Prints what the journal of a folder holds, and changes nothing")
+        .arg(argument(alloc, "FOLDER").help("The folder of the journal"))
+}
+
+fn postfix<'a>(alloc: Global) -> Result<Command<'a>, AllocError> {
+    Command::new(alloc, "postfix")
+        .about("Serves a Postfix in place of bounce(8)")
+        .arg(
+            option(alloc, "lifetime", "SECONDS")
+                .default_value("432000")
+                .help("How long Postfix tries a delivery, 1 to 8640000"),
+        )?
+        .arg(
+            option(alloc, "bounce-size-limit", "BYTES")
+                .default_value("50000")
+                .help("The longest message that is returned whole, 1 to 2147483647"),
+        )?
+        .arg(option(alloc, "double-bounce", "ADDRESS").help(
+            "The sender whose mail gets no notice [default: double-bounce@HOST]",
+        ))?
+        .arg(
+            option(alloc, "hash-queue-names", "NAMES")
+                .value_parser(ValueParser::String)
+                .default_value("deferred, defer")
+                .help("The queues whose folders are hashed"),
+        )?
+        .arg(
+            option(alloc, "hash-queue-depth", "DEPTH")
+                .default_value("1")
+                .help("How many levels they are hashed by, 1 to 16"),
+        )?
+        .arg(flag(alloc, "inherited").help("Takes over the sockets that the caller listens on"))?
+        .arg(argument(alloc, "QUEUE-FOLDER").help("Postfix's queue folder"))?
+        .arg(host(alloc))?
+        .arg(argument(alloc, "HAND-IN").help(
+            "The IP address and port of the mail server that takes the notices",
+        ))
+}
+
+/// The argument HOST.
+fn host<'a>(alloc: Global) -> Arg<'a> {
+    argument(alloc, "HOST").help("The name of this mail system in its notices")
+}
+
+/// The argument SOCKET. Its length is tested by who reads it.
+fn socket<'a>(alloc: Global) -> Arg<'a> {
+    argument(alloc, "SOCKET")
+        .value_parser(ValueParser::String)
+        .help("The path of the daemon's socket")
+}
+
+/// An argument that has to be there.
+fn argument<'a>(alloc: Global, name: &'a str) -> Arg<'a> {
+    Arg::new(alloc, name)
+        .required(true)
+        .value_parser(ValueParser::NonEmptyString)
+}
+
+/// An option with a value.
+fn option<'a>(alloc: Global, name: &'a str, value: &'a str) -> Arg<'a> {
+    Arg::new(alloc, name)
+        .long(name)
+        .value_name(value)
+        .value_parser(ValueParser::NonEmptyString)
+}
+
+/// An option without a value.
+fn flag<'a>(alloc: Global, name: &'a str) -> Arg<'a> {
+    Arg::new(alloc, name).long(name).action(ArgAction::SetTrue)
+}

@@ -1,9 +1,11 @@
-"""Checks `serve --idle`: a client that says nothing, or reads nothing, for so long is cut off, and its agent serves the
-next one; a client that is slow and not silent isn't. Without the option nobody is cut off."""
+"""Checks `serve --idle`: a client that says nothing, reads nothing, or is at one frame for so long is cut off, and its
+agent serves the next one. Without the option nobody is cut off."""
+import contextlib
+import threading
 import time
 
 from tests.support.daemon_and_clients import Daemon, answer, append, asked, flush, heard, is_ended, line
-from tests.support.running import Checks
+from tests.support.running import Checks, run
 
 IDLE = ("--idle", "2")
 GAP = 1.2  # seconds between two bytes of a slow client, of which each is more than one look of the daemon's
@@ -36,14 +38,47 @@ def silent_in_a_frame(checks: Checks):
 
 
 def slow(checks: Checks):
-    """A client that says a byte now and then isn't silent, though it takes longer than the limit."""
+    """A client that is silent for almost the limit before each frame, and takes almost the limit for it, is served."""
     with Daemon(1, 1, options=("--idle", "5")) as daemon:
         with daemon.connect() as client:
-            for at in range(6):
-                client.sendall(append(0)[at : at + 1])
-                time.sleep(GAP)
-            checks.equal("a slow client", asked(client, append(0)[6:]), answer(1))
-        checks.equal("a slow client: no fault", daemon.end().notes, line(0, 1) + b"open B Q1 1\n")
+            for number in range(2):
+                time.sleep(3)
+                for at in range(3):
+                    client.sendall(append(number)[at : at + 1])
+                    time.sleep(GAP)
+                checks.equal(
+                    f"a slow client: frame {number}", asked(client, append(number)[3:]), answer(1, number, number)
+                )
+        checks.equal("a slow client: no fault", daemon.end().notes, line(0, 2) + b"open B Q1 2\n")
+
+
+def trickle(client):
+    """Sends a frame a byte at a time, until the daemon cuts it off."""
+    with contextlib.suppress(ConnectionError):
+        for at in range(200):
+            client.sendall(append(0)[at % 20 : at % 20 + 1])
+            time.sleep(0.3)
+
+
+def slow_clients(checks: Checks):
+    """Eight clients that give a byte now and then hold all eight agents: each is cut off once it has had the limit for
+    one frame, so a good client is answered soon after."""
+    with Daemon(8, 100, options=("--idle", "2", "--log")) as daemon, contextlib.ExitStack() as stack:
+        daemon.listens()
+        slow_ones = [stack.enter_context(daemon.connect()) for _ in range(8)]
+        threads = [threading.Thread(target=trickle, args=(client,)) for client in slow_ones]
+        for thread in threads:
+            thread.start()
+        time.sleep(0.5)
+        began = time.monotonic()
+        with daemon.connect() as good:
+            checks.equal("a good client beside eight slow ones", asked(good, append(0)), answer(1))
+        checks.true("within the limit, and a second to look", time.monotonic() - began < 4)
+        for thread in threads:
+            thread.join()
+        run(["stop", daemon.path])
+        cut_off = daemon.end().notes.splitlines().count(b"client cut off: no whole frame for 2 s")
+        checks.equal("each slow client has a line", cut_off, 8)
 
 
 def never_reads(checks: Checks):
@@ -74,7 +109,7 @@ def no_limit(checks: Checks):
 
 def main():
     checks = Checks("idle: clients that say or read nothing are cut off where a limit is given")
-    for check in (silent, silent_in_a_frame, slow, never_reads, no_limit):
+    for check in (silent, silent_in_a_frame, slow, slow_clients, never_reads, no_limit):
         check(checks)
     checks.done()
 

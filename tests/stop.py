@@ -139,8 +139,7 @@ def silent_between_frames(checks: Checks):
 
 
 def slow_in_a_frame(checks: Checks):
-    """A client that sends a byte now and then can't hold a stop up: it would need nine hours for its frame. (It could
-    before a daemon counted the pieces of a frame: each byte was the end of a silence.)"""
+    """A client that sends a byte now and then can't hold a stop up: it would need nine hours for its frame."""
     with Daemon(1, 1000) as daemon:
         with daemon.connect() as client:
             client.sendall(LONGEST)

@@ -44,7 +44,7 @@ fn serve<'a>(alloc: Global) -> Result<Command<'a>, AllocError> {
         )?
         .arg(option(alloc, "outbox", "PATH").help("Writes the outbox to PATH, synced"))?
         .arg(option(alloc, "idle", "SECONDS").help(
-            "Cuts off a client that is silent for SECONDS, 1 to 86400",
+            "Cuts off a client that is silent, or takes for a frame, SECONDS, 1 to 86400",
         ))?
         .arg(flag(alloc, "end-on-fault").help("Ends the run once the outbox could not be written"))?
         .arg(flag(alloc, "log").help("Logs events on standard error"))?

@@ -1,6 +1,7 @@
 //! A run that nobody looks after.
 use crate::daemon::watch::Watch;
 use std::io;
+use std::time::Duration;
 
 /// A watch under which a run goes on to its last connection, without time limits.
 #[derive(Clone, Copy)]
@@ -15,6 +16,10 @@ impl Watch for NoWatch {
 
     fn idle_limit(&self) -> Option<u32> {
         None
+    }
+
+    fn elapsed(&self) -> Duration {
+        Duration::ZERO
     }
 
     fn look(&self) {}
@@ -35,7 +40,7 @@ impl Watch for NoWatch {
 
     fn connection_refused(&self) {}
 
-    fn client_cut_off(&self, _seconds: u32) {}
+    fn client_cut_off(&self, _seconds: u32, _in_frame: bool) {}
 
     fn outbox_failed(&self, _error: &io::Error) {}
 }

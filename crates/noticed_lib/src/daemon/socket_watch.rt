@@ -10,7 +10,7 @@ use std::os::fd::OwnedFd;
 use std::os::unix::fs::MetadataExt;
 use std::os::unix::net::{UnixListener, UnixStream};
 use std::sync::atomic::{AtomicBool, AtomicI32, Ordering};
-use std::time::Duration;
+use std::time::{Clock, Duration, Instant};
 use std::{fs, io};
 
 /// The device and the inode that no file has.
@@ -19,7 +19,7 @@ const NO_FILE: (u64, u64) = (0, 0);
 /// What the watch of a run is asked to do.
 #[derive(Clone, Copy)]
 pub struct WatchOptions {
-    /// After how many seconds a client that says nothing is cut off, if ever.
+    /// How many seconds a client may be silent, and may take for one frame, if there is a limit.
     pub idle_limit: Option<u32>,
     /// Whether the run is to end once its outbox could not be written.
     pub ends_on_fault: bool,
@@ -38,15 +38,17 @@ pub struct SocketWatch<'a, R> {
     file: (u64, u64),
     /// The listening socket once more: shut down, it wakes the agents that accept.
     listening: UnixStream,
+    /// When the watch was made.
+    began: Instant,
     ending: AtomicBool,
     /// The system's number of the first error of an accept; 0 for none.
     accept_error: AtomicI32,
 }
 
-impl<'a, R: Files + Eprint> SocketWatch<'a, R> {
+impl<'a, R: Files + Eprint + Clock> SocketWatch<'a, R> {
     /// The watch over the socket that was just bound to this path, whose accepts it gives a time
     /// limit. Where its file is gone already the run ends at once. An error comes where the system
-    /// doesn't answer for the file, or has no descriptor left.
+    /// doesn't answer for the file, has no descriptor left, or has no clock.
     pub fn new(
         rt: &'a R,
         listener: &UnixListener,
@@ -66,6 +68,7 @@ impl<'a, R: Files + Eprint> SocketWatch<'a, R> {
             options,
             file,
             listening,
+            began: Instant::now(rt)?,
             ending: AtomicBool::new(false),
             accept_error: AtomicI32::new(0),
         })
@@ -102,7 +105,7 @@ fn identity(file: &Metadata) -> (u64, u64) {
     (file.dev(), file.ino())
 }
 
-impl<R: Files + Eprint> Watch for SocketWatch<'_, R> {
+impl<R: Files + Eprint + Clock> Watch for SocketWatch<'_, R> {
     ghost may_end = { λ _. Unit {0} };
 
     fn looks_up(&self) -> bool {
@@ -111,6 +114,14 @@ impl<R: Files + Eprint> Watch for SocketWatch<'_, R> {
 
     fn idle_limit(&self) -> Option<u32> {
         self.options.idle_limit
+    }
+
+    fn elapsed(&self) -> Duration {
+        // A clock that fails cuts nobody off.
+        match Instant::now(self.rt) {
+            Ok(now) => now.saturating_duration_since(self.began),
+            Err(_) => Duration::ZERO,
+        }
     }
 
     fn look(&self) {
@@ -151,9 +162,10 @@ impl<R: Files + Eprint> Watch for SocketWatch<'_, R> {
         self.log("connection refused: the run is ending");
     }
 
-    fn client_cut_off(&self, seconds: u32) {
+    fn client_cut_off(&self, seconds: u32, in_frame: bool) {
         if self.options.logs {
-            let _ = eprintln!(self.rt; "client cut off: silent for {seconds} s");
+            let why = if in_frame { "no whole frame" } else { "silent" };
+            let _ = eprintln!(self.rt; "client cut off: {why} for {seconds} s");
         }
     }
 

@@ -2,6 +2,7 @@
 ghost use Rattle.std.specs.Prelude.{◌≡◌, true};
 
 use std::io;
+use std::time::Duration;
 
 /// How often what waits under a watch looks up, in seconds.
 pub(crate) const TICK: u64 = 1;
@@ -17,8 +18,11 @@ pub trait Watch {
     /// as its client takes.
     fn looks_up(&self) -> bool;
 
-    /// After how many seconds a client that says nothing is cut off, if ever.
+    /// How many seconds a client may be silent, and may take for one frame, if there is a limit.
     fn idle_limit(&self) -> Option<u32>;
+
+    /// How long the watch exists, by a clock that is never set back.
+    fn elapsed(&self) -> Duration;
 
     /// Finds out whether the run is to end.
     fn look(&self);
@@ -43,8 +47,9 @@ pub trait Watch {
     /// Hears that a connection was refused, since the run is ending.
     fn connection_refused(&self);
 
-    /// Hears that a client was cut off, since it said nothing for so many seconds.
-    fn client_cut_off(&self, seconds: u32);
+    /// Reports that a client was cut off after this number of seconds: of silence, or in the middle
+    /// of a frame.
+    fn client_cut_off(&self, seconds: u32, in_frame: bool);
 
     /// Hears that the outbox could not be written or flushed. It hears so once.
     fn outbox_failed(&self, error: &io::Error);

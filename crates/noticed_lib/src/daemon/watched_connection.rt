@@ -10,31 +10,32 @@ use std::io::{ErrorKind, Read, Write};
 use std::os::unix::net::UnixStream;
 use std::time::Duration;
 
-/// What a second of waiting uses up of a client's time.
-// Ten silent seconds or 30 pieces, or as much of both. No clock is read: a socket's time limit
-// counts the seconds. Without the pieces a client that gives a byte now and then would hold a stop
-// up for hours.
-const SECOND: u32 = 3;
-
-/// What a piece of a frame uses up of it, once the run is ending.
-const PIECE: u32 = 1;
-
 /// How many seconds a client has in the middle of a frame, at most, once the run is ending.
 const LAST_PATIENCE: u32 = 10;
 
-/// A connection to a client. Where its watch looks up, it does so each second that it waits: a
-/// client that says nothing, or reads nothing, for too long is cut off by an error. Once the run is
-/// ending, the input ends before the next frame, and a client in the middle of one has little time
-/// for it, however it comes.
+/// What a connection waits for. A client waits for each answer before its next frame.
+#[derive(Clone, Copy, PartialEq, Eq)]
+enum Stage {
+    /// The first byte of a frame.
+    BetweenFrames,
+    /// The rest of a frame.
+    InFrame,
+    /// That the client takes an answer.
+    Answering,
+}
+
+/// A connection to a client. If its watch looks up, it does so each second that it waits. A client
+/// that says nothing or reads nothing for too long, or that takes too long for one frame, is cut off
+/// by an error. Once the run is ending, the input ends before the next frame, and a client in the
+/// middle of one has little time left for it.
 #[derive(Drop)]
 pub(crate) struct WatchedConnection<'a, H> {
     stream: UnixStream,
     watch: &'a H,
-    /// What the client has used up of its time, in parts of which a second has [`SECOND`].
-    used: u32,
-    /// Whether the next byte that is read begins a frame: the one before was answered, since a
-    /// client waits for each answer.
-    between_frames: bool,
+    /// When the client's time began, by the watch: with the connection, an answer, the first byte of
+    /// a frame, a write, or when the run was found to be ending.
+    since: Duration,
+    stage: Stage,
     /// Whether the run was found to be ending.
     is_ending: bool,
 }
@@ -51,25 +52,38 @@ impl<'a, H: Watch> WatchedConnection<'a, H> {
         Ok(WatchedConnection {
             stream,
             watch,
-            used: 0,
-            between_frames: true,
+            since: watch.elapsed(),
+            stage: Stage::BetweenFrames,
             is_ending: false,
         })
     }
 
-    /// Finds out whether the run is ending. From the end on the client's time is counted anew.
+    /// Finds out whether the run is ending. The client's time begins anew then.
     fn look(&mut self) {
         self.watch.look();
         if !self.is_ending && self.watch.is_ending() {
             self.is_ending = true;
-            self.used = 0;
+            self.restart();
+        }
+    }
+
+    /// Begins to wait for something else, and so the client's time anew.
+    fn enter(&mut self, stage: Stage) {
+        self.stage = stage;
+        self.restart();
+    }
+
+    /// Begins the client's time anew, if it is limited.
+    fn restart(&mut self) {
+        if self.patience().is_some() {
+            self.since = self.watch.elapsed();
         }
     }
 
     /// Whether the input ends here: before a frame, in a run that is ending. A client that never
     /// pauses isn't waited for, so it looks before each frame.
     fn ends_here(&mut self) -> bool {
-        if !self.between_frames {
+        if self.stage != Stage::BetweenFrames {
             return false;
         }
         self.look();
@@ -85,16 +99,18 @@ impl<'a, H: Watch> WatchedConnection<'a, H> {
         limit
     }
 
-    /// Whether the client is cut off, now that it has used up so much more of its time.
-    fn uses_up(&mut self, amount: u32) -> bool {
-        self.used = self.used.saturating_add(amount);
-        match self.patience() {
-            Some(seconds) if self.used >= seconds.saturating_mul(SECOND) => {
-                self.watch.client_cut_off(seconds);
-                true
-            }
-            _ => false,
+    /// Whether the client is cut off: its time is over.
+    fn is_out_of_time(&self) -> bool {
+        let Some(seconds) = self.patience() else {
+            return false;
+        };
+        let taken = self.watch.elapsed().saturating_sub(self.since);
+        if taken < Duration::from_secs(u64::from(seconds)) {
+            return false;
         }
+        self.watch
+            .client_cut_off(seconds, self.stage == Stage::InFrame);
+        true
     }
 
     /// Whether a read or a write goes on after a call: it ended since its second was over, and the
@@ -106,20 +122,24 @@ impl<'a, H: Watch> WatchedConnection<'a, H> {
         };
         match error.kind() {
             // A call with a time limit is also interrupted when a stopped process goes on
-            // (signal(7)). As a fault it would cut off each waiting client.
-            ErrorKind::Interrupted => self.watch.looks_up(),
+            // (signal(7)). As a fault it would cut off each waiting client, and so would the time
+            // for which the process was stopped.
+            ErrorKind::Interrupted => {
+                self.restart();
+                self.watch.looks_up()
+            }
             ErrorKind::WouldBlock if self.watch.looks_up() => {
                 self.look();
-                (self.is_ending && self.between_frames) || !self.uses_up(SECOND)
+                (self.is_ending && self.stage == Stage::BetweenFrames) || !self.is_out_of_time()
             }
             _ => false,
         }
     }
 
-    /// Whether a client that gave a piece of a frame holds up a run that is ending.
-    fn is_held_up(&mut self) -> bool {
+    /// Whether a client that gave a piece of a frame has taken too long for that frame.
+    fn is_too_slow(&mut self) -> bool {
         self.look();
-        self.is_ending && self.uses_up(PIECE)
+        self.is_out_of_time()
     }
 }
 
@@ -135,16 +155,16 @@ impl<H: Watch> Read for WatchedConnection<'_, H> {
                 return Ok(0);
             }
             let read = self.stream.read(buffer);
-            if !self.goes_on(&read) {
-                self.between_frames = false;
-                if !self.is_ending {
-                    self.used = 0;
-                }
-                if is_short(&read, buffer.len()) && self.is_held_up() {
-                    return Err(io::Error::from(ErrorKind::TimedOut));
-                }
-                return read;
+            if self.goes_on(&read) {
+                continue;
             }
+            if self.stage == Stage::BetweenFrames {
+                self.enter(Stage::InFrame);
+            }
+            if is_short(&read, buffer.len()) && self.is_too_slow() {
+                return Err(io::Error::from(ErrorKind::TimedOut));
+            }
+            return read;
         }
         Err(io::Error::from(ErrorKind::TimedOut))
     }
@@ -152,11 +172,11 @@ impl<H: Watch> Read for WatchedConnection<'_, H> {
 
 impl<H: Watch> Write for WatchedConnection<'_, H> {
     fn write(&mut self, text: &[u8]) -> io::Result<usize> {
+        self.enter(Stage::Answering);
         for _ in 0..u64::MAX {
             let written = self.stream.write(text);
             if !self.goes_on(&written) {
-                self.used = 0;
-                self.between_frames = true;
+                self.enter(Stage::BetweenFrames);
                 return written;
             }
         }

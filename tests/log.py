@@ -1,6 +1,7 @@
 """Checks `serve --log`: a line on standard error for what happens, when it happens, before the notes; and
 `serve --end-on-fault`: a daemon whose outbox can't be written ends at once, in order. Without them neither."""
 import os
+import time
 
 from tests.support.daemon_and_clients import OUTBOX, Daemon, answer, append, asked, flush, is_ended, line
 from tests.support.running import HOST, Checks, example_module, run
@@ -82,6 +83,25 @@ def stops(checks: Checks):
         checks.true("the stop is told", b"\nending: the socket's file is gone\n" in told)
 
 
+def busy(checks: Checks):
+    """That all agents have been busy for long has one line, and a client that goes away begins the time anew."""
+    with Daemon(2, 10, options=LOG) as daemon:
+        with daemon.connect() as one, daemon.connect() as other:
+            checks.equal(
+                "two clients are served",
+                [asked(it, append(0)) for it in (one, other)],
+                [answer(1, 0, it) for it in (0, 1)],
+            )
+            time.sleep(28)
+            one.close()
+            with daemon.connect() as third:
+                checks.equal("a third one is served", asked(third, append(0)), answer(1, 0, 2))
+                time.sleep(34)
+        run(["stop", daemon.path])
+        line_of_log = b"\nall agents have been busy for 30 s: clients wait\n"
+        checks.equal("one line, once 30 seconds are over", daemon.end().notes.count(line_of_log), 1)
+
+
 def full_outbox(checks: Checks):
     """The fault has a line at once; the run goes on, as without a log."""
     with open("/dev/full", "wb") as full, Daemon(1, 1, options=LOG, stdout=full) as daemon:
@@ -121,7 +141,7 @@ def ends_on_a_fault(checks: Checks):
 
 def main():
     checks = Checks("log: a line for what happens, when it happens; an end at once where the outbox can't be written")
-    for check in (notices, each_notice, other_hosts, stops, full_outbox, ends_on_a_fault):
+    for check in (notices, each_notice, other_hosts, stops, busy, full_outbox, ends_on_a_fault):
         check(checks)
     checks.done()
 

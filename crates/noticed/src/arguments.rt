@@ -131,8 +131,9 @@ fn command_given(alloc: Global, name: &str, given: &ArgMatches<'_>) -> Result<Co
 /// What `serve` is given.
 fn serving_of(alloc: Global, given: &ArgMatches<'_>) -> Result<Serving, StartError> {
     let host = text_of(given, "HOST");
+    let agents = number_of(alloc, given, "AGENTS", MOST_AGENTS)?;
     Ok(Serving {
-        agents: number_of(alloc, given, "AGENTS", MOST_AGENTS)?,
+        agents,
         max_use: number_of(alloc, given, "MAX-USE", MOST_USE)?,
         site: site_of(alloc, host)?,
         socket: socket_of(alloc, given)?,
@@ -144,6 +145,7 @@ fn serving_of(alloc: Global, given: &ArgMatches<'_>) -> Result<Serving, StartErr
                 idle_limit: idle_limit(alloc, given)?,
                 ends_on_fault: given.get_flag("end-on-fault"),
                 logs: given.get_flag("log"),
+                agents,
             },
         },
     })

@@ -34,6 +34,10 @@ impl Watch for NoWatch {
 
     fn log(&self, _line: &str) {}
 
+    fn connected(&self) {}
+
+    fn disconnected(&self) {}
+
     fn start_refused(&self) {}
 
     fn accept_failed(&self, _error: &io::Error) {}

@@ -189,6 +189,7 @@ fn socket_ports<'a, H>(
             listener,
             watch,
             left: max_use,
+            is_busy: false,
         });
     }
     Ok(ports)

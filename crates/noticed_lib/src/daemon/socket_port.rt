@@ -22,6 +22,8 @@ pub(crate) struct SocketPort<'a, H> {
     pub(crate) watch: &'a H,
     /// How many more connections it gives.
     pub(crate) left: u32,
+    /// Whether the connection that it gave last has been reported to the watch.
+    pub(crate) is_busy: bool,
 }
 
 impl<'a, H: Watch> SocketPort<'a, H> {
@@ -101,10 +103,19 @@ impl<'a, H: Watch + Sync> Port for SocketPort<'a, H> {
         ensures uses { UsesOne (H.may_end self.old.watch.now) self.old.left self.new.left
             (given_of result) }
     {
+        if self.is_busy {
+            self.is_busy = false;
+            self.watch.disconnected();
+        }
         if self.left == 0 {
             return Next::Done;
         }
         self.left -= 1;
-        self.accept()
+        let next = self.accept();
+        if matches!(next, Next::Conn(_)) {
+            self.is_busy = true;
+            self.watch.connected();
+        }
+        next
     }
 }

@@ -9,9 +9,15 @@ use std::net::Shutdown;
 use std::os::fd::OwnedFd;
 use std::os::unix::fs::MetadataExt;
 use std::os::unix::net::{UnixListener, UnixStream};
-use std::sync::atomic::{AtomicBool, AtomicI32, Ordering};
+use std::sync::atomic::{AtomicBool, AtomicI32, AtomicU32, AtomicU64, Ordering};
 use std::time::{Clock, Duration, Instant};
 use std::{fs, io};
+
+/// After how many seconds in which all agents have connections that is logged.
+const LONG_BUSY: u64 = 30;
+
+/// The moment at which all agents got busy, if some aren't.
+const NEVER: u64 = u64::MAX;
 
 /// The device and the inode that no file has.
 const NO_FILE: (u64, u64) = (0, 0);
@@ -25,6 +31,8 @@ pub struct WatchOptions {
     pub ends_on_fault: bool,
     /// Whether a line is written on standard error for what happens, when it happens.
     pub logs: bool,
+    /// How many agents the run has.
+    pub agents: u32,
 }
 
 /// A watch over the socket's file: once it is gone, or another has its path, the run is to end.
@@ -40,6 +48,10 @@ pub struct SocketWatch<'a, R> {
     listening: UnixStream,
     /// When the watch was made.
     began: Instant,
+    /// How many agents have a connection.
+    busy: AtomicU32,
+    /// After how many seconds all of them got one; [`NEVER`] if some have none, or once it is logged.
+    all_busy_since: AtomicU64,
     ending: AtomicBool,
     /// The system's number of the first error of an accept; 0 for none.
     accept_error: AtomicI32,
@@ -69,6 +81,8 @@ impl<'a, R: Files + Eprint + Clock> SocketWatch<'a, R> {
             file,
             listening,
             began: Instant::now(rt)?,
+            busy: AtomicU32::new(0),
+            all_busy_since: AtomicU64::new(NEVER),
             ending: AtomicBool::new(false),
             accept_error: AtomicI32::new(0),
         })
@@ -87,6 +101,20 @@ impl<'a, R: Files + Eprint + Clock> SocketWatch<'a, R> {
         match fs::symlink_metadata(self.rt, self.path) {
             Ok(file) => identity(&file) == self.file,
             Err(error) => error.kind() != ErrorKind::NotFound,
+        }
+    }
+
+    /// Logs, once, that all agents have been busy for long.
+    fn look_at_agents(&self) {
+        let since = self.all_busy_since.load(Ordering::SeqCst);
+        if since == NEVER || self.elapsed().as_secs().saturating_sub(since) < LONG_BUSY {
+            return;
+        }
+        let logged = self
+            .all_busy_since
+            .compare_exchange(since, NEVER, Ordering::SeqCst, Ordering::SeqCst);
+        if logged.is_ok() {
+            self.log("all agents have been busy for 30 s: clients wait");
         }
     }
 
@@ -128,6 +156,7 @@ impl<R: Files + Eprint + Clock> Watch for SocketWatch<'_, R> {
         if !self.is_ending() && !self.has_its_file() {
             self.end("ending: the socket's file is gone");
         }
+        self.look_at_agents();
     }
 
     fn is_ending(&self) -> bool {
@@ -142,6 +171,19 @@ impl<R: Files + Eprint + Clock> Watch for SocketWatch<'_, R> {
         if self.options.logs {
             let _ = eprintln!(self.rt; "{line}");
         }
+    }
+
+    fn connected(&self) {
+        let before = self.busy.fetch_add(1, Ordering::SeqCst);
+        if before.saturating_add(1) == self.options.agents {
+            let now = self.elapsed().as_secs();
+            self.all_busy_since.store(now, Ordering::SeqCst);
+        }
+    }
+
+    fn disconnected(&self) {
+        self.busy.fetch_sub(1, Ordering::SeqCst);
+        self.all_busy_since.store(NEVER, Ordering::SeqCst);
     }
 
     fn start_refused(&self) {

@@ -38,19 +38,25 @@ pub trait Watch {
     /// Writes a line, if lines are wanted.
     fn log(&self, line: &str);
 
-    /// Hears that the thread of an agent could not be started.
+    /// Reports that an agent has a connection.
+    fn connected(&self);
+
+    /// Reports that the connection of an agent has ended.
+    fn disconnected(&self);
+
+    /// Reports that the thread of an agent could not be started.
     fn start_refused(&self);
 
-    /// Hears that a connection could not be accepted.
+    /// Reports that a connection could not be accepted.
     fn accept_failed(&self, error: &io::Error);
 
-    /// Hears that a connection was refused, since the run is ending.
+    /// Reports that a connection was refused, since the run is ending.
     fn connection_refused(&self);
 
     /// Reports that a client was cut off after this number of seconds: of silence, or in the middle
     /// of a frame.
     fn client_cut_off(&self, seconds: u32, in_frame: bool);
 
-    /// Hears that the outbox could not be written or flushed. It hears so once.
+    /// Reports, once, that the outbox could not be written or flushed.
     fn outbox_failed(&self, error: &io::Error);
 }

@@ -9,8 +9,8 @@
 # After a run that ended with status 0 the next begins at once. After another this script ends with the run's status,
 # and the supervisor starts it anew after some seconds.
 #
-# On SIGTERM, SIGINT or SIGHUP it has the run end in order, by removing the socket, and waits for that: up to half a
-# minute, and longer where the outbox can't be written on. It kills nothing. Its status is then that of the run: 0 where
+# On SIGTERM, SIGINT or SIGHUP it has the run end in order, by removing the socket, and waits for that: some ten
+# seconds, and longer if the outbox can't be written on. It kills nothing. Its status is then that of the run: 0 where
 # all went well, or where no run was there; 1 where the outbox failed, say, whether before the signal or after it.
 # The daemon itself ignores these signals. So one that goes to all processes (Ctrl-C, the end of a login, a shutdown
 # without systemd, `systemctl kill`) ends the run in order too, and doesn't lose the logs that are open. To `kill` the

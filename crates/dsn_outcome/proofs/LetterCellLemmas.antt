@@ -14,26 +14,26 @@ unfolding out-LetterCell denote.Hole.Carrier.out
 letters_from-cell (LetterCell' terms sealed None') = refl
 letters_from-cell (LetterCell' terms sealed (Some' place next)) = refl
 
--- what is linked after the first cell is legal where all is
+-- the letters after the first cell are legal if all letters are
 pub All-next : (first next : Option (Box LetterCell Global)) (cell : Box LetterCell Global) → Some cell ≡ first → next ≡ (out-LetterCell cell.value).next → All IsLetter (letters_linked first) → All IsLetter (letters_linked next)
 All-next first next cell is link all =
     let linked : letters_linked first ≡ letter_in cell.value ∷ letters_linked (out-LetterCell cell.value).next = ap letters_linked (sym is) ∙ letters_from-cell cell.value in
     rw link (All-tail IsLetter (letter_in cell.value) (letters_linked (out-LetterCell cell.value).next) (rw linked at all))
 
--- the first cell's letter is legal where all are
+-- the first cell's letter is legal if all letters are
 pub All-first : (first : Option (Box LetterCell Global)) (cell : Box LetterCell Global) → Some cell ≡ first → All IsLetter (letters_linked first) → IsLetter (letter_in cell.value)
 All-first first cell is all =
     let linked : letters_linked first ≡ letter_in cell.value ∷ letters_linked (out-LetterCell cell.value).next = ap letters_linked (sym is) ∙ letters_from-cell cell.value in
     (rw linked at all) 0 (letter_in cell.value) (omega arith)
 
--- another link leaves a cell's letter as it is
+-- another link doesn't change a cell's letter
 pub letter_in-relinked : (cell same : LetterCell) (next : Option (Box LetterCell Global)) → cell ≡ same
     → letter_in same ≡ letter_in (roll-LetterCell (record { terms = (out-LetterCell cell).terms; sealed = (out-LetterCell cell).sealed; next = next }))
 unfolding out-LetterCell roll-LetterCell denote.Hole.Carrier.out denote.Hole.Carrier.roll
 letter_in-relinked (LetterCell' terms sealed link) same None is = ap letter_in (sym is)
 letter_in-relinked (LetterCell' terms sealed link) same (Some next) is = ap letter_in (sym is)
 
--- a cell without a link is linked to nothing
+-- a cell without a link has nothing linked after it
 pub unlinked : (cell : LetterCell) (next : Option (Box LetterCell Global)) → next ≡ None
     → IsUnlinked (roll-LetterCell (record { terms = (out-LetterCell cell).terms; sealed = (out-LetterCell cell).sealed; next = next }))
 unfolding out-LetterCell roll-LetterCell denote.Hole.Carrier.out denote.Hole.Carrier.roll
@@ -46,12 +46,12 @@ suc-not-zero n = grind arith
 length-linked : (cell : LetterCell) → false ≡ (length (letters_from cell) == 0)
 length-linked (LetterCell' terms sealed next) = suc-not-zero (length (letters_along next))
 
--- there is no letter exactly where there is no link
+-- there are no letters if and only if there is no link
 pub is_none-letters_linked : (link : Option (Box LetterCell Global)) → is_none link ≡ (length (letters_linked link) == 0)
 is_none-letters_linked None = refl
 is_none-letters_linked (Some first) = length-linked first.value
 
--- an answer that says the contrary of `is_some` says `is_none`
+-- the negation of `is_some` is `is_none`
 pub is_none-answer : {A : Type 0} (option : Option A) (answer : Bool) → is_some option ≡ not answer → answer ≡ is_none option
 is_none-answer None true e = refl
 is_none-answer None false e = cc

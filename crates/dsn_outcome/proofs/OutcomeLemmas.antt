@@ -1,4 +1,4 @@
--- Outcomes: what it means that their fields have no fault.
+-- Outcomes: what follows from fields without a fault.
 use Rattle.std.proofs.Common.{◌≡◌, ℕ, ◌+◌, ◌-◌, ◌≤◌, Bool, true, false, List, [], ◌∷◌, ◌++◌, length, take, drop, refl, ap, ◌∙◌, arith}
 use Rattle.std.specs.Prelude.{Option, Some, None, IsSome, is_some, IsTrue, if◌then◌else◌}
 use Rattle.std.specs.List.{slice_range}
@@ -27,7 +27,7 @@ next-passes : {F : Type 0} (passes : Bool) (fault : F) (later : Option F) → (i
 next-passes true fault later none = (refl, none)
 next-passes false fault later none = cc
 
--- where no check is the first that fails, all pass
+-- if no check is the first that fails, all pass
 pub AllPass-first_failed : {F : Type 0} (checks : List (Bool × F)) → first_failed checks ≡ None → AllPass checks
 AllPass-first_failed [] none = tt
 AllPass-first_failed (check ∷ rest) none =
@@ -82,31 +82,31 @@ passes-none service fields none =
       extensions = extensions.0;
     }
 
--- a text of a kind is no longer than its kind allows
+-- a text of a kind is no longer than the limit of its kind
 length-is_text : (allowed : ℕ → Bool) (least most : ℕ) (text : List ℕ) → IsTrue (is_text allowed least most text) → length text ≤ most
 length-is_text allowed least most text is = grind (arith, common_steps)
 
--- nor is one that may be missing
+-- a text that may be missing is no longer than the limit of its kind
 length-unless_empty : (allowed : ℕ → Bool) (least most : ℕ) (text : List ℕ) → IsTrue (is_none_or (is_text allowed least most) (unless_empty text)) → length text ≤ most
 length-unless_empty allowed least most [] is = omega arith
 length-unless_empty allowed least most (byte ∷ rest) is = length-is_text allowed least most (byte ∷ rest) is
 
--- a type that fits its text is the name of one where it is said, and is no longer than that
+-- a type that fits its text is empty or a valid type name, and is within the limit of type names
 name-is_type_of : (text name : List ℕ) → IsTrue (is_type_of text name) → IsTrue (is_none_or is_type_name (unless_empty name))
 name-is_type_of text [] is = refl
 name-is_type_of text (byte ∷ rest) is = (and_parts (is_type_name (byte ∷ rest)) (is_some (unless_empty text)) is).0
 
--- there is a text where its type is said
+-- if a type that fits its text is not empty, neither is the text
 text-is_type_of : (text name : List ℕ) → IsTrue (is_type_of text name) → IsSome (unless_empty name) → IsSome (unless_empty text)
 text-is_type_of text [] is said = absurd (false≢true said)
 text-is_type_of text (byte ∷ rest) is said = (and_parts (is_type_name (byte ∷ rest)) (is_some (unless_empty text)) is).1
 
--- cleaning a text leaves it there
+-- a cleaned text is empty only if the text is
 unless_empty-clean_text : (text : List ℕ) → IsSome (unless_empty text) → IsSome (unless_empty (clean_text text))
 unless_empty-clean_text [] is = is
 unless_empty-clean_text (byte ∷ rest) is = refl
 
--- how long the texts of fields without a fault are
+-- the lengths of the texts of valid fields
 pub record AreShort (fields : Fields) : Type 0 where
   pub recipient : length fields.recipient ≤ longest_address
   pub original : length fields.original ≤ longest_address
@@ -133,12 +133,12 @@ short_none service fields none =
       reason = passes.reason;
     }
 
--- a cleaned text that is short enough, if there is one
+-- a cleaned text that is short enough is a valid remark or missing
 is_remark-unless_empty : (text : List ℕ) → length text ≤ longest_clean → IsTrue (is_none_or is_remark (unless_empty (clean_text text)))
 is_remark-unless_empty [] short = refl
 is_remark-unless_empty (byte ∷ rest) short = is_remark-clean_text (byte ∷ rest) (omega arith) short
 
--- the outcome of fields without a fault, whose moments have dates, is legal
+-- the outcome of valid fields with dated moments is legal
 pub legal-IsOutcomeOf : (service : Service) (fields : Fields) (outcome : Outcome) → Passes service fields → AreDated fields → IsOutcomeOf service fields outcome → IsLegalOutcome outcome
 legal-IsOutcomeOf service fields outcome passes dated of = record {
   recipient_legal = rw of.recipient_is passes.recipient;
@@ -160,7 +160,7 @@ legal-IsOutcomeOf service fields outcome passes dated of = record {
   extensions_legal = rw of.extensions_is passes.extensions;
 }
 
--- a text stands between what is before it and what is after it
+-- a text lies between the bytes before it and the bytes after it
 pub text-between : (before text after : List ℕ) → slice_range (before ++ (text ++ after)) (length before) (length before + length text) ≡ text
 text-between before text after =
     let size : length before + length text - length before ≡ length text = omega arith in

@@ -1,4 +1,4 @@
--- Replies: only a Forget of a key lets it go.
+-- Replies: only a Forget of a key forgets it.
 use Rattle.std.proofs.Common.{◌≡◌, Bool, true, false, not, ◌&&◌, ◌==◌, cond, List, length, refl, ap, sym, ◌∙◌}
 use Rattle.std.specs.Prelude.{◌≢◌, Option, Some, None, is_none}
 use Rattle.std.specs.Option.{option_map_or}
@@ -17,7 +17,7 @@ either-keeps : (b : Bool) (first second : Reply) → is_forgotten first ≡ fals
 either-keeps true first second f s = f
 either-keeps false first second f s = s
 
--- no reply about an open log lets its key go
+-- no reply about an open log forgets its key
 pub when_open-keeps : (limits : Limits) (log : List Outcome) (body : Body) → is_forgotten (reply_when_open limits log body) ≡ false
 unfolding reply_when_open is_forgotten
 when_open-keeps limits log (Append id outcome) = either-keeps (length log == limits.entries) LogFull (Logged (length log)) refl refl
@@ -30,7 +30,7 @@ when_open-keeps limits log (Discard key) = refl
 when_open-keeps limits log (Forget key) = refl
 when_open-keeps limits log Bye = refl
 
--- nor does a reply to what isn't a Forget
+-- a reply to a request that isn't a Forget forgets no key
 pub about-keeps : (limits : Limits) (history : List Exchange) (body : Body) (key : Key) → is_forget body ≡ false → is_forgotten (reply_about limits history body key) ≡ false
 unfolding reply_about is_forgotten
 about-keeps limits history body key uses =
@@ -58,7 +58,7 @@ forgets-body limits history request key (Discard own) is other =
 forgets-body limits history request key (Forget own) is other = forgets-other limits history request key own (same_key key own) is other refl
 forgets-body limits history request key Bye is other = refl
 
--- a request that isn't a Forget of the key doesn't let it go
+-- a request that isn't a Forget of the key doesn't forget it
 pub forgets-none : (limits : Limits) (history : List Exchange) (request : Request) (key : Key) → request.body ≢ Forget key → forgets key (exchange_of limits history request) ≡ false
 unfolding exchange_of
 forgets-none limits history request key other = forgets-body limits history request key request.body refl other

@@ -1,5 +1,5 @@
--- Requests and letters may go to another thread. A search for all of it at once exceeds its limits, so it goes one small
--- step after another, each from what the one before found.
+-- Requests and letters may be sent to another thread. One proof search for all of it exceeds the search limits, so each
+-- small step uses the results of the steps before.
 use denote.Param.Send.{IsSend, sendable}
 use Rattle.std.proofs.Crossing.{crosses}
 use Rattle.std.proofs.option.Option.TheSendSync as option

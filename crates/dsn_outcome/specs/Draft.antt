@@ -1,4 +1,4 @@
--- Drafts: what a flush says of the notice that it asks for, before the outcomes are added.
+-- Drafts: the part of a notice that its flush carries, before the outcomes are added.
 use Rattle.std.specs.Prelude.{ℕ, ◌-◌, ◌^◌, nat_le, nat_lt, Bool, false, not, ◌==◌, List, [], ◌∷◌, length, Option, Some, None, is_some}
 use Rattle.dsn_outcome.specs.Outcome.{first_failed}
 use Rattle.dsn_text.specs.Extension.{is_extension_text}
@@ -9,10 +9,10 @@ use Rattle.dsn_outcome.specs.declared.draft_fault.DraftFault.TheVariants as faul
 use Rattle.dsn_outcome.specs.declared.returned.Returned.{Returned}
 use Rattle.dsn_outcome.specs.declared.wording.Wording.{Wording}
 
--- moment and arrival in whole seconds since 1970; no return path means the null path (RFC 5321
--- section 4.5.5); the header is the message's header as it came, or the message, which returned says;
--- extensions are the message's extension fields (RFC 3464 section 2.4), the empty text for none; expected
--- is how many outcomes the log is to have, none for any; the wording is how the notice's words are chosen
+-- a draft; moment and arrival are in whole seconds since 1970; no return path is the null path (RFC
+-- 5321 section 4.5.5); returned says whether header is the message's header or the whole message;
+-- extensions are the message's extension fields (RFC 3464 section 2.4), empty for none; expected is
+-- the expected number of outcomes, None for any; wording is how the notice's words are chosen
 pub record Draft : Type 0 where
   pub moment : ℕ
   pub arrival : ℕ
@@ -24,17 +24,17 @@ pub record Draft : Type 0 where
   pub returned : Returned
   pub wording : Wording
 
--- a number of outcomes that can be expected: the largest number of 32 bits stands for none
+-- whether a number of outcomes can be expected; the largest number of 32 bits encodes None
 abbrev pub is_count : ℕ → Bool
 is_count count = nat_lt count (2 ^ 32 - 1)
 
--- whether so many outcomes aren't the number that is expected, where one is
+-- whether a count differs from the expected number; if none is expected, it doesn't
 abbrev pub differs : Option ℕ → ℕ → Bool
 differs None count = false
 differs (Some expected) count = not (expected == count)
 
--- the fields of a draft that are judged, as they are passed: what is returned and the wording are
--- none if their bytes mean nothing
+-- the fields of a draft that are checked, as they are passed; returned and wording are None if
+-- their bytes are unknown
 pub record DraftFields : Type 0 where
   pub return_path : List ℕ
   pub envelope_id : List ℕ
@@ -43,7 +43,7 @@ pub record DraftFields : Type 0 where
   pub wording : Option Wording
   pub extensions : List ℕ
 
--- what is asked of a draft's fields, in the order in which a refusal names it
+-- the checks of a draft's fields and their faults, in the order in which they are made
 abbrev pub draft_checks : DraftFields → List (Bool × DraftFault)
 draft_checks fields =
     (nat_le (length fields.header) longest_header, faults.Header)

@@ -1,8 +1,8 @@
--- Parts: the fields of a draft as the program's references hand them in.
+-- Parts: the fields of a draft as the program passes them by reference.
 use Rattle.dsn_outcome.specs.Draft.{DraftFields}
 use Rattle.dsn_outcome.specs.declared.draft_parts.DraftParts.{DraftParts}
 
--- the texts that the references point to, and what they say besides
+-- the texts that the references point to, and the other fields
 abbrev pub draft_fields_of : DraftParts → DraftFields
 draft_fields_of parts = record {
   return_path = parts.return_path.now;

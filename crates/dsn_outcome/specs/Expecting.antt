@@ -1,4 +1,4 @@
--- Flushes that say how many outcomes they expect: of a log with another number they change nothing
+-- Flushes that say how many outcomes they expect: one that expects another number changes nothing
 -- (this project's profile).
 use Rattle.std.specs.Prelude.{◌≡◌, ℕ, true, false, List, [], ◌∷◌, ◌++◌, length, All}
 use Rattle.dsn_outcome.specs.Draft.{Draft, differs}
@@ -9,15 +9,15 @@ use Rattle.dsn_outcome.specs.Request.{Request, Flush}
 use Rattle.dsn_outcome.specs.declared.answer.Reply.TheVariants.{Differs}
 use Rattle.dsn_text.specs.declared.key.Key.{Key}
 
--- a flush of the key that expects another number of outcomes than its log has is answered with the
--- number that it has
+-- a flush of the key is answered with the number of outcomes in its log if it expects another
+-- number
 abbrev pub AnswersDiffers : Limits → Key → List Exchange → Type 0
 AnswersDiffers limits key history =
     (request : Request) (draft : Draft) → request.body ≡ Flush key draft →
     differs draft.expected (length (log_of key history)) ≡ true →
     reply_to limits history request ≡ Differs (length (log_of key history))
 
--- the next request, if it is answered so, changes nothing
+-- the next request changes nothing if it is answered Differs
 abbrev pub DiffersChangesNothing : Limits → List Exchange → Type 0
 DiffersChangesNothing limits history =
     (request : Request) (count : ℕ) → reply_to limits history request ≡ Differs count →

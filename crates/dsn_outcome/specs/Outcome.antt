@@ -1,4 +1,5 @@
--- Outcomes: what became of one recipient, and which of them are legal (RFC 3464 section 2.3).
+-- Outcomes: the result of one recipient's delivery, and which outcomes are legal (RFC 3464 section
+-- 2.3).
 use Rattle.std.specs.Prelude.{◌≡◌, ℕ, Bool, true, false, ◌&&◌, List, [], ◌∷◌, length, Option, Some, None, is_some, IsSome, IsTrue, if◌then◌else◌, nat_le}
 use Rattle.std.specs.Option.{option_map_or}
 use Rattle.dsn_text.specs.Action.{action_of_byte, fits_class, fits_retry}
@@ -13,9 +14,9 @@ use Rattle.dsn_outcome.specs.declared.outcome_fault.OutcomeFault.{OutcomeFault}
 use Rattle.dsn_outcome.specs.declared.outcome_fault.OutcomeFault.TheVariants.{BadRecipient, BadOriginal, BadAction, BadStatus, StatusClass, BadMta, LongDiagnostic, LongReason, RetryUntil, RecipientType, OriginalType, DiagnosticType, Extension}
 use Rattle.dsn_text.specs.declared.service.Service.{Service}
 
--- what became of one recipient; the texts are clean, the two moments in whole seconds since 1970;
--- where no type of a text is said, it is the usual one; the extension fields are lines, each ended
--- by LF, none where the text is empty
+-- the outcome of one recipient; diagnostic and reason are clean; the two moments are in whole
+-- seconds since 1970; a text whose type is None has the usual type; the extension fields are lines
+-- that end with LF, empty for none
 pub record Outcome : Type 0 where
   pub service : Service
   pub recipient : List ℕ
@@ -32,7 +33,7 @@ pub record Outcome : Type 0 where
   pub retry_until : Option ℕ
   pub extensions : List ℕ
 
--- the fields of an outcome as an agent hands them in; an empty text means that there is none
+-- the fields of an outcome as an agent passes them; an empty text means a missing one
 pub record Fields : Type 0 where
   pub recipient : List ℕ
   pub recipient_type : List ℕ
@@ -53,14 +54,14 @@ abbrev pub first_failed : {F : Type 0} → List (Bool × F) → Option F
 first_failed [] = None
 first_failed (check ∷ rest) = if check.0 then first_failed rest else Some check.1
 
--- the type of a text that may be missing (RFC 3464 sections 2.3.1 and 2.3.6): none is said, or it
--- is the name of a type and there is a text
+-- the type of a text that may be missing (RFC 3464 sections 2.3.1 and 2.3.6): it is empty, or it is
+-- a valid type name and the text isn't empty
 abbrev pub is_type_of : List ℕ → List ℕ → Bool
 is_type_of text [] = true
 is_type_of text (byte ∷ rest) = is_type_name (byte ∷ rest) && is_some (unless_empty text)
 
--- what is asked of the types of its texts, of the final recipient, which is there, of the original
--- one, and of the diagnostic; and then of its extension fields
+-- the checks of the types of the final recipient, the original recipient and the diagnostic, and of
+-- the extension fields
 abbrev pub later_checks : (original diagnostic recipient_type original_type diagnostic_type extensions : List ℕ)
     → List (Bool × OutcomeFault)
 later_checks original diagnostic recipient_type original_type diagnostic_type extensions =
@@ -70,7 +71,7 @@ later_checks original diagnostic recipient_type original_type diagnostic_type ex
     ∷ (is_extension_text extensions, Extension)
     ∷ []
 
--- what is asked of an outcome's fields, in the order in which a refusal names it
+-- the checks of an outcome's fields and their faults, in the order in which they are made
 abbrev pub outcome_checks : Service → Fields → List (Bool × OutcomeFault)
 outcome_checks service fields =
     (is_address fields.recipient, BadRecipient)
@@ -97,7 +98,7 @@ outcome_checks service fields =
 unfoldable pub first_outcome_fault : Service → Fields → Option OutcomeFault
 first_outcome_fault service fields = first_failed (outcome_checks service fields)
 
--- the outcome that legal fields stand for: the same values, diagnostic and reason cleaned
+-- the outcome has the values of valid fields, with diagnostic and reason cleaned
 pub record IsOutcomeOf (service : Service) (fields : Fields) (outcome : Outcome) : Type 0 where
   pub service_is : outcome.service ≡ service
   pub recipient_is : outcome.recipient ≡ fields.recipient
@@ -114,11 +115,10 @@ pub record IsOutcomeOf (service : Service) (fields : Fields) (outcome : Outcome)
   pub retry_until_is : outcome.retry_until ≡ fields.retry_until
   pub extensions_is : outcome.extensions ≡ fields.extensions
 
--- a legal outcome (RFC 3464 sections 2.3.1 to 2.3.9): the service takes the action, the status is a
--- code whose class fits the action, and each text is within its bounds; a diagnostic or a reason
--- that is there says something; the two moments have dates, and only a delayed recipient's delivery
--- is tried again; each type that is said is the name of one, and is that of a text; the extension
--- fields are such (RFC 3464 section 2.4)
+-- a legal outcome (RFC 3464 sections 2.3.1 to 2.3.9 and 2.4): the service takes the action; the
+-- status is a code whose class fits the action; each text is within its bounds, and a diagnostic or
+-- reason is not empty; the two moments have dates; only a delayed recipient is retried; each type
+-- is a valid type name and has its text; the extension fields are valid
 pub record IsLegalOutcome (outcome : Outcome) : Type 0 where
   pub recipient_legal : IsTrue (is_address outcome.recipient)
   pub original_legal : IsTrue (is_none_or is_address outcome.original)

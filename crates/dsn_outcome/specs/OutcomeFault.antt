@@ -1,4 +1,4 @@
--- The numbers of the refusals of an outcome (this project's profile).
+-- The numbers of the faults of an outcome (this project's profile).
 use Rattle.std.specs.Prelude.{ℕ}
 use Rattle.dsn_text.specs.FaultCode.{bad_action_code, bad_mta_code, bad_original_code, bad_recipient_code, bad_status_code, long_diagnostic_code, long_reason_code, no_memory_code, recipient_type_code, original_type_code, diagnostic_type_code, extension_code, retry_until_code, status_class_code}
 use Rattle.dsn_outcome.specs.declared.outcome_fault.OutcomeFault.{OutcomeFault}

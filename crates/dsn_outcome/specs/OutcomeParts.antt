@@ -1,8 +1,8 @@
--- Parts: the fields of an outcome as the program's references hand them in.
+-- Parts: the fields of an outcome as the program passes them by reference.
 use Rattle.dsn_outcome.specs.Outcome.{Fields}
 use Rattle.dsn_outcome.specs.declared.outcome_parts.Parts.{Parts}
 
--- the texts that the references point to, and the two moments
+-- the texts that the references point to, and the other fields
 abbrev pub fields_of : Parts → Fields
 fields_of parts = record {
   recipient = parts.recipient.now;

@@ -1,45 +1,48 @@
-//! What the daemon answers a delivery agent.
+//! The daemon's answers to a delivery agent.
 //! Implements docs/FORMATS.md, "What a request does" and "Answers".
 ghost use Rattle.std.specs.Prelude.{◌≡◌};
 ghost use Rattle.dsn_outcome.specs.History.{replied_in};
 
 use crate::lane_item::Carried;
 
-/// What became of a request. A number is how many outcomes the log held before it.
+/// The result of a request. A number is the count of outcomes that the log held before the request.
 #[derive(Clone, Copy, Debug, PartialEq, Eq)]
 pub enum Reply {
-    /// The outcome is in its log, after this number of others.
+    /// The outcome is logged; the number is how many outcomes precede it in its log.
     Logged(u32),
-    /// The log was flushed or discarded before, and not forgotten since; nothing changed.
+    /// The log is closed: it was flushed or discarded, and its key has not been forgotten since.
+    /// Nothing changed.
     Closed,
-    /// No log is left for a new key; nothing changed.
+    /// The table of logs has no room for a new key; nothing changed.
     TableFull,
-    /// The log has as many outcomes as a log can; nothing changed.
+    /// The log holds as many outcomes as a log can; nothing changed.
     LogFull,
-    /// The log was empty, so there is no notice; it is closed now.
+    /// The log was empty, so no notice is made; the log is closed now.
     Nothing,
-    /// The return path is null, so there is no notice of these outcomes; the log is closed now.
+    /// The return path is null, so no notice is made of these outcomes; the log is closed now.
     NoReturn(u32),
     /// A notice of these outcomes is made; the log is closed now.
     Sealed(u32),
     /// These outcomes were dropped; the log is closed now.
     Discarded(u32),
-    /// The agent said goodbye.
+    /// The agent left with `Bye`.
     Gone,
-    /// The log was closed; its key is held no more.
+    /// The log was closed; its key is released.
     Forgotten,
-    /// The log is open, or there is no log: there is no closed one to forget; nothing changed.
+    /// There is no closed log of this key to forget: the log is open, or the key is not held.
+    /// Nothing changed.
     NotClosed,
-    /// The log has another number of outcomes than the flush expects; nothing changed.
+    /// The number of outcomes in the log differs from the expected one; nothing changed.
     Differs(u32),
 }
 
-/// A reply, and the notice that it is about.
+/// A reply, and the serial of the notice that it reports.
 #[derive(Clone, Copy, Debug, PartialEq, Eq)]
 pub struct Replied {
-    /// What became of the request.
+    /// The result of the request.
     pub reply: Reply,
-    /// The serial of the letter that the request sealed, if it did: [`Letter::serial`](crate::Letter::serial).
+    /// The serial of the letter that the request sealed, if it sealed one:
+    /// [`Letter::serial`](crate::Letter::serial).
     pub serial: Option<u64>,
 }
 
@@ -50,15 +53,15 @@ pub struct Answer {
     pub agent: u32,
     /// How many requests of that agent were accepted before this one.
     pub number: u32,
-    /// What became of the request.
+    /// The result of the request.
     pub reply: Reply,
-    /// The serial of the letter that the request sealed, if it did; it is in the notice's
+    /// The serial of the letter that the request sealed, if it sealed one. It is in the notice's
     /// Message-ID.
     pub serial: Option<u64>,
 }
 
 impl Answer {
-    /// The reply, with the serial of the letter.
+    /// The reply and the serial, without agent and number.
     pub fn replied(&self) -> Replied
         ensures { result ≡ replied_in self.now }
     {

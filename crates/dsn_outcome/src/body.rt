@@ -1,4 +1,4 @@
-//! What a delivery agent asks.
+//! The body of a delivery agent's request.
 //! Implements docs/FORMATS.md, "Requests".
 use crate::draft::Draft;
 use crate::letter_cell::DraftTerms;
@@ -6,31 +6,31 @@ use crate::outcome::Outcome;
 use crate::outcome_node::Node;
 use dsn_text::{Key, QueueId};
 
-/// What a delivery agent asks.
+/// The body of a request: what a delivery agent asks the daemon to do.
 #[derive(Drop)]
 pub enum Body {
-    /// Log this outcome of the message. The service is the outcome's.
+    /// Log this outcome of the message with this queue id. The outcome names the service.
     Append(QueueId, Box<Node>),
     /// Seal this log and make a notice of it.
     Flush(Key, Draft),
     /// Drop this log.
     Discard(Key),
-    /// Let this key go, if its log is closed.
+    /// Release this key if its log is closed.
     Forget(Key),
     /// The agent leaves.
     Bye,
 }
 
-/// What a delivery agent asks about a key, made of parts that somebody else owns.
+/// The body of a request about a key, with borrowed parts.
 #[derive(Clone, Copy)]
 pub enum BodyRef<'a> {
-    /// Log this outcome of the message. The service is the outcome's.
+    /// Log this outcome of the message with this queue id. The outcome names the service.
     Append(&'a QueueId, &'a Outcome),
     /// Seal this log and make a notice of it.
     Flush(&'a Key, &'a DraftTerms),
     /// Drop this log.
     Discard(&'a Key),
-    /// Let this key go, if its log is closed.
+    /// Release this key if its log is closed.
     Forget(&'a Key),
 }
 
@@ -39,7 +39,7 @@ impl Body {
     ghost use Rattle.dsn_outcome.specs.Request.{key_of, Bye};
     ghost use Rattle.dsn_outcome.specs.Body.{body_of, body_lent};
 
-    /// The key of the log that it is about; a goodbye has none.
+    /// Returns the key of the log that the request is about, or `None` for `Bye`.
     pub fn key(&self) -> Option<Key>
         ensures { result ≡ key_of (body_of self.now) }
     {
@@ -53,14 +53,14 @@ impl Body {
         }
     }
 
-    /// Whether the agent leaves.
+    /// Whether the request is `Bye`.
     pub fn is_bye(&self) -> bool
         ensures { IsTrue result ↔ (body_of self.now ≡ Bye) }
     {
         matches!(self, Body::Bye)
     }
 
-    /// The same with its parts lent; a goodbye has none.
+    /// Returns the same body with borrowed parts, or `None` for `Bye`.
     pub fn lent(&self) -> Option<BodyRef<'_>>
         ensures same { IfSome result (λ lent. body_lent lent ≡ body_of self.now) }
         ensures none { IfNone result (body_of self.now ≡ Bye) }

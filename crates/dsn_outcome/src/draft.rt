@@ -1,5 +1,5 @@
-//! What a flush says of its notice. Implements docs/FORMATS.md, "Flush: close the log and make its
-//! notice".
+//! The draft of a notice, which a flush carries. Implements docs/FORMATS.md, "Flush: close the log
+//! and make its notice".
 ghost use Rattle.std.specs.Prelude.{◌≡◌, ◌≤◌, ◌↔◌, [], length, IsTrue, IsSome, IfOk, IfErr, OnOk, Some, None, unwrap_or};
 ghost use Rattle.dsn_outcome.specs.Draft.{first_draft_fault, is_count};
 ghost use Rattle.dsn_outcome.specs.DraftParts.{draft_fields_of};
@@ -22,7 +22,7 @@ use dsn_text::{
 use std::alloc::Global;
 use std::marker::Model;
 
-/// What a flush says of its notice: to whom it goes, and what it quotes of the message.
+/// The draft of a notice, which a flush carries: its recipient, and what it quotes of the message.
 #[derive(Drop)]
 pub struct Draft {
     pub(crate) cell: Box<LetterCell>,
@@ -40,9 +40,11 @@ impl Model for Draft {
 }
 
 impl Draft {
-    /// A draft without extension fields. `None` as return path is the null path of RFC 5321 section
-    /// 4.5.5, to which no notice is sent. Returns `NoMemory` only if the memory for it was refused.
-    /// It is for embedders and tests: a flush's fields are read by [`Draft::read`].
+    /// A draft without extension fields, for embedders and tests; the daemon uses [`Draft::read`].
+    /// `None` as return path is the null path, to which no notice is sent (RFC 5321 section 4.5.5).
+    ///
+    /// Requires that the expected count, if there is one, is below 2^32 - 1. Returns `NoMemory`
+    /// only if memory for the draft was refused.
     pub fn new(
         alloc: Global,
         moment: Stamp,
@@ -77,7 +79,7 @@ impl Draft {
         Draft::of(alloc, terms)
     }
 
-    /// The draft of these terms, in a cell of its own, which nothing is linked to.
+    /// A draft of these terms, in an unlinked cell of its own.
     fn of(alloc: Global, terms: DraftTerms) -> Result<Draft, NoMemory>
         ensures { IfOk result (λ draft. draft ≡ terms) }
     {
@@ -92,8 +94,9 @@ impl Draft {
         }
     }
 
-    /// The draft of these fields, which are tested in the order of `DraftFault`'s variants before
-    /// memory is taken.
+    /// Returns the draft with these fields, or the first fault in the order of [`DraftFault`]. All
+    /// fields are checked before memory is taken. Requires that the expected count, if there is
+    /// one, is below 2^32 - 1.
     pub fn read(
         alloc: Global,
         moment: Stamp,
@@ -139,14 +142,14 @@ impl Draft {
         Ok(Draft::of(alloc, terms)?)
     }
 
-    /// Whether the notice has somebody to go to.
+    /// Whether the return path is not null, so that a notice can be sent.
     pub fn has_return(&self) -> bool
         ensures { IsTrue result ↔ IsSome self.now.return_path }
     {
         self.cell.terms.return_path.is_some()
     }
 
-    /// What it says.
+    /// The terms of the draft.
     pub fn terms(&self) -> &DraftTerms
         ensures { result.now ≡ self.now }
     {
@@ -154,7 +157,7 @@ impl Draft {
     }
 }
 
-/// What is returned and the wording, if the fields have no fault; else the first one.
+/// Returns what is returned and the wording, or the first fault of the fields.
 fn check(parts: DraftParts<'_>) -> Result<(Returned, Wording), DraftFault>
     ensures accepted { OnOk result (first_draft_fault (draft_fields_of parts.entry) ≡ None) }
     ensures header { OnOk result (length parts.entry.header.now ≤ LONGEST_HEADER) }
@@ -168,7 +171,7 @@ fn check(parts: DraftParts<'_>) -> Result<(Returned, Wording), DraftFault>
     ensures refused { IfErr result
         (λ fault. first_draft_fault (draft_fields_of parts.entry) ≡ Some fault) }
 {
-    // Neither moment has to be the earlier one, since clocks differ: they are not compared.
+    // The two moments are not compared, since the clocks of two machines differ.
     if !RawHeader::is_valid(parts.header) {
         return Err(DraftFault::Header);
     }

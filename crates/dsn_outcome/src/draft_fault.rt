@@ -1,11 +1,12 @@
-//! Why the texts of a draft are refused.
+//! Why the fields of a draft are refused.
 //! Implements docs/FORMATS.md, "Which refusal a body gets".
 ghost use Rattle.std.specs.Prelude.{◌≡◌};
 
 use dsn_text::NoMemory;
 use thiserror::Error;
 
-/// Why the texts of a draft are refused; the first reason in this order is given.
+/// Why the fields of a draft are refused. If several faults apply, the first in this order is
+/// returned.
 #[derive(Clone, Copy, Debug, PartialEq, Eq, Error)]
 pub enum DraftFault {
     /// The header has more than 32,768 bytes.
@@ -17,14 +18,14 @@ pub enum DraftFault {
     /// The envelope id is neither empty nor 1 to 100 printable bytes.
     #[error("the envelope id is neither empty nor 1 to 100 printable bytes")]
     EnvelopeId,
-    /// What the header field holds is neither the header nor the message.
+    /// The byte that says what the header field holds means neither header nor message.
     #[error("it is unknown whether the header field holds the header or the message")]
     Returned,
     /// The wording is unknown.
     #[error("the wording of the notice is unknown")]
     Wording,
-    /// The extension fields are neither empty nor 1 to 8 lines of a name that begins with `X-` and a
-    /// value, each ended by LF alone.
+    /// The extension fields are neither empty nor 1 to 8 valid lines. A valid line has a name that
+    /// begins with `X-` and a value, and ends with LF alone.
     #[error("the extension fields of the message are none")]
     Extensions,
     /// Memory for the draft was refused.

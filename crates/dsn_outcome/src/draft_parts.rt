@@ -1,4 +1,4 @@
-//! The fields of a draft as they are given. Implements docs/FORMATS.md, "Flush: close the log and
+//! The fields of a draft as they are passed. Implements docs/FORMATS.md, "Flush: close the log and
 //! make its notice".
 ghost use Rattle.std.specs.Prelude.{◌≡◌, [], None, Some};
 ghost use Rattle.dsn_outcome.specs.declared.returned.Returned.TheVariants.{Header};
@@ -7,19 +7,19 @@ ghost use Rattle.dsn_outcome.specs.declared.wording.Wording.TheVariants.{ByServi
 use crate::returned::Returned;
 use crate::wording::Wording;
 
-/// What a flush may ask for besides.
+/// The optional choices of a flush.
 #[derive(Clone, Copy, Debug, PartialEq, Eq)]
 pub struct Wishes {
-    /// How many outcomes the log is to have; `None` for any.
+    /// The expected number of outcomes in the log; `None` accepts any.
     pub expected: Option<u32>,
-    /// What the header field holds, and so what is returned.
+    /// What the header field holds, which is what the notice returns.
     pub returned: Returned,
     /// How the notice's words are chosen.
     pub wording: Wording,
 }
 
 impl Wishes {
-    /// Any number of outcomes, a header, and words by the service.
+    /// The defaults: any number of outcomes, a header, and words by the service.
     pub fn usual() -> Wishes
         ensures expected { result.expected ≡ None }
         ensures returned { result.returned ≡ Header }
@@ -33,29 +33,30 @@ impl Wishes {
     }
 }
 
-/// What a flush says of its notice, except its moments. An empty return path is the null path (RFC
-/// 5321 section 4.5.5), and an empty envelope id none.
+/// The fields of a flush, except its moments. An empty return path is the null path (RFC 5321
+/// section 4.5.5). An empty envelope id means a missing one.
 #[derive(Clone, Copy)]
 pub struct DraftParts<'a> {
-    /// Whom the notice goes to.
+    /// The address that the notice is sent to.
     pub return_path: &'a [u8],
     /// The sender's envelope id (RFC 3461 section 4.4).
     pub envelope_id: &'a [u8],
-    /// The message's header, or the message.
+    /// The message's header, or the whole message.
     pub header: &'a [u8],
-    /// How many outcomes the log is to have; `None` for any.
+    /// The expected number of outcomes in the log; `None` accepts any.
     pub expected: Option<u32>,
-    /// What the header field holds; `None` if the byte that says it is unknown.
+    /// What the header field holds; `None` if its byte is unknown.
     pub returned: Option<Returned>,
-    /// How the notice's words are chosen; `None` if the byte that says it is unknown.
+    /// How the notice's words are chosen; `None` if its byte is unknown.
     pub wording: Option<Wording>,
-    /// The extension fields of the message (RFC 3464 section 2.4): at most 8 lines, each ended by LF
-    /// alone, of a name that begins with `X-`, a colon, a space and a value. Empty for none.
+    /// The extension fields of the message (RFC 3464 section 2.4): at most 8 lines, each ended by
+    /// LF alone. A line is a name that begins with `X-`, a colon, a space and a value. Empty for
+    /// none.
     pub extensions: &'a [u8],
 }
 
 impl<'a> DraftParts<'a> {
-    /// These texts, with what is usual besides.
+    /// These texts, with the defaults of [`Wishes::usual`] and no extension fields.
     pub fn usual(return_path: &'a [u8], envelope_id: &'a [u8], header: &'a [u8]) -> DraftParts<'a>
         ensures return_path { result.return_path.now ≡ return_path.now }
         ensures envelope_id { result.envelope_id.now ≡ envelope_id.now }

@@ -1,4 +1,4 @@
-//! The extension fields of a message, as a draft keeps them.
+//! The extension fields of a message, as a draft holds them.
 //! Implements RFC 3464 section 2.4.
 ghost use Rattle.std.specs.Prelude.{◌≡◌, [], IsTrue, IfOk};
 ghost use Rattle.dsn_text.specs.Extension.{is_extension_text};
@@ -7,11 +7,12 @@ use dsn_text::NoMemory;
 use std::alloc::Global;
 use std::marker::Model;
 
-/// Extension fields (RFC 3464 section 2.4): at most 8 lines, each ended by LF alone, of a name that
-/// begins with `X-`, a colon, a space and a value. An empty text means no field.
+/// Extension fields (RFC 3464 section 2.4): at most 8 lines, each ended by LF alone. A line is a
+/// name that begins with `X-`, a colon, a space and a value. An empty text means no field.
 ///
-/// They are a group of their own, as Postfix writes `X-Postfix-Queue-ID` and `X-Postfix-Sender`: a
-/// name may mean another thing in a recipient's group.
+/// The fields of the message and those of its recipients are separate, since the same name may mean
+/// different things in the two groups. Postfix writes `X-Postfix-Queue-ID` and `X-Postfix-Sender`
+/// for the message.
 #[derive(Drop)]
 pub(crate) struct ExtensionFields {
     bytes: Vec<u8>,
@@ -29,7 +30,7 @@ impl Model for ExtensionFields {
 }
 
 impl ExtensionFields {
-    /// No extension field. It takes no memory.
+    /// No extension fields. It takes no memory.
     #[tactic(auto, unfolding(dsn_text::specs::Extension::are_extension_lines))]
     pub(crate) fn none(alloc: Global) -> ExtensionFields
         ensures { result ≡ [] }
@@ -39,7 +40,7 @@ impl ExtensionFields {
         }
     }
 
-    /// Keeps a text that was found to be extension fields: it isn't tested again. Returns
+    /// Copies the text. Requires that it is valid extension fields; it isn't checked again. Returns
     /// `NoMemory` only if memory for it was refused.
     pub(crate) fn kept(alloc: Global, text: &[u8]) -> Result<ExtensionFields, NoMemory>
         requires { IsTrue (is_extension_text text.now) }

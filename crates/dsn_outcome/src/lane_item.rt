@@ -1,8 +1,8 @@
-//! What a lane carries from one thread to another.
+//! The items that a lane carries from one thread to another.
 ghost use Rattle.std.specs.Prelude.{◌≡◌, ℕ};
 
-/// An item that says which agent sends it, and how many items of that agent were sent before it.
-// It can be dropped, since the close of a lane drops what waits.
+/// An item that names its agent and its place among the items of that agent.
+// Closing a lane drops the items that wait in it, so items must be droppable.
 pub trait Carried: Drop {
     // The agent.
     ghost agent: { Self → ℕ };
@@ -10,7 +10,7 @@ pub trait Carried: Drop {
     // The item's place among the agent's items.
     ghost number: { Self → ℕ };
 
-    /// The agent that the item is of, from 0.
+    /// The agent that the item belongs to, from 0.
     fn agent(&self) -> u32
         ensures { result ≡ agent self.now };
 

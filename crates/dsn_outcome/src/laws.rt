@@ -1,4 +1,4 @@
-//! Laws of the history of requests, as the contracts of functions that do nothing.
+//! Laws of the history of requests, stated as contracts of functions that do nothing.
 //! Implements docs/FORMATS.md, "What a request does".
 ghost use Rattle.std.specs.Prelude.{◌≡◌, ℕ, true, false, List, [], length, map};
 ghost use Rattle.dsn_outcome.specs.Agents.{from_agent};
@@ -9,9 +9,9 @@ ghost use Rattle.dsn_outcome.specs.History.{Limits, Exchange, IsClosed, is_close
 ghost use Rattle.dsn_outcome.specs.Request.{Request};
 ghost use Rattle.dsn_text.specs.declared.key.Key.{Key};
 
-/// The close rule: until it is forgotten a closed key stays closed, and its log takes no outcome,
-/// whatever is asked. Each other request about it is answered Closed, and leaves every log, the
-/// held keys and the sealed letters as they were.
+/// The close rule. Until a closed key is forgotten, it stays closed, and no request adds an outcome
+/// to its log. Each other request about it is answered `Closed`, and leaves every log, the held
+/// keys and the sealed letters unchanged.
 #[tactic(auto, using(crate::proofs::CloseRule::rules_of_closed_logs))]
 pub fn closed_logs_stay_closed()
     ensures stays { (key : Key) (history : List Exchange) → IsClosed key history
@@ -30,8 +30,8 @@ pub fn closed_logs_stay_closed()
         → IsClosed key history → LeavesSealedLetters limits key history }
 {}
 
-/// A Forget of a closed key makes it as one that was never used, and leaves all else as it was.
-/// One of any other key changes nothing.
+/// A Forget of a closed key makes the key as if it had never been used, and changes nothing else. A
+/// Forget of any other key changes nothing.
 pub fn closed_keys_alone_are_forgotten()
     ensures closed { (limits : Limits) (key : Key) (history : List Exchange)
         → IsClosed key history → ForgetsIt limits key history }
@@ -39,9 +39,8 @@ pub fn closed_keys_alone_are_forgotten()
         → is_closed key history ≡ false → KeepsIt limits key history }
 {}
 
-/// A flush that expects another number of outcomes than its open log has is answered with the
-/// number that it has, and changes nothing. So each letter has as many outcomes as its flush
-/// expects.
+/// If a flush of an open log expects another number of outcomes, it is answered with the actual
+/// number and changes nothing. So each letter has as many outcomes as its flush expects.
 pub fn flushes_seal_what_they_expect()
     ensures answered { (limits : Limits) (key : Key) (history : List Exchange)
         → is_closed key history ≡ false → is_held key history ≡ true
@@ -52,14 +51,14 @@ pub fn flushes_seal_what_they_expect()
         → AreAsExpected (sealed_letters (history_of limits requests)) }
 {}
 
-/// A history's letters are numbered from 0, over all keys and forgettings.
+/// The letters of a history are numbered from 0, across all keys and forgettings.
 #[tactic(auto, using(crate::proofs::Forgetting::letters_numbered))]
 pub fn letters_are_numbered()
     ensures { (history : List Exchange) → AreNumbered history }
 {}
 
-/// A history goes through the requests that it was made of, and answers an agent as often as the
-/// agent asked.
+/// A history contains exactly the requests that it was made of, in order. Each agent gets as many
+/// answers as it made requests.
 #[tactic(auto, using(crate::proofs::HistoryLaws::requests_of, crate::proofs::HistoryLaws::answers_length))]
 pub fn histories_answer_each_request()
     ensures requests { (limits : Limits) (requests : List Request)
@@ -69,7 +68,7 @@ pub fn histories_answer_each_request()
         ≡ length (from_agent (λ request. request.agent) agent requests) }
 {}
 
-/// The answers of a history have the serials of its letters, each of them once and in order.
+/// The answers of a history report the serial of each letter once, in order.
 #[tactic(auto, using(crate::proofs::HistoryLaws::serials_answered))]
 pub fn answers_tell_serials()
     ensures { (history : List Exchange) → serials_told (answers_after [] history)

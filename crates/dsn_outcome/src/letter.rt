@@ -9,8 +9,8 @@ use crate::outcome_links::Outcomes;
 use dsn_text::{Address, EnvelopeId, Key, RawHeader, Stamp};
 use std::marker::Model;
 
-/// A sealed log: what a notice is made of. It has at least one outcome, each of them of its key's
-/// service, as many as its flush expects, and somebody whom the notice goes to.
+/// A sealed log, of which a notice is made. It has a return path and at least one outcome. All
+/// outcomes belong to its key's service, and there are as many as its flush expects.
 #[derive(Drop)]
 pub struct Letter {
     pub(crate) cell: Box<LetterCell>,
@@ -32,8 +32,11 @@ impl Letter {
     ghost use Rattle.dsn_outcome.specs.Letter.{IsLetter};
     ghost use Rattle.dsn_outcome.specs.Outcomes.{outcomes_left};
 
-    /// Seals a log: the draft's cell becomes the letter's, and takes no memory. The serial says how
+    /// Seals a log. The draft's cell becomes the letter's, so no memory is taken. The serial is how
     /// many letters were sealed before.
+    ///
+    /// Requires that the draft has a return path. Requires that the log is not empty, has as many
+    /// outcomes as the draft expects, and has outcomes of the key's service only.
     pub fn seal(key: Key, draft: Draft, chain: Chain, serial: u64) -> Letter
         requires reports { chain ≢ [] }
         requires of_service { All (λ outcome. outcome.service ≡ key.service) chain }
@@ -53,7 +56,8 @@ impl Letter {
         Letter { cell }
     }
 
-    /// The same letter, where so many more letters were sealed before it.
+    /// Returns the same letter with `base` added to its serial. Requires that the sum is below
+    /// 2^64.
     pub fn counted_on_from(self, base: u64) -> Letter
         requires room { base + self.serial < 2 ^ 64 }
         ensures { result ≡ record self { serial = base + self.serial } }
@@ -77,7 +81,7 @@ impl Letter {
         }
     }
 
-    /// How many letters were sealed before it, of all keys; it stands in the notice's Message-ID.
+    /// How many letters of all keys were sealed before this one. It is in the notice's Message-ID.
     pub fn serial(&self) -> u64
         ensures { result ≡ self.now.serial }
     {
@@ -87,14 +91,14 @@ impl Letter {
         }
     }
 
-    /// What its flush said.
+    /// The terms of its flush.
     pub fn terms(&self) -> &DraftTerms
         ensures { result.now ≡ self.now.draft }
     {
         &self.cell.terms
     }
 
-    /// The flush's moment, which stands in boundaries and in the notice's date.
+    /// The moment of the flush. It is in the boundaries and is the notice's date.
     pub fn moment(&self) -> Stamp
         ensures { result ≡ self.now.draft.moment }
     {
@@ -108,7 +112,7 @@ impl Letter {
         self.cell.terms.arrival
     }
 
-    /// Whom the notice goes to.
+    /// The address that the notice is sent to.
     pub fn return_path(&self) -> &Address
         ensures { self.now.draft.return_path ≡ Some result.now }
     {
@@ -118,14 +122,14 @@ impl Letter {
         }
     }
 
-    /// The sender's envelope id, if there was one.
+    /// The sender's envelope id, if there is one.
     pub fn envelope_id(&self) -> Option<&EnvelopeId>
         ensures { option_copied result ≡ self.now.draft.envelope_id }
     {
         self.cell.terms.envelope_id.as_ref()
     }
 
-    /// The message's header as it came, or the message.
+    /// The message's header as it came, or the whole message.
     pub fn header(&self) -> &RawHeader
         ensures { result.now ≡ self.now.draft.header }
     {

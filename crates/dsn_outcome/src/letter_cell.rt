@@ -1,5 +1,5 @@
-//! The one cell of memory that a draft, a letter and a letter in a queue are, so that sealing and
-//! queueing take no memory.
+//! The one piece of memory that is first a draft, then a letter, then a letter in a queue. So
+//! sealing and queueing take no memory.
 ghost use Rattle.std.specs.Prelude.{◌≡◌, IsTrue};
 ghost use Rattle.std.specs.Option.{option_copied};
 ghost use Rattle.dsn_outcome.specs.Draft.{is_count};
@@ -13,8 +13,8 @@ use crate::wording::Wording;
 use dsn_text::{Address, EnvelopeId, Key, RawHeader, Stamp};
 use std::marker::Model;
 
-/// What a flush says of its notice: to whom it goes, and what it quotes of the message. A draft and
-/// a letter lend it.
+/// The terms of a notice, which a flush carries: its recipient, and what it quotes of the message.
+/// A draft and a letter expose them by reference.
 #[derive(Drop)]
 pub struct DraftTerms {
     pub(crate) moment: Stamp,
@@ -51,7 +51,7 @@ impl Model for DraftTerms {
 }
 
 impl DraftTerms {
-    /// When the flush was asked for; the notice's date.
+    /// The moment of the flush, which is the notice's date.
     pub fn moment(&self) -> Stamp
         ensures { result ≡ self.now.moment }
     {
@@ -65,29 +65,29 @@ impl DraftTerms {
         self.arrival
     }
 
-    /// Whom the notice goes to; `None` is the null path.
+    /// The address that the notice is sent to; `None` is the null path.
     pub fn return_path(&self) -> Option<&Address>
         ensures { option_copied result ≡ self.now.return_path }
     {
         self.return_path.as_ref()
     }
 
-    /// The sender's envelope id, if there was one.
+    /// The sender's envelope id, if there is one.
     pub fn envelope_id(&self) -> Option<&EnvelopeId>
         ensures { option_copied result ≡ self.now.envelope_id }
     {
         self.envelope_id.as_ref()
     }
 
-    /// The message's header as it came, or the message.
+    /// The message's header as it came, or the whole message.
     pub fn header(&self) -> &RawHeader
         ensures { result.now ≡ self.now.header }
     {
         &self.header
     }
 
-    /// The extension fields of the message (RFC 3464 section 2.4), each a line that LF ends; none
-    /// where it is empty.
+    /// The extension fields of the message (RFC 3464 section 2.4), each a line that ends with LF.
+    /// Empty for none.
     pub fn extensions(&self) -> &[u8]
         ensures same { result.now ≡ self.now.extensions }
         ensures legal { IsTrue (is_extension_text result.now) }
@@ -95,7 +95,7 @@ impl DraftTerms {
         self.extensions.bytes()
     }
 
-    /// How many outcomes the log is to have; `None` for any.
+    /// The expected number of outcomes in the log; `None` accepts any.
     pub fn expected(&self) -> Option<u32>
         ensures same { result ≡ self.now.expected }
         ensures counted { IsTrue (is_none_or is_count self.now.expected) }
@@ -103,7 +103,7 @@ impl DraftTerms {
         self.expected
     }
 
-    /// What the header holds, and so what is returned.
+    /// What the header field holds, which is what the notice returns.
     pub fn returned(&self) -> Returned
         ensures { result ≡ self.now.returned }
     {
@@ -126,7 +126,7 @@ pub(crate) struct Sealed {
     pub(crate) serial: u64,
 }
 
-/// A draft; once it is sealed, a letter; and with a link, a letter in a queue.
+/// A draft. A sealed one is a letter, and one with a link is a letter in a queue.
 #[derive(Drop)]
 pub(crate) struct LetterCell {
     pub(crate) terms: DraftTerms,

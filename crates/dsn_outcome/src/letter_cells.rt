@@ -1,4 +1,4 @@
-//! Letters joined by their own links, in one direction.
+//! A list of letters that are joined by their own links, in one direction.
 ghost use Rattle.std.specs.Prelude.{◌≡◌, ◌==◌, [], ◌∷◌, ◌++◌, length, min, reverse, IfNone, IfSome};
 ghost use Rattle.dsn_outcome.specs.Letter.{most_counted};
 
@@ -24,21 +24,21 @@ impl Model for LetterCells {
 }
 
 impl LetterCells {
-    /// No letter.
+    /// The empty list.
     pub(crate) fn new() -> Self
         ensures { result ≡ [] }
     {
         LetterCells { first: None }
     }
 
-    /// Whether there is no letter.
+    /// Whether the list is empty.
     pub(crate) fn is_empty(&self) -> bool
         ensures { result ≡ (length self.now == 0) }
     {
         self.first.is_none()
     }
 
-    /// Puts one more letter first.
+    /// Puts a letter in front of the others.
     pub(crate) fn push_front(&mut self, letter: Letter)
         ensures { self.new ≡ letter ∷ self.old }
     {
@@ -47,7 +47,7 @@ impl LetterCells {
         self.first = Some(cell);
     }
 
-    /// Takes the first letter.
+    /// Removes and returns the first letter.
     pub(crate) fn pop_front(&mut self) -> Option<Letter>
         ensures none { IfNone result ((self.old ≡ []) × (self.new ≡ [])) }
         ensures first { IfSome result (λ letter. self.old ≡ letter ∷ self.new) }
@@ -57,7 +57,7 @@ impl LetterCells {
         Some(Letter { cell })
     }
 
-    /// Puts the other's letters before its own, last first.
+    /// Moves the other list's letters in front of its own, in reverse order.
     pub(crate) fn take_reversed(&mut self, other: &mut LetterCells)
         ensures taken { self.new ≡ reverse other.old ++ self.old }
         ensures left { other.new ≡ [] }
@@ -67,7 +67,7 @@ impl LetterCells {
         }
     }
 
-    /// How many there are, up to 2^64 - 1.
+    /// The number of letters, capped at 2^64 - 1.
     pub(crate) fn len(&self) -> u64
         ensures { result ≡ min (length self.now) most_counted }
     {
@@ -82,7 +82,7 @@ impl LetterCells {
 }
 
 impl Drop for LetterCells {
-    /// Frees the letters one after another, not by recursion.
+    /// Frees the letters in a loop instead of recursively.
     fn drop(self) {
         // A derived drop avoids recursion only because the link is the cell's last field. A drop
         // that freed the rest before the cell's other fields used up the stack on a million

@@ -1,4 +1,4 @@
-//! Letters joined by their own links.
+//! A queue of letters that are joined by their own links.
 ghost use Rattle.std.specs.Prelude.{◌≡◌, ◌==◌, [], ◌∷◌, ◌++◌, length, min, IfNone, IfSome};
 ghost use Rattle.dsn_outcome.specs.Letter.{most_counted};
 
@@ -6,9 +6,8 @@ use crate::letter::Letter;
 use crate::letter_cells::LetterCells;
 use std::marker::Model;
 
-/// Letters in a line: the first is taken first. Those pushed last are linked last first and turned
-/// round when they are needed, so that pushing and popping take no memory and a constant time on
-/// average.
+/// A queue of letters, first in, first out. Pushed letters are linked last first, and reversed when
+/// they are needed. So `push` and `pop` take no memory, and constant time on average.
 #[derive(Drop)]
 pub struct Letters {
     front: LetterCells,
@@ -25,7 +24,7 @@ impl Model for Letters {
 }
 
 impl Letters {
-    /// No letters.
+    /// An empty queue.
     pub fn new() -> Self
         ensures { result ≡ [] }
     {
@@ -35,14 +34,14 @@ impl Letters {
         }
     }
 
-    /// Puts a letter last.
+    /// Puts a letter at the end.
     pub fn push(&mut self, letter: Letter)
         ensures { self.new ≡ self.old ++ letter ∷ [] }
     {
         self.back.push_front(letter);
     }
 
-    /// Takes the first letter, if there is one.
+    /// Removes and returns the first letter, if there is one.
     pub fn pop(&mut self) -> Option<Letter>
         ensures none { IfNone result ((self.old ≡ []) × (self.new ≡ [])) }
         ensures first { IfSome result (λ letter. self.old ≡ letter ∷ self.new) }
@@ -53,15 +52,14 @@ impl Letters {
         self.front.pop_front()
     }
 
-    /// How many letters there are; 18,446,744,073,709,551,615 stands for so many or more. It
-    /// walks over them.
+    /// The number of letters, capped at 2^64 - 1. It walks over them.
     pub fn len(&self) -> u64
         ensures { result ≡ min (length self.now) most_counted }
     {
         self.front.len().saturating_add(self.back.len())
     }
 
-    /// Whether there is none.
+    /// Whether the queue is empty.
     pub fn is_empty(&self) -> bool
         ensures { result ≡ (length self.now == 0) }
     {

@@ -1,5 +1,4 @@
-//! The values of a bounce daemon: outcomes, drafts, letters, requests and replies, with the texts
-//! that they are made of, and the devices that it reads from and writes to.
+//! The values of a bounce daemon: outcomes, drafts, letters, requests and replies.
 #![tactic(auto)]
 
 mod answer;

@@ -1,4 +1,4 @@
-//! What became of one recipient (RFC 3464 section 2.3).
+//! The outcome of one recipient's delivery (RFC 3464 section 2.3).
 //! Implements docs/FORMATS.md, "Append: log one recipient's outcome".
 ghost use Rattle.std.specs.Prelude.{◌≡◌, [], IsTrue, IfOk, IfErr, OnOk, unwrap_or};
 ghost use Rattle.dsn_text.specs.Action.{action_of_byte};
@@ -14,9 +14,9 @@ use dsn_text::{Action, Address, Clean, PackedStamp, Service, Stamp, Status, is_e
 use std::alloc::Global;
 use std::marker::Model;
 
-/// A legal outcome: the service's log takes its action, its status fits the action, its texts are
-/// within their bounds, only a delayed recipient's delivery is tried again, each type is that of a
-/// text, and its extension fields are such.
+/// A legal outcome. Its service takes its action, its status fits the action, and its texts are
+/// within their bounds. Only a delayed recipient has a time until which delivery is retried. Each
+/// type belongs to a text that is present, and the extension fields are valid.
 #[derive(Drop)]
 pub struct Outcome {
     texts: OutcomeTexts,
@@ -48,9 +48,9 @@ impl Outcome {
     ghost use Rattle.dsn_outcome.specs.OutcomeParts.{fields_of};
     ghost use Rattle.dsn_text.specs.Text.{IsAddress, is_address, is_mta_name, is_remark, is_type_name};
 
-    /// The outcome of a service's log that these fields describe, ready to be linked into its
-    /// log. The fields are tested, in the order of `OutcomeFault`'s variants, before memory is
-    /// taken.
+    /// Returns an outcome of this service with these fields, in an unlinked node that is ready for
+    /// its log. Otherwise returns the first fault in the order of [`OutcomeFault`]. All fields are
+    /// checked before memory is taken.
     #[tactic(auto, using(crate::proofs::OutcomeLemmas::short_none))]
     pub fn new(alloc: Global, service: Service, parts: Parts<'_>) -> Result<Box<Node>, OutcomeFault>
         ensures kept { IfOk result
@@ -64,7 +64,8 @@ impl Outcome {
             ≡ unwrap_or
             (first_outcome_fault service (fields_of parts.entry)) OutcomeFault.NoMemory) }
     {
-        // Named one by one: a whole `Parts` can't be lent and then be read once more.
+        // The fields are named one by one because the kit can't lend a whole `Parts` and then read
+        // it again.
         let Parts {
             recipient,
             original,
@@ -107,7 +108,7 @@ impl Outcome {
         linked(alloc, outcome)
     }
 
-    /// The service whose log it belongs to.
+    /// The service whose log the outcome belongs to.
     pub fn service(&self) -> Service
         ensures same { result ≡ self.now.service }
         ensures legal { IsLegalOutcome self.now }
@@ -123,7 +124,7 @@ impl Outcome {
         self.texts.recipient()
     }
 
-    /// The recipient as the sender gave it, an address, if the agent knew it.
+    /// The recipient as the sender gave it, an address, if the agent knows it.
     pub fn original(&self) -> Option<&[u8]>
         ensures same { option_copied result ≡ self.now.original }
         ensures legal { IsTrue (is_none_or is_address (option_copied result)) }
@@ -131,7 +132,7 @@ impl Outcome {
         unless_empty(self.texts.original())
     }
 
-    /// What was done.
+    /// The action that was taken.
     pub fn action(&self) -> Action
         ensures { result ≡ self.now.action }
     {
@@ -145,7 +146,7 @@ impl Outcome {
         &self.status
     }
 
-    /// The remote system's name, if there was one.
+    /// The remote system's name, if there is one.
     pub fn mta(&self) -> Option<&[u8]>
         ensures same { option_copied result ≡ self.now.mta }
         ensures legal { IsTrue (is_none_or is_mta_name (option_copied result)) }
@@ -153,7 +154,7 @@ impl Outcome {
         unless_empty(self.texts.mta())
     }
 
-    /// What the remote system said, cleaned, if it said something.
+    /// The response of the remote system, cleaned, if there is one.
     pub fn diagnostic(&self) -> Option<&[u8]>
         ensures same { option_copied result ≡ self.now.diagnostic }
         ensures legal { IsTrue (is_none_or is_remark (option_copied result)) }
@@ -161,7 +162,7 @@ impl Outcome {
         unless_empty(self.texts.diagnostic())
     }
 
-    /// The agent's own words, cleaned, if it had some.
+    /// The agent's own explanation, cleaned, if there is one.
     pub fn reason(&self) -> Option<&[u8]>
         ensures same { option_copied result ≡ self.now.reason }
         ensures legal { IsTrue (is_none_or is_remark (option_copied result)) }
@@ -169,7 +170,7 @@ impl Outcome {
         unless_empty(self.texts.reason())
     }
 
-    /// When delivery was last tried (RFC 3464 section 2.3.7), if that is known.
+    /// When delivery was last tried (RFC 3464 section 2.3.7), if the agent said it.
     pub fn last_attempt(&self) -> Option<Stamp>
         ensures { result ≡ self.now.last_attempt }
     {
@@ -184,8 +185,8 @@ impl Outcome {
         unless_empty(self.texts.recipient_type())
     }
 
-    /// The type of the original recipient, if it isn't the usual `rfc822` (RFC 3464 section 2.3.1);
-    /// none if there is no original recipient.
+    /// The type of the original recipient, if it isn't the usual `rfc822` (RFC 3464 section 2.3.1).
+    /// `None` if there is no original recipient.
     pub fn original_type(&self) -> Option<&[u8]>
         ensures same { option_copied result ≡ self.now.original_type }
         ensures legal { IsTrue (is_none_or is_type_name (option_copied result)) }
@@ -193,7 +194,7 @@ impl Outcome {
         unless_empty(self.texts.original_type())
     }
 
-    /// The type of the diagnostic, if it isn't the usual `smtp` (RFC 3464 section 2.3.6); none if
+    /// The type of the diagnostic, if it isn't the usual `smtp` (RFC 3464 section 2.3.6). `None` if
     /// there is no diagnostic.
     pub fn diagnostic_type(&self) -> Option<&[u8]>
         ensures same { option_copied result ≡ self.now.diagnostic_type }
@@ -202,7 +203,7 @@ impl Outcome {
         unless_empty(self.texts.diagnostic_type())
     }
 
-    /// The extension fields (RFC 3464 section 2.4), each a line that LF ends; empty for none.
+    /// The extension fields (RFC 3464 section 2.4), each a line that ends with LF. Empty for none.
     pub fn extensions(&self) -> &[u8]
         ensures same { result.now ≡ self.now.extensions }
         ensures legal { IsTrue (is_extension_text result.now) }
@@ -210,7 +211,7 @@ impl Outcome {
         self.texts.extensions()
     }
 
-    /// Until when delivery is tried again (RFC 3464 section 2.3.9), if that is known.
+    /// Until when delivery is retried (RFC 3464 section 2.3.9), if the agent said it.
     pub fn retry_until(&self) -> Option<Stamp>
         ensures { result ≡ self.now.retry_until }
     {
@@ -221,7 +222,7 @@ impl Outcome {
 ghost use Rattle.dsn_outcome.specs.Outcome.{IsLegalOutcome, IsOutcomeOf, first_failed, first_outcome_fault, later_checks};
 ghost use Rattle.dsn_outcome.specs.OutcomeParts.{fields_of};
 
-/// An outcome in a node of its own, linked to nothing.
+/// Puts an outcome into an unlinked node of its own. Returns `NoMemory` if memory was refused.
 fn linked(alloc: Global, outcome: Outcome) -> Result<Box<Node>, OutcomeFault>
     requires { IsLegalOutcome outcome }
     ensures kept { IfOk result (λ node. node.value.outcome ≡ outcome) }
@@ -239,8 +240,7 @@ fn linked(alloc: Global, outcome: Outcome) -> Result<Box<Node>, OutcomeFault>
     }
 }
 
-/// The action and the status of fields that have no fault, or their first fault. It takes no
-/// memory.
+/// Returns the action and the status of valid fields, or their first fault. It takes no memory.
 #[tactic(auto, unfolding(crate::specs::Outcome::first_outcome_fault))]
 fn check(service: Service, parts: Parts<'_>) -> Result<(Action, Status), OutcomeFault>
     ensures none { IfOk result
@@ -250,7 +250,7 @@ fn check(service: Service, parts: Parts<'_>) -> Result<(Action, Status), Outcome
     ensures first { IfErr result
         (λ fault. first_outcome_fault service (fields_of parts.entry) ≡ Some fault) }
 {
-    // The final recipient is tested before the original one, though it is the later one in a frame.
+    // The final recipient is checked before the original one, though it comes later in a frame.
     if !Address::is_valid(parts.recipient) {
         return Err(OutcomeFault::BadRecipient);
     }
@@ -290,8 +290,8 @@ fn check(service: Service, parts: Parts<'_>) -> Result<(Action, Status), Outcome
     Ok((action, status))
 }
 
-/// The first fault of the types or of the extension fields, if they have one. Most outcomes say
-/// none of them, which costs four tests. It takes no memory.
+/// Returns the first fault of the types or of the extension fields, if they have one. Most outcomes
+/// have none of these texts, and cost four comparisons. It takes no memory.
 #[tactic(auto, unfolding(dsn_text::specs::Extension::are_extension_lines))]
 fn check_later(
     original: &[u8],
@@ -316,7 +316,7 @@ fn check_later(
     check_said(original, diagnostic, types, extensions)
 }
 
-/// The first fault of types or extension fields of which one at least is said.
+/// The checks of `check_later`, for a call in which at least one of these texts is not empty.
 #[inline(never)]
 fn check_said(
     original: &[u8],

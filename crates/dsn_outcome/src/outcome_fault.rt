@@ -6,25 +6,25 @@ ghost use Rattle.dsn_outcome.specs.OutcomeFault.{outcome_fault_code};
 use dsn_text::fault_code;
 use thiserror::Error;
 
-/// Why an outcome is refused; the first reason in this order is given.
+/// Why an outcome is refused. If several faults apply, the first in this order is returned.
 #[derive(Clone, Copy, Debug, PartialEq, Eq, Error)]
 pub enum OutcomeFault {
-    /// The recipient is no address.
+    /// The recipient is not a valid address.
     #[error("the recipient is no address")]
     BadRecipient,
-    /// The original recipient is neither empty nor an address.
+    /// The original recipient is neither empty nor a valid address.
     #[error("the original recipient is neither empty nor an address")]
     BadOriginal,
-    /// The action is unknown, or none that the service's log takes.
+    /// The action is unknown, or the service's log doesn't take it.
     #[error("the action is unknown or none that the service takes")]
     BadAction,
-    /// The status is no status code.
+    /// The status is not a valid status code.
     #[error("the status is no status code")]
     BadStatus,
     /// The class of the status doesn't fit the action.
     #[error("the class of the status does not stand with the action")]
     StatusClass,
-    /// The remote system's name is neither empty nor a name.
+    /// The remote system's name is neither empty nor a valid name.
     #[error("the remote system's name is neither empty nor a name")]
     BadMta,
     /// The diagnostic has more than 800 bytes.
@@ -33,19 +33,21 @@ pub enum OutcomeFault {
     /// The reason has more than 800 bytes.
     #[error("the reason has more than 800 bytes")]
     LongReason,
-    /// It is said until when delivery is tried again, of a recipient that isn't delayed.
+    /// A time until which delivery is retried is given for a recipient that isn't delayed.
     #[error("only a delayed recipient is tried again")]
     RetryUntil,
-    /// The type of the recipient is neither empty nor the name of a type.
+    /// The type of the recipient is neither empty nor a valid type name.
     #[error("the type of the recipient is neither empty nor the name of a type")]
     RecipientType,
-    /// The type of the original recipient is no name of a type, or there is no original recipient.
+    /// The type of the original recipient isn't empty, and it isn't a valid type name or there is
+    /// no original recipient.
     #[error("the type of the original recipient is none, or is that of no recipient")]
     OriginalType,
-    /// The type of the diagnostic is no name of a type, or there is no diagnostic.
+    /// The type of the diagnostic isn't empty, and it isn't a valid type name or there is no
+    /// diagnostic.
     #[error("the type of the diagnostic is none, or is that of no diagnostic")]
     DiagnosticType,
-    /// The extension fields are no text of them.
+    /// The extension fields are neither empty nor valid lines.
     #[error("the extension fields are no lines of a name that begins with X- and a value")]
     Extension,
     /// Memory for the outcome was refused.
@@ -54,7 +56,7 @@ pub enum OutcomeFault {
 }
 
 impl OutcomeFault {
-    /// The number of the refusal, 1 to 10, 15 to 17 or 20, as an answer carries it.
+    /// The number of the fault in an answer: 1 to 10, 15 to 17, or 20.
     pub fn code(&self) -> u32
         ensures { result ≡ outcome_fault_code self.now }
     {

@@ -1,11 +1,11 @@
-//! The fields of an outcome as a delivery agent hands them in.
+//! The fields of an outcome as a delivery agent passes them.
 //! Implements docs/FORMATS.md, "Append: log one recipient's outcome".
 ghost use Rattle.std.specs.Prelude.{◌≡◌, []};
 
 use dsn_text::Stamp;
 
-/// What a delivery agent says of one recipient. An empty original, remote system, diagnostic or
-/// reason means that there is none.
+/// The fields that a delivery agent passes for one recipient. An empty original, remote system,
+/// diagnostic or reason means that it is missing.
 #[derive(Clone, Copy)]
 pub struct Parts<'a> {
     /// The final recipient (RFC 3464 section 2.3.2).
@@ -18,24 +18,23 @@ pub struct Parts<'a> {
     pub status: &'a [u8],
     /// The remote system's name (RFC 3464 section 2.3.5).
     pub mta: &'a [u8],
-    /// What the remote system said (RFC 3464 section 2.3.6), at most 800 bytes.
+    /// The response of the remote system (RFC 3464 section 2.3.6), at most 800 bytes.
     pub diagnostic: &'a [u8],
-    /// The agent's own words for people, at most 800 bytes.
+    /// The agent's own explanation for people, at most 800 bytes.
     pub reason: &'a [u8],
-    /// When delivery was last tried (RFC 3464 section 2.3.7), if the agent says so.
+    /// When delivery was last tried (RFC 3464 section 2.3.7), if the agent says it.
     pub last_attempt: Option<Stamp>,
-    /// Until when delivery is tried again (RFC 3464 section 2.3.9); with a delayed recipient
-    /// alone.
+    /// Until when delivery is retried (RFC 3464 section 2.3.9), for a delayed recipient only.
     pub retry_until: Option<Stamp>,
     /// The types of the recipients and of the diagnostic.
     pub types: Types<'a>,
-    /// The extension fields (RFC 3464 section 2.4): at most 8 lines, each ended by LF alone, of a
-    /// name that begins with `X-`, a colon, a space and a value. Empty for none.
+    /// The extension fields (RFC 3464 section 2.4): at most 8 lines, each ended by LF alone. A line
+    /// is a name that begins with `X-`, a colon, a space and a value. Empty for none.
     pub extensions: &'a [u8],
 }
 
-/// What kind of text each of an outcome's typed texts is: the name of a type, 1 to 32 bytes. An
-/// empty one means the usual type: `rfc822` of a recipient, `smtp` of a diagnostic.
+/// The types of an outcome's typed texts, each a type name of 1 to 32 bytes. An empty one means the
+/// usual type: `rfc822` for a recipient, `smtp` for a diagnostic.
 #[derive(Clone, Copy)]
 pub struct Types<'a> {
     /// The type of the final recipient (RFC 3464 section 2.3.2).

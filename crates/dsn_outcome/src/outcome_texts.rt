@@ -1,4 +1,4 @@
-//! The texts of an outcome, which share one piece of memory.
+//! The texts of an outcome, in one piece of memory.
 ghost use Rattle.std.specs.Prelude.{◌≡◌, ◌+◌, ◌≤◌, ◌++◌, length, IfOk, IfErr};
 ghost use Rattle.std.specs.Vec.{vec_len, vec_capacity};
 ghost use Rattle.dsn_text.specs.Extension.{longest_extension_text};
@@ -10,7 +10,7 @@ use dsn_text::replace_unprintable;
 use std::alloc::Global;
 use std::marker::Model;
 
-/// The offset behind each text but the last, which is where the next one begins.
+/// The end of each text except the last. The next text begins there.
 #[derive(Clone, Copy)]
 struct Offsets {
     recipient: u16,
@@ -23,9 +23,10 @@ struct Offsets {
     diagnostic: u16,
 }
 
-/// The texts of an outcome one after another; an empty one is a missing one.
+/// The texts of an outcome one after another. An empty text means a missing one.
 ///
-/// One piece for all texts: an outcome takes two pieces of memory in place of up to six.
+/// All texts share one piece of memory, so an outcome takes two pieces of memory instead of up to
+/// six.
 #[derive(Drop)]
 pub(crate) struct OutcomeTexts {
     bytes: Vec<u8>,
@@ -43,7 +44,8 @@ impl Model for OutcomeTexts {
 }
 
 impl OutcomeTexts {
-    /// The texts of these fields, the diagnostic and the reason cleaned, in one piece of memory.
+    /// Copies these texts into one piece of memory, with the diagnostic and the reason cleaned.
+    /// Requires that no text is over its limit. Returns `NoMemory` if memory was refused.
     pub(crate) fn new(
         alloc: Global,
         recipient: &[u8],
@@ -131,7 +133,7 @@ impl OutcomeTexts {
         &self.bytes[self.offsets.original as usize..self.offsets.mta as usize]
     }
 
-    /// What the remote system said.
+    /// The response of the remote system.
     pub(crate) fn diagnostic(&self) -> &[u8]
         ensures { result.now ≡ self.now.diagnostic }
     {
@@ -152,7 +154,7 @@ impl OutcomeTexts {
         &self.bytes[self.offsets.recipient_type as usize..self.offsets.original_type as usize]
     }
 
-    /// The type of what the remote system said.
+    /// The type of the diagnostic.
     pub(crate) fn diagnostic_type(&self) -> &[u8]
         ensures { result.now ≡ self.now.diagnostic_type }
     {
@@ -166,7 +168,7 @@ impl OutcomeTexts {
         &self.bytes[self.offsets.diagnostic_type as usize..self.offsets.extensions as usize]
     }
 
-    /// The agent's own words.
+    /// The agent's own explanation.
     pub(crate) fn reason(&self) -> &[u8]
         ensures { result.now ≡ self.now.reason }
     {
@@ -174,8 +176,8 @@ impl OutcomeTexts {
     }
 }
 
-/// Puts a text after the others, if there is room for it. It takes no memory. Most texts of an
-/// outcome are empty, and cost one test.
+/// Appends a text. Requires that there is room for it, so it takes no memory. Most texts of an
+/// outcome are empty, and cost one comparison.
 fn append(bytes: &mut Vec<u8>, text: &[u8])
     requires { vec_len bytes.old + length text.now ≤ vec_capacity bytes.old }
     ensures items { bytes.new.items ≡ bytes.old.items ++ text.now }
@@ -187,8 +189,8 @@ fn append(bytes: &mut Vec<u8>, text: &[u8])
     }
 }
 
-/// Puts a text after the others with `?` for each byte that isn't printable, if there is room for
-/// it. It takes no memory.
+/// Appends a text with `?` in place of each byte that isn't printable. Requires that there is room
+/// for it, so it takes no memory.
 fn append_cleaned(bytes: &mut Vec<u8>, text: &[u8])
     requires { vec_len bytes.old + length text.now ≤ vec_capacity bytes.old }
     ensures items { bytes.new.items ≡ bytes.old.items ++ clean_text text.now }

@@ -3,14 +3,14 @@ use crate::body::Body;
 use crate::lane_item::Carried;
 use std::marker::Model;
 
-/// What one agent asks, with its place among the agent's requests.
+/// A request of one agent, with its place among the agent's requests.
 #[derive(Drop)]
 pub struct Request {
     /// The agent, from 0.
     pub agent: u32,
-    /// How many requests of the agent were accepted before.
+    /// How many requests of the agent were accepted before this one.
     pub number: u32,
-    /// What it asks.
+    /// What the request asks for.
     pub body: Body,
 }
 

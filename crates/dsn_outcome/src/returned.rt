@@ -1,19 +1,20 @@
-//! What a notice returns of the message.
+//! Which part of the message a notice returns.
 //! Implements RFC 3461 section 4.3 and docs/FORMATS.md, "Flush: close the log and make its notice".
 ghost use Rattle.std.specs.Prelude.{◌≡◌};
 ghost use Rattle.dsn_outcome.specs.Returned.{returned_byte, returned_of_byte};
 
-/// What a flush's header field holds, and so what its notice returns (RFC 3461 section 4.3).
+/// What a flush's header field holds, which is what its notice returns (RFC 3461 section 4.3).
 #[derive(Clone, Copy, Debug, PartialEq, Eq)]
 pub enum Returned {
     /// The message's header.
     Header,
-    /// The whole message. If it can't be in a 7bit mail as it is, its header is returned.
+    /// The whole message. If it can't be in a 7bit mail unchanged, the notice returns its header.
     Message,
 }
 
 impl Returned {
-    /// What a flush's byte means: 0 header, 1 message.
+    /// The meaning of a flush's byte: 0 is the header, 1 is the message. Returns `None` for any
+    /// other byte.
     pub fn from_byte(byte: u8) -> Option<Returned>
         ensures { result ≡ returned_of_byte byte }
     {
@@ -24,7 +25,7 @@ impl Returned {
         }
     }
 
-    /// Its byte in a flush.
+    /// The byte that encodes it in a flush.
     pub fn byte(self) -> u8
         ensures { result ≡ returned_byte self }
     {

@@ -3,18 +3,20 @@
 ghost use Rattle.std.specs.Prelude.{◌≡◌};
 ghost use Rattle.dsn_outcome.specs.Wording.{wording_byte, wording_of_byte};
 
-/// By what a notice's words are chosen (this project's profile).
+/// What the words of a notice depend on (this project's profile).
 #[derive(Clone, Copy, Debug, PartialEq, Eq)]
 pub enum Wording {
-    /// By its service alone.
+    /// Its service only.
     ByService,
-    /// By its service and its outcomes: a trace of successes says so, what is returned is named by
-    /// the service, and of a recipient the original one is told.
+    /// Its service and its outcomes. A trace in which every recipient succeeded has words of its
+    /// own. The description of the returned part depends on the service. The original recipient is
+    /// named if it isn't the final one.
     ByOutcome,
 }
 
 impl Wording {
-    /// What a flush's byte means: 0 by service, 1 by outcome.
+    /// The meaning of a flush's byte: 0 is by service, 1 is by outcome. Returns `None` for any
+    /// other byte.
     pub fn from_byte(byte: u8) -> Option<Wording>
         ensures { result ≡ wording_of_byte byte }
     {
@@ -25,7 +27,7 @@ impl Wording {
         }
     }
 
-    /// Its byte in a flush.
+    /// The byte that encodes it in a flush.
     pub fn byte(self) -> u8
         ensures { result ≡ wording_byte self }
     {

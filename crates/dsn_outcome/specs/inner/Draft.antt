@@ -1,4 +1,4 @@
--- Drafts: what a flush says of the notice that it asks for, before the outcomes are added.
+-- Drafts: which of them are legal.
 use Rattle.std.specs.Prelude.{◌≤◌, length, IsTrue}
 use Rattle.dsn_outcome.specs.Draft.{Draft, is_count}
 use Rattle.dsn_text.specs.Extension.{is_extension_text}
@@ -6,7 +6,8 @@ use Rattle.dsn_text.specs.Optional.{is_none_or}
 use Rattle.dsn_text.specs.Stamp.{last_moment}
 use Rattle.dsn_text.specs.Text.{is_address, is_envelope_id, longest_header}
 
--- a legal draft: each moment has a date of four digits of years, and each text is within its bounds, and so is the number of outcomes
+-- a legal draft: each moment is at most the last one with a year of four digits; each text and the
+-- expected number are within their bounds
 pub record IsLegalDraft (draft : Draft) : Type 0 where
   pub moment_dated : draft.moment ≤ last_moment
   pub arrival_dated : draft.arrival ≤ last_moment

@@ -1,4 +1,4 @@
--- Cells: what a draft, a letter and a queued letter are in memory, seen as letters.
+-- Cells: the letters that the memory of drafts, letters and queued letters represents.
 use Rattle.std.specs.Prelude.{◌≡◌, List, [], ◌∷◌, Option, Some, None, Box}
 use Rattle.std.specs.declared.alloc.Global.{Global}
 use Rattle.dsn_outcome.specs.Draft.{Draft}
@@ -7,7 +7,7 @@ use Rattle.dsn_outcome.specs.declared.letter_cell.LetterCell.{LetterCell, Letter
 use Rattle.dsn_outcome.specs.declared.letter_cell.Sealed.{Sealed}
 use Rattle.dsn_text.specs.declared.service.Service.TheVariants.{Bounce}
 
--- the letter of these terms; without a sealed log it reports nothing
+-- the letter with these terms; without a sealed log it has no outcomes
 abbrev pub letter_from : Draft → Option Sealed → Letter
 letter_from terms
     None = record {
@@ -38,15 +38,15 @@ abbrev mutual
   letters_along None' = []
   letters_along (Some' place cell) = letters_from cell
 
--- the letters that are linked behind a cell
+-- the letters that are linked after a cell
 abbrev pub letters_behind : LetterCell → List Letter
 letters_behind (LetterCell' terms sealed next) = letters_along next
 
--- nothing is linked behind a cell
+-- nothing is linked after a cell
 abbrev pub IsUnlinked : LetterCell → Type 0
 IsUnlinked cell = letters_behind cell ≡ []
 
--- the letters from an owner's link on
+-- the letters from a link on
 abbrev pub letters_linked : Option (Box LetterCell Global) → List Letter
 letters_linked None = []
 letters_linked (Some first) = letters_from first.value

@@ -1,4 +1,4 @@
--- Outcomes: what became of one recipient, and which of them are legal (RFC 3464 section 2.3).
+-- Outcome texts: how the texts of an outcome share one piece of memory.
 use Rattle.std.specs.Prelude.{IsTrue, ℕ, List, take, drop, slice_range, ◌≤◌, length, Option}
 use Rattle.dsn_outcome.specs.Outcome.{Fields, Outcome}
 use Rattle.dsn_outcome.specs.declared.outcome_texts.Offsets.{Offsets}
@@ -7,7 +7,7 @@ use Rattle.dsn_text.specs.Stamp.{is_moment}
 use Rattle.dsn_text.specs.declared.action.Action.{Action}
 use Rattle.dsn_text.specs.declared.service.Service.{Service}
 
--- each of the two moments of an outcome's fields has a date, where there is one
+-- each of the two moments in an outcome's fields has a date if it is there
 pub record AreDated (fields : Fields) : Type 0 where
   pub last_attempt : IsTrue (is_none_or is_moment fields.last_attempt)
   pub retry_until : IsTrue (is_none_or is_moment fields.retry_until)
@@ -23,7 +23,7 @@ pub record OutcomeTexts : Type 0 where
   pub diagnostic : List ℕ
   pub reason : List ℕ
 
--- the texts in these bytes, by the offset behind each but the last: the next one begins there
+-- the texts in these bytes; each offset is the end of a text and the beginning of the next one
 abbrev pub texts_in : List ℕ → Offsets → OutcomeTexts
 texts_in bytes offsets = record {
   recipient = take offsets.recipient bytes;
@@ -37,7 +37,7 @@ texts_in bytes offsets = record {
   reason = drop offsets.diagnostic bytes;
 }
 
--- no text ends before it begins, and none goes on past the bytes
+-- the offsets are in order and within the bytes
 pub record AreInOrder (bytes : List ℕ) (offsets : Offsets) : Type 0 where
   pub original : offsets.recipient ≤ offsets.original
   pub mta : offsets.original ≤ offsets.mta

@@ -1,5 +1,5 @@
--- Pieces of the text of several lines, of which each may reach over several lines: a block is put together from its
--- lines, and each of them from its parts.
+-- A block is the text of several lines, passed in pieces that may contain several lines: it is composed of its lines,
+-- and each line of its parts.
 use Rattle.std.proofs.Common.{◌≡◌, ℕ, Bool, true, false, not, List, [], ◌∷◌, ◌++◌, codes, refl, sym, ap, ◌∙◌, ◌-◌, take, length, arith, length-append, append_assoc}
 use Rattle.std.proofs.Math.Seq.{take-append_seam}
 use Rattle.std.specs.Prelude.{◌==◌}
@@ -13,12 +13,12 @@ use Rattle.dsn_report.specs.inner.LineWriter.{IsBlock, begins_plainly}
 use Rattle.dsn_report.specs.Lines.{begins_with_dot, text_of_lines}
 use Rattle.dsn_report.specs.Notice.{words_by}
 
--- a line of these parts, put together as definitions write it
+-- a line of these parts, appended as definitions do it
 abbrev pub joined : List ℕ → List (List ℕ) → List ℕ
 joined first [] = first
 joined first (part ∷ parts) = joined (first ++ part) parts
 
--- the parts before a rest, put together as pieces are
+-- the parts before a rest, appended as pieces are
 abbrev pub one_by_one : List (List ℕ) → List ℕ → List ℕ
 one_by_one [] rest = rest
 one_by_one (part ∷ parts) rest = part ++ one_by_one parts rest
@@ -28,12 +28,12 @@ joined-one_by_one first [] rest = refl
 joined-one_by_one first (part ∷ parts) rest =
     sym (append_assoc first part (one_by_one parts rest)) ∙ joined-one_by_one (first ++ part) parts rest
 
--- no lines
+-- an empty block
 pub block-none : IsBlock [] []
 unfolding text_of_lines
 block-none = record { text_is = refl; no_dot = refl }
 
--- a line of these parts, and then the lines of a block
+-- a block with a line of these parts in front
 pub block-line : {lines : List (List ℕ)} {text : List ℕ} (first : List ℕ) (parts : List (List ℕ)) → begins_with_dot (joined first parts) ≡ false
     → IsBlock lines text → IsBlock (joined first parts ∷ lines) (first ++ one_by_one parts (13 ∷ 10 ∷ text))
 unfolding text_of_lines
@@ -42,7 +42,7 @@ block-line {lines} {text} first parts plain block = record {
   no_dot = or_from (begins_with_dot (joined first parts)) (list_any begins_with_dot lines) plain block.no_dot;
 }
 
--- an empty line, and then the lines of a block
+-- a block with an empty line in front
 pub block-empty : {lines : List (List ℕ)} {text : List ℕ} → IsBlock lines text → IsBlock ([] ∷ lines) (13 ∷ 10 ∷ text)
 block-empty block = block-line [] [] refl block
 
@@ -56,7 +56,7 @@ opening-plain ByOutcome Defer arrived = refl
 opening-plain ByOutcome Trace true = refl
 opening-plain ByOutcome Trace false = refl
 
--- a line that begins with a name begins with no dot, whatever follows
+-- a line that begins with a plain name doesn't begin with a dot
 pub plain-line : (name value : List ℕ) → begins_plainly name ≡ true → begins_with_dot (name ++ value) ≡ false
 plain-line [] value plain = cc
 plain-line (byte ∷ rest) value plain = here (byte == 46) plain
@@ -65,7 +65,7 @@ plain-line (byte ∷ rest) value plain = here (byte == 46) plain
     here true e = cc
     here false e = refl
 
--- a recipient and what was done for it, as pieces have them and as definitions do
+-- the line of a recipient and its action, appended as pieces are and as definitions do it
 pub told-alone : (recipient action status : List ℕ)
     → (codes "<" ++ recipient ++ codes ">: " ++ action ++ codes " (" ++ status ++ codes ")") ∷ []
     ≡ ((codes "<" ++ recipient ++ codes ">") ++ codes ": " ++ action ++ codes " (" ++ status ++ codes ")") ∷ []
@@ -85,7 +85,7 @@ boundary-front front number four =
     let len : length (front ++ number) - 4 ≡ length front = omega (arith, length-append front number) in
     rw len (take-append_seam front number)
 
--- what stands before the parts of a notice, and after them, with an empty line before each part
+-- the parts of a notice between its header and its last delimiter, with an empty line before each part
 pub parts-after : (header first second third last : List (List ℕ))
     → header ++ (([] ∷ first) ++ (([] ∷ second) ++ (([] ∷ third) ++ last)))
     ≡ header ++ [] ∷ [] ++ (first ++ [] ∷ []) ++ (second ++ [] ∷ []) ++ third ++ last

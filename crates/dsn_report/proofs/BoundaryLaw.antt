@@ -1,5 +1,4 @@
--- A text has too few bytes to rule out all numbers, so the search finds the least number that none of its lines rules
--- out.
+-- A text has too few bytes to rule out all numbers, so the search finds the least number that no line rules out.
 use Rattle.std.proofs.Common.{◌≡◌, ℕ, zero, suc, ◌+◌, ◌*◌, ◌<◌, ◌≤◌, inl, inr, Bool, true, false, List, [], ◌∷◌, ◌++◌, length, drop, codes, refl, sym, ap, subst, ◌∙◌, arith, if◌then◌else◌, length-append}
 use Rattle.std.specs.List.{list_any}
 use Rattle.std.specs.Prelude.{decimal}
@@ -17,7 +16,7 @@ boundary_text-length : (letter : Letter) (k : ℕ) → length (boundary_text let
 unfolding boundary_text
 boundary_text-length letter k = length-append (boundary_front letter) (four_digits k)
 
--- what they begin with has at least four bytes: a letter and three dots
+-- the front of a boundary has at least four bytes: a letter and three dots
 boundary_front-length : (letter : Letter) → 4 ≤ length (boundary_front letter)
 boundary_front-length letter =
     let front = service_letter letter.key.service ∷ codes "." in
@@ -29,19 +28,19 @@ boundary_front-length letter =
       length-append front letter.key.id,
     )
 
--- a line rules out one of the letter's numbers at most
+-- a line rules out at most one of the letter's numbers
 letter-once : (letter : Letter) (line : List ℕ) (j k : ℕ) → j < 10000 → k < 10000
     → is_delimiter (boundary_text letter j) line ≡ true → is_delimiter (boundary_text letter k) line ≡ true → j ≡ k
 unfolding boundary_text
 letter-once letter line j k p q is also = delimiter-once (boundary_front letter) line j k p q is also
 
--- a line that rules a number out is long
+-- a line that rules out a number has at least ten bytes
 delimiter-long : (letter : Letter) (line : List ℕ) (k : ℕ) → is_delimiter (boundary_text letter k) line ≡ true → 10 ≤ length line
 delimiter-long letter line k is =
     let whole = ap (λ l. length l) (delimiter-begins (boundary_text letter k) line is) in
     omega (arith, whole, length-append (codes "--" ++ boundary_text letter k) (drop (length (codes "--" ++ boundary_text letter k)) line), boundary_text-length letter k, boundary_front-length letter)
 
--- the numbers that a line rules out cost it eleven bytes each, its line feed included
+-- each number that a line rules out takes eleven bytes of it, its line feed included
 count-line : (letter : Letter) (line : List ℕ) (n : ℕ) → n ≤ 10000 → 11 * count_below (λ k. is_delimiter (boundary_text letter k) line) n ≤ length line + 1
 count-line letter line n few = elim (leb_tells 10 (length line)) [
   | inl long ↦
@@ -54,7 +53,7 @@ count-line letter line n few = elim (leb_tells 10 (length line)) [
       omega (arith, none)
 ]
 
--- and so for several lines
+-- each number that several lines rule out takes eleven bytes of them
 count-lines : (letter : Letter) (ls : List (List ℕ)) (n : ℕ) → n ≤ 10000
     → 11 * count_below (λ k. list_any (is_delimiter (boundary_text letter k)) ls) n ≤ room ls
 unfolding room
@@ -73,7 +72,7 @@ some-free letter short all =
     let cost = count-lines letter (returned_lines letter.draft) 2980 (omega arith) in
     omega (arith, everything, cost, room-returned letter.draft)
 
--- the search passed each smaller number
+-- every number smaller than the found one passes the test
 passed-step : (test : ℕ → Bool) (number found k : ℕ) (here : Bool) → test number ≡ here → number ≤ k → k < (if here then found else number)
     → (suc number ≤ k → k < found → test k ≡ true) → test k ≡ true
 passed-step test number found k false is from below later = absurd (omega arith)
@@ -88,7 +87,7 @@ first_failing-passed test number zero k from below = absurd (omega arith)
 first_failing-passed test number (suc tries) k from below =
     passed-step test number (first_failing test (suc number) tries) k (test number) refl from below (first_failing-passed test (suc number) tries k)
 
--- and found one that fails, unless it ended
+-- the found number fails the test, unless the tries were used up
 found-step : (test : ℕ → Bool) (number found tries : ℕ) (here : Bool) → test number ≡ here → (if here then found else number) < number + suc tries
     → (found < suc number + tries → test found ≡ false) → test (if here then found else number) ≡ false
 found-step test number found tries false is below later = is
@@ -110,7 +109,7 @@ first_failing-bound test number zero = omega arith
 first_failing-bound test number (suc tries) =
     bound-step number (first_failing test (suc number) tries) tries (test number) (first_failing-bound test (suc number) tries)
 
--- so the number is the least free one
+-- the boundary's number is the least free number
 pub boundary_number-is : (letter : Letter) → length letter.draft.header ≤ 32768 → IsBoundaryNumber letter (boundary_number letter)
 unfolding boundary_number
 boundary_number-is letter short =
@@ -125,7 +124,7 @@ boundary_number-is letter short =
       least = least;
     }
 
--- there is one least free number
+-- there is only one least free number
 pub boundary_number-only : (letter : Letter) (number : ℕ) → length letter.draft.header ≤ 32768 → IsBoundaryNumber letter number → number ≡ boundary_number letter
 boundary_number-only letter number short is =
     let own = boundary_number-is letter short in

@@ -1,4 +1,4 @@
--- What one returned line says of the boundary's number, and how the table of the numbers that are ruled out grows.
+-- How one returned line restricts the boundary's number, and how the table of ruled-out numbers grows.
 use Rattle.std.proofs.Common.{◌≡◌, ℕ, suc, cond, ◌+◌, ◌/◌, ◌%◌, ◌<◌, inl, inr, Bool, true, false, ◌||◌, List, [], ◌∷◌, ◌++◌, length, length-append, append_assoc, take, drop, map, get_or, codes, refl, sym, ap, subst, ◌∙◌, arith, if◌then◌else◌, slice_set}
 use Rattle.std.specs.Prelude.{not, position, ◌==◌, nat_eq, IfSome, IfNone, IsTrue, IsFalse, Option, Some, None}
 use Rattle.std.specs.List.{list_any, position_or_len, starts_with}
@@ -16,11 +16,11 @@ use Rattle.dsn_report.specs.Boundary.{IsBoundaryNumber, boundary_front, boundary
 use Rattle.dsn_report.specs.inner.Boundary.{is_dashed, rules_out}
 use Rattle.dsn_report.specs.inner.NoticeLines.{byte_shown, line_shown, lines_shown, taken_lines}
 
--- a text that begins with another
+-- a text that begins with another one is that text and a rest
 begins-with : (front text : List ℕ) → starts_with nat_eq text front ≡ true → text ≡ front ++ drop (length front) text
 begins-with front text is = (starts_is Decides-eqb text front true (sym is)).0 refl
 
--- the same beginning of both decides nothing
+-- whether one text begins with another doesn't depend on a common front of both
 starts_with-append : (front text needle : List ℕ) → starts_with nat_eq (front ++ text) (front ++ needle) ≡ starts_with nat_eq text needle
 starts_with-append [] text needle = refl
 starts_with-append (byte ∷ front) text needle = rw ((Decides-eqb byte byte).1 refl) (starts_with-append front text needle)
@@ -34,7 +34,7 @@ delimiter-boundary boundary line is =
     ap (λ l. take (length boundary) (drop 2 l)) (delimiter-begins boundary line is)
     ∙ take-append_seam boundary (drop (length (codes "--" ++ boundary)) line)
 
--- two numbers with the same digits are the same
+-- two numbers with the same four digits are equal
 four_digits-once : (j k : ℕ) → j < 10000 → k < 10000 → four_digits j ≡ four_digits k → j ≡ k
 four_digits-once j k p q e =
     let thousands : 48 + j / 1000 ≡ 48 + k / 1000 = cc in
@@ -43,7 +43,7 @@ four_digits-once j k p q e =
     let ones : 48 + j % 10 ≡ 48 + k % 10 = cc in
     omega arith
 
--- a line rules out one number at most
+-- a line rules out at most one number
 pub delimiter-once : (front line : List ℕ) (j k : ℕ) → j < 10000 → k < 10000
     → is_delimiter (front ++ four_digits j) line ≡ true → is_delimiter (front ++ four_digits k) line ≡ true → j ≡ k
 delimiter-once front line j k p q is also =
@@ -54,7 +54,7 @@ delimiter-once front line j k p q is also =
     ∙ ap (λ n. take n (drop 2 line)) long
     ∙ delimiter-boundary (front ++ four_digits k) line also))
 
--- a text with another byte in the place of a digit begins with no number
+-- a text with a byte other than a digit in one of the four places begins with no number
 pub no-number : (text : List ℕ) (place : ℕ) (digit : ℕ → ℕ) → ((k : ℕ) → k < 10000 → digit k < 10)
     → ((k : ℕ) (rest : List ℕ) → get_or (four_digits k ++ rest) place 0 ≡ 48 + digit k)
     → ((value : ℕ) → value < 10 → get_or text place 0 ≡ 48 + value → ⊥)
@@ -63,7 +63,7 @@ no-number text place digit low stands other k below =
     false_from_ne_true _ (λ is.
     other (digit k) (low k below) (ap (λ t. get_or t place 0) (begins-with (four_digits k) text is) ∙ stands k (drop 4 text)))
 
--- after two dashes and the boundary's front a line rules out the number that follows
+-- a line with two dashes and the boundary's front rules out the number that follows
 delimiter-after : (front line inner rest : List ℕ) (k : ℕ) → line ≡ codes "--" ++ inner → inner ≡ front ++ rest
     → is_delimiter (front ++ four_digits k) line ≡ starts_with nat_eq rest (four_digits k)
 delimiter-after front line inner rest k outer e =
@@ -81,7 +81,7 @@ pub rules-out-none : (front line inner rest : List ℕ) (read_off : Option ℕ) 
 rules-out-none front line inner rest None outer e none = λ k below. delimiter-after front line inner rest k outer e ∙ none k below
 rules-out-none front line inner rest (Some k) outer e none = tt
 
--- a line without the boundary's front after its dashes rules out no number
+-- a line without the boundary's front after two dashes rules out no number
 pub no-front : (front line inner : List ℕ) → line ≡ codes "--" ++ inner → ((rest : List ℕ) → inner ≡ front ++ rest → ⊥)
     → (k : ℕ) → is_delimiter (front ++ four_digits k) line ≡ false
 no-front front line inner outer other k =
@@ -90,7 +90,7 @@ no-front front line inner outer other k =
     (begins-with (front ++ four_digits k) inner (sym (starts_with-append (codes "--") inner (front ++ four_digits k)) ∙ ap (is_delimiter (front ++ four_digits k)) (sym outer) ∙ is)
     ∙ append_assoc front (four_digits k) _))
 
--- a byte that is shown as a dash is one
+-- a byte that is shown as a dash is a dash
 shown-dash : (whole : Bool) (byte : ℕ) → byte_shown whole byte ≡ 45 → byte ≡ 45
 shown-dash true byte shown = shown
 shown-dash false byte shown = here (is_printable byte || (byte == 9)) shown
@@ -99,7 +99,7 @@ shown-dash false byte shown = here (is_printable byte || (byte == 9)) shown
     here true e = e
     here false e = absurd (omega (arith, e))
 
--- a line that doesn't begin with two dashes is no delimiter as it is shown
+-- a line that doesn't begin with two dashes is no delimiter when it is shown
 not-dashed : (whole : Bool) (boundary line : List ℕ) → is_dashed line ≡ false → is_delimiter boundary (line_shown whole line) ≡ false
 not-dashed whole boundary line other = false_from_ne_true _ (λ is. dashed line other (delimiter-begins boundary (line_shown whole line) is))
   where
@@ -118,14 +118,14 @@ none-dashed whole boundary (line ∷ lines) none =
     let parts = or_parts (is_dashed line) (list_any is_dashed lines) none in
     rw (not-dashed whole boundary line parts.0, none-dashed whole boundary lines parts.1) refl
 
--- what the table and the lines that are left say of a number, once a line is read
+-- whether a number is ruled out follows from the table and the lines that are left
 marked-other : (all marked here rest : Bool) → all ≡ (marked || (here || rest)) → here ≡ false → all ≡ (marked || rest)
 marked-other all marked here rest read_off none = read_off ∙ rw none refl
 
 marked-here : (all marked here rest : Bool) → all ≡ (marked || (here || rest)) → here ≡ true → all ≡ true
 marked-here all marked here rest read_off some = read_off ∙ rw some (or-true marked)
 
--- the table with one more number
+-- the table after one more number is marked
 marked-more : (all here rest : Bool) (table : List Bool) (found number : ℕ) → found < length table → (here ≡ true → found ≡ number) → (found ≡ number → here ≡ true)
     → all ≡ (get_or table number false || (here || rest)) → all ≡ (get_or (slice_set table found true) number false || rest)
 marked-more all here rest table found number room once back read_off = elim (eqb_tells number found) [
@@ -137,7 +137,7 @@ marked-more all here rest table found number room once back read_off = elim (eqb
       ∙ ap (λ marked. marked || rest) (sym (get_or-set_other table found number true false other.1))
 ]
 
--- a number that the next line doesn't rule out, and one that it does
+-- the table marks the numbers below 2,980 that the lines so far rule out; the remaining lines rule out the rest
 abbrev pub IsMarked : List ℕ → Bool → List (List ℕ) → List Bool → List (List ℕ) → Type 0
 IsMarked front whole all table left =
     (number : ℕ) → number < 2980
@@ -162,7 +162,7 @@ IsMarked-some front line whole all table left rest found e size low is so_far = 
     (λ same. subst (λ n. is_delimiter (front ++ four_digits n) (line_shown whole line) ≡ true) same is)
     (so_far number below ∙ ap (λ left. get_or table number false || list_any (is_delimiter (front ++ four_digits number)) (map (line_shown whole) left)) e)
 
--- where no element passes, each fails
+-- if no element passes a test, each one fails it
 position-None : {X : Type 0} (p : X → Bool) (xs : List X) (d : X) → position p xs ≡ None → (k : ℕ) → k < length xs → p (get_or xs k d) ≡ false
 position-None p xs d none k below = elim (leb_tells (suc (position_or_len p xs)) (length xs)) [
   | inl some ↦ absurd (some≢none (position_or_len p xs) (sym (ap (λ test. cond test (Some (position_or_len p xs)) None) some.0) ∙ none))
@@ -172,7 +172,7 @@ position-None p xs d none k below = elim (leb_tells (suc (position_or_len p xs))
     some≢none : (n : ℕ) → Some n ≡ None → ⊥
     some≢none n e = cc
 
--- the whole table says of each number whether it is ruled out
+-- the final table shows for each number whether it is ruled out
 ruled_out-rules_out : (letter : Letter) (front : List ℕ) (all : List (List ℕ)) (number : ℕ) → front ≡ boundary_front letter → all ≡ returned_lines letter.draft
     → rules_out front all number ≡ is_ruled_out letter number
 unfolding is_ruled_out boundary_text
@@ -181,7 +181,7 @@ ruled_out-rules_out letter front all number f l = rw (f, l) refl
 abbrev pub IsTable : List ℕ → List (List ℕ) → List Bool → Type 0
 IsTable front all table = (number : ℕ) → number < 2980 → get_or table number false ≡ rules_out front all number
 
--- the first free number of the table is the boundary's
+-- the first free number in the table is that of the boundary
 pub IsBoundaryNumber-first : (letter : Letter) (front : List ℕ) (all : List (List ℕ)) (table : List Bool) (number : ℕ) → front ≡ boundary_front letter → all ≡ returned_lines letter.draft
     → length table ≡ 2980 → IsTable front all table → position not table ≡ Some number → IsBoundaryNumber letter number
 IsBoundaryNumber-first letter front all table number f l size read_off first =
@@ -195,21 +195,21 @@ IsBoundaryNumber-first letter front all table number f l size read_off first =
           ∙ not-false (get_or table smaller false) (found.2 smaller below);
     }
 
--- a table with no free number rules out all of them
+-- a table without a free number means that all its numbers are ruled out
 pub all-ruled_out : (letter : Letter) (front : List ℕ) (all : List (List ℕ)) (table : List Bool) → front ≡ boundary_front letter → all ≡ returned_lines letter.draft
     → length table ≡ 2980 → IsTable front all table → position not table ≡ None → (number : ℕ) → number < 2980 → is_ruled_out letter number ≡ true
 all-ruled_out letter front all table f l size read_off none number below =
     sym (ruled_out-rules_out letter front all number f l) ∙ sym (read_off number below)
     ∙ not-false (get_or table number false) (position-None not table false none number (omega (arith, size, below)))
 
--- lines none of which begins with two dashes rule out no number
+-- lines that don't begin with two dashes rule out no number
 none-ruled_out : (letter : Letter) (whole : Bool) (text : List ℕ) (number : ℕ) → lines_shown whole text ≡ returned_lines letter.draft
     → list_any is_dashed (taken_lines whole text) ≡ false → is_ruled_out letter number ≡ false
 unfolding is_ruled_out
 none-ruled_out letter whole text number shown none =
     ap (list_any (is_delimiter (boundary_text letter number))) (sym shown) ∙ none-dashed whole (boundary_text letter number) (taken_lines whole text) none
 
--- without a line that begins with two dashes no number is ruled out
+-- if no line begins with two dashes, the least free number is 0
 pub none_ruled_out : (letter : Letter) (whole : Bool) (text : List ℕ) → lines_shown whole text ≡ returned_lines letter.draft
     → list_any is_dashed (taken_lines whole text) ≡ false → IsBoundaryNumber letter 0
 none_ruled_out letter whole text shown none = record {

@@ -1,4 +1,4 @@
--- A text without a dash has no line that begins with two.
+-- A text without a dash has no line that begins with two dashes.
 use Rattle.std.proofs.Common.{◌≡◌, ℕ, ◌-◌, zero, suc, cond, Bool, true, false, List, [], ◌∷◌, length, get_or, take, codes, refl, sym, ap, ◌∙◌, if◌then◌else◌}
 use Rattle.std.specs.Prelude.{◌==◌}
 use Rattle.std.specs.List.{list_any, onto_first, slice_split}
@@ -13,7 +13,7 @@ use Rattle.dsn_report.specs.inner.NoticeLines.{taken_lines}
 abbrev has_dash : List ℕ → Bool
 has_dash text = list_any (λ byte. byte == 45) text
 
--- what is true of no element is true of none of the first ones
+-- what is true of no element is true of none of the first n
 none-taken : {X : Type 0} (test : X → Bool) (n : ℕ) (xs : List X) → list_any test xs ≡ false → list_any test (take n xs) ≡ false
 none-taken test zero xs none = refl
 none-taken test (suc n) [] none = refl
@@ -21,12 +21,12 @@ none-taken test (suc n) (x ∷ xs) none =
     let parts = or_parts (test x) (list_any test xs) none in
     or_from (test x) (list_any test (take n xs)) parts.0 (none-taken test n xs parts.1)
 
--- a text without a dash doesn't begin with two
+-- a text without a dash doesn't begin with two dashes
 not-dashed : (text : List ℕ) → has_dash text ≡ false → is_dashed text ≡ false
 not-dashed text none =
     false_from_ne_true _ (λ is. false≢true (sym none ∙ ap has_dash ((starts_is Decides-eqb text (codes "--") true (sym is)).0 refl)))
 
--- nor does such a line without its carriage return
+-- a line without a dash doesn't begin with two dashes after its carriage return is removed
 not-dashed-stripped : (line : List ℕ) → has_dash line ≡ false → is_dashed (strip_carriage_return line) ≡ false
 not-dashed-stripped line none = here (get_or line (length line - 1) 0 == 13)
   where
@@ -34,21 +34,21 @@ not-dashed-stripped line none = here (get_or line (length line - 1) 0 == 13)
     here true = not-dashed (take (length line - 1) line) (none-taken (λ byte. byte == 45) (length line - 1) line none)
     here false = not-dashed line none
 
--- one byte more, which isn't a dash, leaves the parts without one
+-- another byte than a dash adds no dash to the parts
 parts-more : (ends : Bool) (byte : ℕ) (parts : List (List ℕ)) → (byte == 45) ≡ false → list_any has_dash parts ≡ false
     → list_any has_dash (cond ends ([] ∷ parts) (onto_first byte parts)) ≡ false
 parts-more true byte parts other none = none
 parts-more false byte [] other none = rw other refl
 parts-more false byte (part ∷ parts) other none = rw other none
 
--- the parts of a text without a dash have none
+-- the parts of a text without a dash have no dash
 parts-plain : (test : ℕ → Bool) (text : List ℕ) → has_dash text ≡ false → list_any has_dash (slice_split test text) ≡ false
 parts-plain test [] none = refl
 parts-plain test (byte ∷ rest) none =
     let bytes = or_parts (byte == 45) (has_dash rest) none in
     parts-more (test byte) byte (slice_split test rest) bytes.0 (parts-plain test rest bytes.1)
 
--- and no line of such parts begins with two dashes
+-- no line of parts without dashes begins with two dashes
 lines-plain : (parts : List (List ℕ)) → list_any has_dash parts ≡ false → list_any is_dashed (lines_of_parts parts) ≡ false
 lines-plain [] none = refl
 lines-plain (part ∷ []) none = here (length part == 0)

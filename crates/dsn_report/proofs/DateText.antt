@@ -11,7 +11,7 @@ use Rattle.dsn_text.specs.Text.{is_printable}
 pub printable-between : (byte : ℕ) → 32 ≤ byte → byte ≤ 126 → is_printable byte ≡ true
 printable-between byte low high = rw (le-leb 32 byte low, le-leb byte 126 high) refl
 
--- a text of printable bytes, as a test
+-- whether all bytes of a text are printable
 abbrev is_shown : List ℕ → Bool
 is_shown = list_all is_printable
 
@@ -31,7 +31,7 @@ shown-index [] k all = refl
 shown-index (name ∷ names) zero all = (and-parts (is_shown name) (list_all is_shown names) all).0
 shown-index (name ∷ names) (suc k) all = shown-index names k (and-parts (is_shown name) (list_all is_shown names) all).1
 
--- what holds of the date so many days after 1 January 1970: a year takes at least 336 days
+-- bounds of the date that is the given number of days after 1 January 1970; a year has at least 336 days
 record Bounded (days : ℕ) (date : CivilDate) : Type 0 where
   day_least : 1 ≤ date.day
   day_most : date.day ≤ 31

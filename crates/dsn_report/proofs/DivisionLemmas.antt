@@ -27,7 +27,7 @@ use Rattle.dsn_report.proofs.ExtensionLemmas.{extension_lines-pass, none-delimit
 use Rattle.dsn_report.proofs.LinesLemmas.{notice_lines-legal}
 use Rattle.dsn_report.proofs.PieceLemmas.{has_line_bytes-legal, map-text_of_pieces, pieces-lines}
 
--- ---- lines that are no delimiters
+-- ---- lines that are not delimiters
 
 abbrev NoneDelimits : List ℕ → List (List ℕ) → Type 0
 NoneDelimits boundary lines = list_any (is_delimiter boundary) lines ≡ false
@@ -187,7 +187,7 @@ divide-returned boundary description content_type [] tail none = divide-last bou
 divide-returned boundary description content_type (line ∷ ls) tail none =
     divide-part boundary description content_type (line ∷ ls) ((codes "--" ++ boundary ++ codes "--") ∷ tail) [] tail none (divide-last boundary tail)
 
--- the part that a letter's notice returns
+-- the returned part of a letter's notice
 abbrev own_returned : Letter → List ℕ → List (List ℕ)
 own_returned letter boundary =
     returned_part boundary (returned_description (words_of letter) (returns_message letter.draft)) (returned_type (returns_message letter.draft)) (returned_lines letter.draft)

@@ -1,4 +1,4 @@
--- The dots that a sender adds, a receiver takes away, of one message and of all those of a session.
+-- A receiver removes the dots that a sender adds, in one message and in all messages of a session.
 use Rattle.std.proofs.Common.{◌≡◌, ℕ, Bool, true, false, List, [], ◌∷◌, ◌++◌, Some, None, map, codes, refl, sym, ap, ◌∙◌, if◌then◌else◌, inl, inr, append_assoc, append-nil}
 use Rattle.std.specs.Prelude.{All}
 use Rattle.std.specs.List.{list_all, flat_map}
@@ -18,7 +18,7 @@ use Rattle.dsn_report.specs.Outbox.{data_lines, greeting, goodbye, mail_data, ma
 use Rattle.dsn_report.specs.Site.{IsHost}
 use Rattle.dsn_report.specs.WellFormed.{IsWellFormed}
 
--- up to the line that ends the data, each line comes back
+-- the receiver gets each line before the one that ends the data
 message_lines-dot_stuffed : (lines after : List (List ℕ)) → message_lines (map dot_stuffed lines ++ (codes "." ∷ after)) ≡ lines
 unfolding message_lines dot_stuffed
 message_lines-dot_stuffed [] after = refl
@@ -29,7 +29,7 @@ message_lines-dot_stuffed (line ∷ rest) after =
     here [] more = refl
     here (byte ∷ bytes) more = elim (eqb_tells byte 46) [ inl dot ↦ rw dot.0 refl | inr other ↦ simp other.0 refl ]
 
--- a dot is a byte of a line
+-- an added dot is a byte that a line may hold
 line-bytes-dot_stuffed : (lines : List (List ℕ)) → has_line_bytes lines ≡ true → has_line_bytes (map dot_stuffed lines) ≡ true
 unfolding dot_stuffed
 line-bytes-dot_stuffed [] legal = refl
@@ -52,7 +52,7 @@ transaction-bytes host letter formed =
     let path = fit-append (fit-append (fit-known 9 (codes "RCPT TO:<") refl refl) (fit-path letter.draft.return_path formed.path_legal)) (fit-known 1 (codes ">") refl refl) in
     rw (fit-mail path, data-bytes host letter formed) refl
 
--- the lines of the message come back from those of its data
+-- the receiver gets the lines of the message from those of its data
 message_lines-data : (host : List ℕ) (letter : Letter) → text_of_lines (message_lines (data_lines host letter ++ [] ∷ [])) ≡ notice_of host letter
 unfolding notice_of
 message_lines-data host letter =
@@ -73,7 +73,7 @@ dots_law host letter formed =
 
 -- ---- a whole session
 
--- a message under way comes to its end
+-- an unfinished message gets its end
 messages_in-dot_stuffed : (message lines after : List (List ℕ))
     → messages_in (Some message) (map dot_stuffed lines ++ (codes "." ∷ after)) ≡ (message ++ lines) ∷ messages_in None after
 unfolding messages_in dot_stuffed

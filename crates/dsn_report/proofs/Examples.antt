@@ -79,7 +79,7 @@ retried_until : date_text 1700432000 ≡ codes "Sun, 19 Nov 2023 22:13:20 +0000"
 unfolding date_text civil_after
 retried_until = refl
 
--- a delayed recipient: when delivery was last tried, and until when it is tried again
+-- a delayed recipient: when delivery was last tried, and until when it is retried
 delayed_recipient :
     per_recipient_fields (record bob_fails { service = Defer; action = Delayed; status = codes "4.4.1"; last_attempt = Some 1700000000; retry_until = Some 1700432000 }) ≡
     codes "Final-Recipient: rfc822; bob@example.org"
@@ -91,7 +91,7 @@ delayed_recipient :
 unfolding per_recipient_fields line_if_any lines_ended_by_lf
 delayed_recipient = rw (flushed_at, retried_until) refl
 
--- a recipient whose address, original address and diagnostic are of other types than the usual ones
+-- a recipient whose address, original address and diagnostic have unusual types
 typed_recipient :
     per_recipient_fields (record bob_fails {
       recipient = codes "+15551234@example.org";
@@ -110,7 +110,7 @@ typed_recipient :
 unfolding per_recipient_fields line_if_any lines_ended_by_lf
 typed_recipient = refl
 
--- a recipient of whom the mail system says more: its extension fields come last, as they stand
+-- a recipient with extension fields, which are last and unchanged
 extended_recipient :
     per_recipient_fields (record bob_fails {
       mta = Some (codes "mx.example.org");
@@ -126,7 +126,7 @@ extended_recipient :
 unfolding per_recipient_fields line_if_any lines_ended_by_lf
 extended_recipient = refl
 
--- a message of which the mail system says more: its extension fields end its group, as they stand
+-- a message with extension fields, which end its group unchanged
 extended_message :
     per_message_fields host (letter_with (record (to_ann (Some (codes "QQ314159")) []) { extensions = codes "X-Postfix-Queue-ID: 4F9D195432C\nX-Postfix-Sender: rfc822; ann@example.com\n" }) bob_fails) ≡
     codes "Original-Envelope-Id: QQ314159"
@@ -138,7 +138,7 @@ extended_message :
 unfolding per_message_fields line_if_any lines_ended_by_lf
 extended_message = rw arrived_at refl
 
--- its fields stand in its own group, before the first recipient's
+-- the fields of the message are in its own group, before the first recipient's
 extended_message_and_recipient :
     delivery_status host (letter_with (record (to_ann None []) { extensions = codes "X-A: b\nX-C: d\n" }) (record bob_fails { extensions = codes "X-E: f\n" })) ≡
     codes "Reporting-MTA: dns; mx.example.net"
@@ -257,7 +257,7 @@ all_optional_fields : notice_of host (letter_with (to_ann (Some (codes "QQ314159
 unfolding notice_of notice_lines lines_with_boundary notice_header part_header part_of notification recipient_told outcome_lines returned_part delivery_status per_message_fields per_recipient_fields line_if_any lines_ended_by_lf text_of_lines boundary_text boundary_number is_ruled_out first_failing returned_lines returns_message header_lines digits
 all_optional_fields = rw (flushed_at, arrived_at) refl
 
--- a returned line that begins with the delimiter of number 0: the boundary has number 1, and the body isn't returned
+-- a returned line begins with the delimiter of number 0: the boundary has number 1, and the body isn't returned
 abbrev colliding_header : List ℕ
 colliding_header = codes "--B.A1B2C3.1700000000.0000x" ++ lf ++ codes "Subject: hi" ++ crlf ++ crlf ++ codes "body"
 
@@ -273,14 +273,14 @@ boundary_collision_returned : returned_lines (to_ann None colliding_header) ≡ 
 unfolding returned_lines returns_message header_lines
 boundary_collision_returned = refl
 
--- a dot, a long line, and bytes that a notice doesn't show; a carriage return is one where no line feed follows
+-- a dot, a long line, and bytes that a notice doesn't show; a CR without a following LF is such a byte
 dots_long_lines_eight_bit :
     map dot_stuffed (returned_lines (to_ann None (codes ".x" ++ lf ++ replicate 1200 97 ++ lf ++ 98 ∷ 233 ∷ 13 ∷ 99 ∷ 10 ∷ []))) ≡
     codes "..x" ∷ replicate 998 97 ∷ codes "b??c" ∷ []
 unfolding returned_lines returns_message header_lines dot_stuffed
 dots_long_lines_eight_bit = refl
 
--- a header that begins with an empty line returns nothing, and so has no third part
+-- a header that begins with an empty line returns nothing, so there is no third part
 empty_first_line : returned_lines (to_ann None (crlf ++ codes "Subject: hi" ++ crlf)) ≡ []
 unfolding returned_lines returns_message header_lines
 empty_first_line = refl
@@ -295,7 +295,8 @@ empty_outbox = refl
 abbrev message_of_ann : List ℕ → Draft
 message_of_ann message = record (to_ann None message) { returned = Message }
 
--- a message in ISO-2022-JP, with a dot, an empty line and a tab: each of its lines as it is, and a CR goes with its LF
+-- a message in ISO-2022-JP, with a dot, an empty line and a tab: each line is unchanged, and a CR before an LF is
+-- removed with it
 abbrev japanese : List ℕ
 japanese = 27 ∷ 36 ∷ 66 ∷ 70 ∷ 124 ∷ 75 ∷ 92 ∷ 27 ∷ 40 ∷ 66 ∷ []
 
@@ -305,7 +306,7 @@ message_as_it_is :
 unfolding returned_lines returns_message stands_whole
 message_as_it_is = refl
 
--- where a line is too long, or has a byte above 127, a NUL or a CR of its own, the header is returned
+-- if a line is too long, or has a byte above 127, a NUL or a CR of its own, the header is returned
 long_line_by_header : returned_lines (message_of_ann (codes "Subject: hi" ++ lf ++ lf ++ replicate 999 97)) ≡ codes "Subject: hi" ∷ []
 unfolding returned_lines returns_message stands_whole header_lines
 long_line_by_header = refl
@@ -331,7 +332,7 @@ empty_first_line_of_message : returned_lines (message_of_ann (crlf ++ codes "hi"
 unfolding returned_lines returns_message stands_whole
 empty_first_line_of_message = refl
 
--- a line of a message's body rules a number out too
+-- a line of a message's body also rules out a number
 abbrev colliding_message : List ℕ
 colliding_message = codes "Subject: hi" ++ lf ++ lf ++ codes "--B.A1B2C3.1700000000.0000--" ++ lf
 
@@ -343,7 +344,7 @@ body_of_header_rules_nothing_out : boundary_number (letter_with (to_ann None col
 unfolding boundary_number first_failing is_ruled_out returned_lines returns_message header_lines boundary_text digits
 body_of_header_rules_nothing_out = refl
 
--- its part of the notice
+-- the part of the notice with this message
 message_part : returned_part (codes "B") (words_by ByService Bounce true).message (codes "message/rfc822") (returned_lines (message_of_ann colliding_message)) ≡
     codes "--B"
     ∷ codes "Content-Description: Undelivered Message"
@@ -371,7 +372,7 @@ success_by_outcome = refl
 success_by_service : (words_by ByService Trace true).subject ≡ codes "Mail Delivery Status Report"
 success_by_service = refl
 
--- the original recipient is told where it is another one, and the wording is by outcome
+-- the original recipient is named if it isn't the final one and the wording is by outcome
 origin_by_outcome : outcome_lines ByOutcome (record bob_fails { original = Some (codes "list@example.org") }) ≡ codes "<bob@example.org> (expanded from <list@example.org>): failed (5.1.1)" ∷ []
 unfolding outcome_lines recipient_told line_if_any
 origin_by_outcome = refl

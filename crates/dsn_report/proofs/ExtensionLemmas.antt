@@ -1,4 +1,4 @@
--- Extension fields stand in a notice as they are: what each of their lines is.
+-- Extension fields are unchanged in a notice: properties of each of their lines.
 use Rattle.std.proofs.Common.{◌≡◌, ℕ, zero, suc, ◌+◌, ◌<◌, Bool, true, false, List, [], ◌∷◌, ◌++◌, None, length, drop, map, codes, refl, sym, ap, ◌∙◌, arith, append_assoc, length-drop, if◌then◌else◌}
 use Rattle.std.specs.Prelude.{◌&&◌, ◌==◌, nat_eq, nat_lt}
 use Rattle.std.specs.List.{starts_with, before_first, after_first, position_or_len, list_all, list_any}
@@ -12,7 +12,7 @@ use Rattle.dsn_report.specs.Grammar.{Field, field_line, same_text, value_of, is_
 use Rattle.dsn_report.specs.Lines.{begins_with_dot}
 use Rattle.dsn_report.proofs.PlainLemmas.{IsPlain, and-parts, extension_name-plain, extension_value-plain}
 
--- each line of a text that passes the test passes it too
+-- each line of a valid text of extension fields is valid
 lines-found : (found : Bool) (most : ℕ) (text : List ℕ) → nat_lt (position_or_len is_feed text) (length text) ≡ found
     → (are_extension_lines most (after_first is_feed text) ≡ true → list_all is_extension_line (lines_ended_by_lf (after_first is_feed text)) ≡ true)
     → (if found then (is_extension_line (before_first is_feed text) && are_extension_lines most (after_first is_feed text)) else length text == 0) ≡ true
@@ -46,14 +46,14 @@ pub extension-name : (line : List ℕ) → is_extension_line line ≡ true → i
 unfolding is_extension_line
 extension-name line is = (and-parts (is_extension_name (before_first is_field_colon line)) _ is).0
 
--- what stands after the colon is a space and the value
+-- the text after the colon is a space and the value
 space-first : (rest : List ℕ) → is_extension_rest rest ≡ true → rest ≡ 32 ∷ drop 1 rest
 space-first [] is = absurd (false≢true is)
 space-first (byte ∷ rest) is =
     let front = (and-parts (starts_with nat_eq (byte ∷ rest) (codes " ")) _ is).0 in
     ap (λ (b : ℕ). b ∷ rest) (sym (eqb-true 32 byte (and-parts (nat_eq 32 byte) true front).0))
 
--- something stands after the colon only where there is one
+-- if there is text after a colon, there is a colon
 colon-found : (line : List ℕ) (byte : ℕ) (rest : List ℕ) → after_first is_field_colon line ≡ byte ∷ rest → position_or_len is_field_colon line < length line
 colon-found line byte rest is = omega (arith, ap length is, length-drop (position_or_len is_field_colon line + 1) line)
 
@@ -82,7 +82,7 @@ extension-no_dot line is = ap begins_with_dot (extension-first line is)
 pub extension-no_delimiter : (boundary line : List ℕ) → is_extension_line line ≡ true → is_delimiter boundary line ≡ false
 extension-no_delimiter boundary line is = ap (is_delimiter boundary) (extension-first line is)
 
--- its name and its value are printable and short
+-- the name and the value of a line are printable and short
 pub extension-name_plain : (line : List ℕ) → is_extension_line line ≡ true → IsPlain 64 (extension_field line).name
 extension-name_plain line is = extension_name-plain (extension_field line).name (extension-name line is)
 
@@ -106,7 +106,7 @@ extensions-laid (line ∷ lines) pass =
     let parts = and-parts (is_extension_line line) (list_all is_extension_line lines) pass in
     ap (λ (first : List ℕ). first ∷ lines) (extension-laid line parts.0) ∙ ap (λ (rest : List (List ℕ)). field_line (extension_field line) ∷ rest) (extensions-laid lines parts.1)
 
--- no extension field has a name that begins otherwise
+-- no extension field has a name that doesn't begin with X
 pub none-of-extensions : (name : List ℕ) → ((rest : List ℕ) → same_text name (88 ∷ rest) ≡ false) → (lines : List (List ℕ)) → list_all is_extension_line lines ≡ true
     → value_of name (map extension_field lines) ≡ None
 none-of-extensions name other [] pass = refl
@@ -115,7 +115,7 @@ none-of-extensions name other (line ∷ lines) pass =
     let differ : same_text name (extension_field line).name ≡ false = ap (same_text name) (name-first (extension_field line).name (extension-name line parts.0)) ∙ other (drop 1 (extension_field line).name) in
     rw (differ, none-of-extensions name other lines parts.1) refl
 
--- they stand after all known names
+-- extension fields may follow all known names
 pub choice-extensions : (lines : List (List ℕ)) → list_all is_extension_line lines ≡ true → is_choice_of [] (map extension_field lines) ≡ true
 choice-extensions [] pass = refl
 choice-extensions (line ∷ lines) pass =
@@ -128,7 +128,7 @@ plain-extensions (line ∷ lines) pass =
     let parts = and-parts (is_extension_line line) (list_all is_extension_line lines) pass in
     rw ((extension-value_plain line parts.0).printable, plain-extensions lines parts.1) refl
 
--- and are all of them extension fields
+-- all of these fields are extension fields
 pub all-extensions : (lines : List (List ℕ)) → list_all is_extension_line lines ≡ true → extensions_in (map extension_field lines) ≡ map extension_field lines
 all-extensions [] pass = refl
 all-extensions (line ∷ lines) pass =

@@ -46,11 +46,12 @@ fields_of_message id host date lines =
 abbrev message_fields : List ℕ → Letter → List Field
 message_fields host letter = fields_of_message letter.draft.envelope_id host (date_text letter.draft.arrival) (lines_ended_by_lf letter.draft.extensions)
 
--- the fields of a recipient from its extension fields on, from Will-Retry-Until on, from Last-Attempt-Date on, and so from each that may be missing
+-- the fields of a recipient, from the last on: the extension fields, with Will-Retry-Until before them, with
+-- Last-Attempt-Date before these, and so on for each field that may be missing
 abbrev extension_fields : Outcome → List Field
 extension_fields outcome = map extension_field (lines_ended_by_lf outcome.extensions)
 
--- each of its extension fields is one
+-- each extension field of an outcome is valid
 abbrev ArePassed : Outcome → Type 0
 ArePassed outcome = list_all is_extension_line (lines_ended_by_lf outcome.extensions) ≡ true
 
@@ -77,7 +78,7 @@ final_fields outcome =
 abbrev recipient_fields : Outcome → List Field
 recipient_fields outcome = field_if_any (codes "Original-Recipient") (typed [] usual_address_type outcome.original_type) outcome.original ++ final_fields outcome
 
--- in order, whatever is missing
+-- the fields of a message are in order, whatever is missing
 message-in-order : (id : Option (List ℕ)) (host date : List ℕ) (lines : List (List ℕ)) → list_all is_extension_line lines ≡ true
     → is_choice_of per_message_names (fields_of_message id host date lines) ≡ true
 message-in-order None host date lines pass = choice-extensions lines pass
@@ -85,19 +86,19 @@ message-in-order (Some id) host date lines pass = choice-extensions lines pass
 
 -- ---- fields that may be missing
 
--- one of another name
+-- a field of another name doesn't change the value of a name
 value-skips : (name other kind : List ℕ) (value : Option (List ℕ)) (rest : List Field) → same_text name other ≡ false
     → value_of name (field_if_any other kind value ++ rest) ≡ value_of name rest
 value-skips name other kind None rest differ = refl
 value-skips name other kind (Some text) rest differ = rw differ refl
 
--- the one of this name, which no later field has
+-- a field of this name has the value, if no later field has the name
 value-finds : (name kind : List ℕ) (value : Option (List ℕ)) (rest : List Field) → same_text name name ≡ true → value_of name rest ≡ None
     → value_of name (field_if_any name kind value ++ rest) ≡ option_map (λ text. kind ++ text) value
 value-finds name kind None rest same none = none
 value-finds name kind (Some text) rest same none = rw same refl
 
--- a value with nothing before it
+-- a value with an empty prefix
 no-kind : (value : Option (List ℕ)) → option_map (λ text. [] ++ text) value ≡ value
 no-kind None = refl
 no-kind (Some text) = refl
@@ -107,7 +108,7 @@ pick-later : (same first later : Bool) (value : List ℕ) (found : Option (List 
 pick-later true first later value found none e = cc
 pick-later false first later value found none e = e
 
--- a name that no field has may stand before the names that the fields choose from
+-- a name that no field has may be before the names that the fields are chosen from
 choice-skips : (name : List ℕ) (names : List (List ℕ)) (fields : List Field) → value_of name fields ≡ None → is_choice_of names fields ≡ true
     → is_choice_of (name ∷ names) fields ≡ true
 choice-skips name names [] none e = refl
@@ -207,7 +208,7 @@ status-laid-out host letter pass legal =
 
 -- ---- the values
 
--- a field that may be missing is no extension field
+-- a field that may be missing is not an extension field
 extensions-skip : (name kind : List ℕ) (value : Option (List ℕ)) (rest : List Field) → is_extension_name name ≡ false
     → extensions_in (field_if_any name kind value ++ rest) ≡ extensions_in rest
 extensions-skip name kind None rest known = refl
@@ -256,7 +257,7 @@ group-gives outcome passed = record {
         → value_of name (mta_fields outcome) ≡ None
     none name m d a r x = from-mta outcome passed name m ∙ from-diagnostic outcome passed name d ∙ from-attempt outcome passed name a ∙ none-of-retry outcome passed name r x
 
--- a recipient of whom it is said until when delivery is tried is delayed
+-- a recipient with Will-Retry-Until is delayed
 retry-delayed : (action : Action) (retry_until : Option ℕ) → fits_retry action retry_until ≡ true → IsSome (option_map date_text retry_until)
     → Some (action_word action) ≡ Some (codes "delayed")
 retry-delayed Delayed retry_until fits some = refl
@@ -269,7 +270,7 @@ retry-delayed Delivered None fits some = cc
 retry-delayed Relayed None fits some = cc
 retry-delayed Expanded None fits some = cc
 
--- ---- what the texts keep
+-- ---- invariants of the texts
 
 plain-if-any : (name kind : List ℕ) (value : Option (List ℕ)) → list_all is_printable kind ≡ true → is_none_or (list_all is_printable) value ≡ true
     → has_plain_values (field_if_any name kind value) ≡ true
@@ -302,7 +303,7 @@ word-known Delivered = refl
 word-known Relayed = refl
 word-known Expanded = refl
 
--- what stands before the text of a value that has a type
+-- the text before a typed value is printable
 typed-printable : (usual : List ℕ) (kind : Option (List ℕ)) → list_all is_printable usual ≡ true → is_none_or is_type_name kind ≡ true → list_all is_printable (typed [] usual kind) ≡ true
 typed-printable usual None u e = shown-append usual (codes "; ") u refl
 typed-printable usual (Some kind) u e = shown-append kind (codes "; ") (type_name-plain kind e).printable refl

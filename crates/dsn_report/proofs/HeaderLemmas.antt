@@ -26,14 +26,14 @@ lines_of_parts-cons : (p : ℕ → Bool) (x : List ℕ) (text : List ℕ)
 lines_of_parts-cons p x [] = refl
 lines_of_parts-cons p x (b ∷ rest) = part-before (p b) x b (slice_split p rest)
 
--- the bytes before the first line feed are none
+-- no byte before the first line feed is a line feed
 none-before : (text : List ℕ) (end : ℕ) → end ≤ length text → Nowhere (Passes (is_byte 10) text) 0 end → All (λ b. is_byte 10 b ≡ false) (take end text)
 none-before text end within before = λ k d short.
     let low : k < end = omega (arith, length-take end text) in
     let same : get_or (take end text) k d ≡ get_or text k 0 = get_or-take end text k d low ∙ get_or_default text k d 0 (omega arith) in
     ap (is_byte 10) same ∙ false_from_ne_true _ (before k (omega arith) low)
 
--- where the first line feed stands, the first line ends
+-- the first line ends at the first line feed
 pub lines-at : (text : List ℕ) (end : ℕ) → end < length text → Nowhere (Passes (is_byte 10) text) 0 end → Passes (is_byte 10) text end
     → lines text ≡ strip_carriage_return (take end text) ∷ lines (drop (end + 1) text)
 lines-at text end within before here =
@@ -45,7 +45,7 @@ lines-at text end within before here =
     ∙ slice_split_at (is_byte 10) (take end text) (get_or text end 0) (drop (end + 1) text) (none-before text end (omega arith) before) here in
     ap lines_of_parts parts ∙ lines_of_parts-cons (is_byte 10) (take end text) (drop (end + 1) text)
 
--- with no line feed a text is one line, or none
+-- a text without a line feed is one line, or none if it is empty
 pub lines-none : (text : List ℕ) → Nowhere (Passes (is_byte 10) text) 0 (length text) → lines text ≡ (if length text == 0 then [] else text ∷ [])
 lines-none text nowhere =
     let none : All (λ b. is_byte 10 b ≡ false) text = subst (All (λ b. is_byte 10 b ≡ false)) (take-length text) (none-before text (length text) (omega arith) nowhere) in
@@ -56,7 +56,7 @@ take-first : (empty : Bool) (line : List ℕ) (n : ℕ) (others : List (List ℕ
 take-first true line n others = refl
 take-first false line n others = let next : 1 + n ≡ suc n = omega arith in ap (λ m. take m (line ∷ others)) next
 
--- the header goes on at a line that isn't empty
+-- the header continues after a line that isn't empty
 pub header_lines-first : (text line rest : List ℕ) → lines text ≡ line ∷ lines rest
     → header_lines text ≡ (if length line == 0 then [] else line ∷ header_lines rest)
 unfolding header_lines
@@ -64,7 +64,7 @@ header_lines-first text line rest e =
     ap (before_first (λ line. length line == 0)) e
     ∙ take-first (length line == 0) line (prefix_len (λ line. not (length line == 0)) (lines rest)) (lines rest)
 
--- the header of a text that is one line, or none
+-- the header of a text that is one line or empty
 pub header_lines-last : (text : List ℕ) → lines text ≡ (if length text == 0 then [] else text ∷ [])
     → header_lines text ≡ (if length text == 0 then [] else text ∷ header_lines [])
 unfolding header_lines
@@ -77,18 +77,18 @@ header_lines-last text e = ap (before_first (λ line. length line == 0)) e ∙ l
 not-none : (n : ℕ) → (suc n == 0) ≡ false
 not-none n = grind arith
 
--- a text that isn't empty goes on at its first line
+-- the lines of a text that isn't empty are its first line and those of the rest
 pub lines-some : (text line rest : List ℕ) → 0 < length text → lines text ≡ line ∷ lines rest
     → lines text ≡ (if length text == 0 then [] else line ∷ lines rest)
 lines-some [] line rest some e = absurd (omega (arith, some))
 lines-some (byte ∷ text) line rest some e = rw (not-none (length text)) e
 
--- a text that is one line, or none
+-- the lines of a text that is one line or empty
 pub lines-last : (text : List ℕ) → lines text ≡ (if length text == 0 then [] else text ∷ [])
     → lines text ≡ (if length text == 0 then [] else text ∷ lines [])
 lines-last text e = e
 
--- the bytes of a line that are shown, as far as they go
+-- the shown bytes of a line, up to the length limit
 pub shown-whole : (whole : Bool) (line : List ℕ) (len : ℕ) → len ≡ min (length line) 998 → map (byte_shown whole) (take len (take len line)) ≡ line_shown whole line
 shown-whole whole line len e =
     let short : len ≤ 998 = omega arith in
@@ -96,7 +96,7 @@ shown-whole whole line len e =
     sym (take-take len 998 line short) ∙ take_all len (take 998 line) (omega (arith, length-take 998 line)) in
     ap (map (byte_shown whole)) (take-take len len line (omega arith) ∙ front) ∙ sym (take-map (byte_shown whole) 998 line)
 
--- the lines of a message that is returned whole are shown as they are
+-- the lines of a message that is returned whole are unchanged
 bytes-kept : (line : List ℕ) → map (byte_shown true) line ≡ line
 bytes-kept [] = refl
 bytes-kept (byte ∷ line) = rw (bytes-kept line) refl
@@ -112,7 +112,7 @@ lines-kept (line ∷ ls) legal =
     let parts = and_parts (is_mail_line line) (list_all is_mail_line ls) legal in
     rw (line-kept line parts.0, lines-kept ls parts.1) refl
 
--- whether there are lines to be shown
+-- whether any lines are shown
 one-or-none : (f : List ℕ → List ℕ) (empty : Bool) (line : List ℕ) (ls : List (List ℕ)) → (length (map f (if empty then [] else line ∷ ls)) == 0) ≡ empty
 one-or-none f true line ls = refl
 one-or-none f false line ls = not-none (length (map f ls))
@@ -123,7 +123,7 @@ pub none_shown : (whole : Bool) (text line rest : List ℕ) → header_lines tex
 none_shown true text line rest header all = sym (ap (λ ls. length (map (line_shown true) ls) == 0) all ∙ one-or-none (line_shown true) (length text == 0) line (lines rest))
 none_shown false text line rest header all = sym (ap (λ ls. length (map (line_shown false) ls) == 0) header ∙ one-or-none (line_shown false) (length line == 0) line (header_lines rest))
 
--- what is shown of a draft's text is what its notice returns
+-- the lines shown of a draft's text are those that its notice returns
 pub shown-returned : (draft : Draft) → lines_shown (returns_message draft) draft.header ≡ returned_lines draft
 unfolding returned_lines returns_message stands_whole
 shown-returned draft = here (returns_message draft) refl
@@ -132,7 +132,7 @@ shown-returned draft = here (returns_message draft) refl
     here true is = lines-kept (lines draft.header) (and_parts (is_message draft.returned) _ is).1
     here false is = refl
 
--- the line that stands behind a dot
+-- the line after a dot
 pub line-behind : (len : ℕ) (shown line : List ℕ) → take (len + 1) shown ≡ 46 ∷ line → take (len + 1 - 1) (drop 1 shown) ≡ line
 line-behind len [] line e = let none : take (suc len) [] ≡ 46 ∷ line = rw add-one at e in absurd cc
 line-behind len (byte ∷ rest) line e =
@@ -140,13 +140,13 @@ line-behind len (byte ∷ rest) line e =
     let same : len + 1 - 1 ≡ len = omega arith in
     rw same (cc)
 
--- without lines there is no returned part
+-- if there are no lines, there is no returned part
 pub returned_part-none : (boundary description content_type : List ℕ) (ls : List (List ℕ)) → (length ls == 0) ≡ true → returned_part boundary description content_type ls ≡ []
 unfolding returned_part
 returned_part-none boundary description content_type [] empty = refl
 returned_part-none boundary description content_type (line ∷ ls) empty = absurd (false≢true (sym (not-none (length ls)) ∙ empty))
 
--- with some there is one
+-- if there are lines, there is a returned part
 pub returned_part-some : (boundary description content_type : List ℕ) (ls : List (List ℕ)) → (length ls == 0) ≡ false
     → returned_part boundary description content_type ls ≡ part_of boundary description content_type ls
 unfolding returned_part

@@ -1,4 +1,4 @@
--- What a writer of lines did with several texts, one after another, is what it did with them together.
+-- The effect of several texts on a writer of lines is that of the joined text.
 use Rattle.std.proofs.Common.{◌≡◌, ℕ, ◌+◌, ◌-◌, ◌<◌, ◌&&◌, if◌then◌else◌, codes, Bool, true, false, List, [], ◌∷◌, ◌++◌, drop, length, take, get_or, map, refl, sym, ap, subst, ◌∙◌, append_assoc, append-nil, add-one}
 use Rattle.std.specs.Prelude.{◌==◌}
 use Rattle.std.specs.List.{flat_map, list_any}
@@ -41,7 +41,7 @@ module _ {W : Type 0} {device : Drain W} where
   pub Took-as : {s t : LineWriter W} {a b : List ℕ} → a ≡ b → Took device s t a → Took device s t b
   Took-as {s} {t} e p = subst (Took device s t) e p
 
-  -- a text that is written after what was held back
+  -- a text that is written after the buffer is taken
   pub Took-written : {s t u : LineWriter W} {text : List ℕ} → Settled device s t → Writes device t.writer u.writer text → u.pending ≡ t.pending → u.dots ≡ t.dots → Took device s u text
   Took-written {s} {t} {u} {text} settled wrote pending dots = record {
     text_taken = λ start before taken. record {
@@ -52,7 +52,7 @@ module _ {W : Type 0} {device : Drain W} where
     dots_kept = dots ∙ settled.dots_kept;
   }
 
-  -- a writer that held nothing back took a text, and was settled: all of the text is written
+  -- if the buffer was empty, and the writer took a text and was settled, all of the text is written
   pub settled-text : {s t u : LineWriter W} {text : List ℕ} → s.pending ≡ [] → Took device s t text → Settled device t u → Writes device s.writer u.writer text
   settled-text {s} {t} {u} {text} none took settled =
       let start : HasTakenText device s.writer s [] = record { front = []; split = sym none; written = writes-none s.writer.failed s.writer.drain } in
@@ -75,17 +75,17 @@ module _ {W : Type 0} {device : Drain W} where
   pub Wrote-as : {s t : LineWriter W} {a b : List (List ℕ)} → a ≡ b → Wrote device s t a → Wrote device s t b
   Wrote-as {s} {t} e p = subst (Wrote device s t) e p
 
-  -- the lines of a value, however that value was come by
+  -- the lines of a value are those of an equal value
   pub Wrote-same : {X : Type 0} (lines : X → List (List ℕ)) (y : X) {x : X} {s t : LineWriter W} → x ≡ y → Wrote device s t (lines x) → Wrote device s t (lines y)
   Wrote-same lines y {x} {s} {t} e p = subst (λ it. Wrote device s t (lines it)) e p
 
--- the pieces of a line, and one more of them
+-- the text of the first pieces of a line, and of one more
 pub flat_map-take-more : {X : Type 0} (f : X → List ℕ) (xs : List X) (i : ℕ) (d : X) → i < length xs
     → flat_map f (take i xs) ++ f (get_or xs i d) ≡ flat_map f (take (i + 1) xs)
 flat_map-take-more f xs i d within =
     rw (add-one, take-suc xs i d within, flat_map-append) (simp append-nil refl)
 
--- lines of which none begins with a dot get no dots
+-- if no line begins with a dot, no dots are added
 dots-none : (lines : List (List ℕ)) → list_any begins_with_dot lines ≡ false → map dot_stuffed lines ≡ lines
 unfolding dot_stuffed
 dots-none [] none = refl
@@ -93,7 +93,7 @@ dots-none (line ∷ rest) none =
     let parts = or_parts (begins_with_dot line) (list_any begins_with_dot rest) none in
     rw (parts.0, dots-none rest parts.1) refl
 
--- the text of such lines is what is sent of them
+-- the text of such lines is the text to be sent
 pub block_text : (dots : Bool) (lines : List (List ℕ)) (text : List ℕ) → IsBlock lines text → text ≡ text_of_lines (lines_sent dots lines)
 block_text true lines text block = block.text_is ∙ ap text_of_lines (sym (dots-none lines block.no_dot))
 block_text false lines text block = block.text_is
@@ -102,7 +102,7 @@ block_text false lines text block = block.text_is
 pub after_dot : (dotted : List ℕ) → take (length dotted - 1) (drop 1 dotted) ≡ drop 1 dotted
 after_dot dotted = take_rest dotted 1
 
--- of a line with its CRLF behind a dot, what is sent is the text of the one line
+-- the text to be sent for a line that is passed with its CRLF after a dot is that of the one line
 dotted_text : (dots : Bool) (line dotted : List ℕ) → dotted ≡ codes "." ++ line ++ codes "\r\n"
     → sent_of_dotted dots dotted ≡ text_of_lines (lines_sent dots (line ∷ []))
 unfolding text_of_lines dot_stuffed
@@ -119,7 +119,7 @@ dotted_text dots line dotted is = rw is (here dots line)
     here true (byte ∷ rest) = with_dot (byte == 46) (byte ∷ rest)
 
 module _ {W : Type 0} {device : Drain W} where
-  -- such a line was written where the text that is sent of it was taken
+  -- the line was written if the writer took the text to be sent for it
   pub Wrote-dotted : {s t : LineWriter W} {text : List ℕ} (line dotted : List ℕ) → text ≡ sent_of_dotted s.dots dotted → dotted ≡ codes "." ++ line ++ codes "\r\n"
       → Took device s t text → Wrote device s t (line ∷ [])
   Wrote-dotted {s} {t} {text} line dotted sent split took = record { took = Took-as (sent ∙ dotted_text s.dots line dotted split) took }

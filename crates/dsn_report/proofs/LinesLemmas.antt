@@ -38,7 +38,7 @@ use Rattle.dsn_report.proofs.PlainLemmas.{IsPlain, and-parts, or-parts, address-
 use Rattle.dsn_report.specs.Boundary.{letter_name, boundary_of, boundary_number, boundary_text, four_digits, shown_byte, shown_line, returned_lines, returns_message, stands_whole, header_lines, is_message}
 use Rattle.dsn_report.specs.LegalLines.{HasLegalLines, is_among, is_line_byte, is_legal_line, is_mail_byte, is_mail_line}
 
--- a text of at most so many bytes, each of which a line may hold
+-- a text has at most the given number of bytes, and a line may hold each of them
 pub record IsFit (most : ℕ) (text : List ℕ) : Type 0 where
   pub legal : list_all is_line_byte text ≡ true
   pub short : length text ≤ most
@@ -58,14 +58,14 @@ fit-append {m} {n} {xs} {ys} p q = record {
   short = rw length-append (omega (arith, p.short, q.short));
 }
 
--- a text that is known
+-- a constant text fits
 pub fit-known : (most : ℕ) (text : List ℕ) → list_all is_line_byte text ≡ true → nat_le (length text) most ≡ true → IsFit most text
 fit-known most text legal short = record { legal = legal; short = leb-true (length text) most short }
 
 pub line-legal : {most : ℕ} {line : List ℕ} → IsFit most line → most ≤ 998 → is_legal_line line ≡ true
 line-legal {most} {line} p few = rw (le-leb (length line) 998 (omega (arith, p.short)), p.legal) refl
 
--- a returned line
+-- a shown byte is one that a line may hold
 shown-legal : (byte : ℕ) → is_line_byte (shown_byte byte) ≡ true
 shown-legal byte = here (is_printable byte || (byte == 9)) refl
   where
@@ -91,12 +91,12 @@ shown-legal-lines : (lines : List (List ℕ)) → list_all is_legal_line (map sh
 shown-legal-lines [] = refl
 shown-legal-lines (line ∷ lines) = rw (line-legal (fit-shown line) (omega arith), shown-legal-lines lines) refl
 
--- the returned lines of a header
+-- the returned lines of a header are legal
 pub header-returned-legal : (draft : Draft) → returns_message draft ≡ false → list_all is_legal_line (returned_lines draft) ≡ true
 unfolding returned_lines
 header-returned-legal draft header = rw header (shown-legal-lines (header_lines draft.header))
 
--- a tab or a printable byte may stand in a mail
+-- a mail may hold tabs and printable bytes
 mail-byte : (byte : ℕ) → is_line_byte byte ≡ true → is_mail_byte byte ≡ true
 mail-byte byte legal = elim (or-parts (is_printable byte) (byte == 9) legal) [
   | inl printable ↦
@@ -130,7 +130,7 @@ mail-lines (line ∷ lines) legal =
     let parts = and-parts (is_legal_line line) (list_all is_legal_line lines) legal in
     rw (mail-line line parts.0, mail-lines lines parts.1) refl
 
--- the returned lines, of a header or of a message
+-- the returned lines of a header or of a message can be in a mail
 returned-mail : (draft : Draft) → list_all is_mail_line (returned_lines draft) ≡ true
 unfolding returned_lines returns_message stands_whole
 returned-mail draft = here (returns_message draft) refl
@@ -139,7 +139,7 @@ returned-mail draft = here (returns_message draft) refl
     here true is = (and-parts (is_message draft.returned) (list_all is_mail_line (lines draft.header)) is).1
     here false is = mail-lines (map shown_line (header_lines draft.header)) (shown-legal-lines (header_lines draft.header))
 
--- each of some lines is one of them
+-- a line is equal to itself
 same-self : (line : List ℕ) → pointwise nat_eq line line ≡ true
 same-self [] = refl
 same-self (byte ∷ line) = rw ((Decides-eqb byte byte).1 refl, same-self line) refl
@@ -294,11 +294,11 @@ fit-extension : (line : List ℕ) → is_extension_line line ≡ true → IsFit 
 fit-extension line is = subst (IsFit 321) (sym (extension-laid line is))
     (fit-append (fit-append (fit-plain (extension-name_plain line is)) (fit-known 2 (codes ": ") refl refl)) (fit-plain (extension-value_plain line is)))
 
--- lines that pass a test, each of them
+-- each of these lines passes a test
 record AreLegal (ok : List ℕ → Bool) (lines : List (List ℕ)) : Type 0 where
   all : list_all ok lines ≡ true
 
--- each line of a notice passes any test that the returned lines pass, and each line of tabs and printable bytes
+-- each line of a notice passes any test that the returned lines pass and each line of tabs and printable bytes passes
 module _ (ok : List ℕ → Bool) (sure : (line : List ℕ) → is_legal_line line ≡ true → ok line ≡ true) (host : List ℕ) (letter : Letter) (formed : IsWellFormed host letter) where
   legal-none : AreLegal ok []
   legal-none = record { all = refl }
@@ -433,7 +433,7 @@ notice_lines-legal host letter formed = (notice-legal is_mail_line mail-line hos
 pub delivery_status-legal : (host : List ℕ) (letter : Letter) → IsWellFormed host letter → list_all is_mail_line (delivery_status host letter) ≡ true
 delivery_status-legal host letter formed = (status-legal is_mail_line mail-line host letter formed).all
 
--- each line is of tabs and printable bytes, or returned
+-- each line is of tabs and printable bytes, or is a returned line
 legal-or : (line : List ℕ) (other : Bool) → is_legal_line line ≡ true → (is_legal_line line || other) ≡ true
 legal-or line other legal = rw legal refl
 

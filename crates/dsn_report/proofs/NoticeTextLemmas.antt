@@ -7,13 +7,13 @@ use Rattle.dsn_report.specs.Lines.{dot_stuffed, text_of_lines}
 use Rattle.dsn_report.specs.Notice.{notice_lines, notice_of}
 use Rattle.dsn_report.specs.Outbox.{mail_data}
 
--- without dots and without an end it is the notice
+-- without added dots and without an end, it is the notice
 pub plain_text : (host : List ℕ) (letter : Letter) (text : List ℕ)
     → text ≡ text_of_lines (lines_sent false (notice_lines host letter)) ++ [] → text ≡ notice_of host letter
 unfolding notice_of
 plain_text host letter text written = written ∙ append-nil (text_of_lines (notice_lines host letter))
 
--- with dots and the one that ends it, it is the mail data
+-- with added dots and the final dot, it is the mail data
 pub data_text : (host : List ℕ) (letter : Letter) (text : List ℕ)
     → text ≡ text_of_lines (lines_sent true (notice_lines host letter)) ++ codes ".\r\n" → text ≡ mail_data host letter
 unfolding mail_data text_of_lines

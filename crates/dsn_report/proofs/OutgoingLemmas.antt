@@ -1,4 +1,4 @@
--- Letters on their way: one letter more, and QUIT.
+-- Letters that are written to the outbox: the effect of one more letter, and of QUIT.
 use Rattle.std.proofs.Common.{◌≡◌, inl, inr, ⊎_elim, ℕ, Bool, true, false, List, [], ◌∷◌, ◌++◌, refl, ap, sym, subst, ◌∙◌, append_assoc}
 use Rattle.std.specs.Prelude.{length, take, Option, None, Some, if◌then◌else◌, not}
 use Rattle.std.specs.Io.KnownBytes.{Appends}
@@ -28,7 +28,7 @@ flat_map-more f (first ∷ rest) x =
     let more = flat_map-more f rest x in
     rw more (simp append_assoc)
 
--- what is written of one letter more, where the greeting is written
+-- the text of one more letter, if the greeting is written
 pub written_of-more : (host : List ℕ) (letters : List Letter) (letter : Letter) → written_of host true (letters ++ letter ∷ []) ≡ written_of host true letters ++ mail_transaction host letter
 written_of-more host letters letter =
     rw (flat_map-more (mail_transaction host) letters letter) (simp append_assoc)
@@ -37,18 +37,18 @@ due : (host : List ℕ) (greeted : Bool) (letters : List Letter) (text : List �
 due host true letters text first = refl
 due host false letters text first = rw (first refl) (simp (append-nil {A = ℕ}))
 
--- what a poster has written, and then writes of one letter more
+-- the text that a poster has written, followed by that of one more letter
 pub post_text-after : {W : Type 0} (poster : Poster W) (letters : List Letter) (letter : Letter) → (poster.greeted ≡ false → letters ≡ []) → written_of poster.host poster.greeted letters ++ post_text poster letter ≡ written_of poster.host true (letters ++ letter ∷ [])
 unfolding post_text
 post_text-after poster letters letter first =
     due poster.host poster.greeted letters (mail_transaction poster.host letter) first ∙ sym (written_of-more poster.host letters letter)
 
--- what a poster has written, and then writes with QUIT
+-- the text that a poster has written, followed by QUIT
 pub finish_text-after : {W : Type 0} (poster : Poster W) (letters : List Letter) → (poster.greeted ≡ false → letters ≡ []) → written_of poster.host poster.greeted letters ++ finish_text poster ≡ outbox_of poster.host letters
 unfolding finish_text outbox_of
 finish_text-after poster letters first = due poster.host poster.greeted letters goodbye first
 
--- a letter that failed or not is handed back as it came
+-- the fault returns the letter unchanged
 handed_back : (failed : Bool) (letter : Letter) → letter_handed_back (post_fault failed letter) ≡ letter
 handed_back true letter = refl
 handed_back false letter = refl
@@ -57,7 +57,7 @@ not-both : (b : Bool) → b ≡ true → b ≡ false → ⊥
 not-both true done lost = cc
 not-both false done lost = cc
 
--- known bytes that have a text, and then a front of another
+-- known bytes that grow by a text, and then by a front of another
 Appends-least : (a b c : Option (List ℕ)) (least text : List ℕ) → Appends a b least → AppendsFront b c text → AppendsAtLeast a c least (least ++ text)
 Appends-least a b c least text all front = record {
   more = front.front;
@@ -74,7 +74,7 @@ none-where : (letters : List Letter) (greeted : Bool) → greeted ≡ are_some l
 none-where [] greeted is none = refl
 none-where (first ∷ rest) greeted is none = absurd (not-both greeted is none)
 
--- one flush more for one letter more
+-- one more letter means one more flush
 flushed_times-more : (letters : List Letter) (letter : Letter) (count : ℕ) → flushed (flushed_times (length letters) count) ≡ flushed_times (length (letters ++ letter ∷ [])) count
 flushed_times-more [] letter count = refl
 flushed_times-more (first ∷ rest) letter count = ap flushed (flushed_times-more rest letter count)
@@ -85,24 +85,24 @@ once-flushed drain false false old new text good well made = (made.once, made.pa
 once-flushed drain true b old new text good well made = absurd (not-both true refl good)
 once-flushed drain false true old new text good well made = absurd (not-both true refl well)
 
--- what is written, flushed and marked without a failure was flushed once, and marked
+-- what is written, flushed and marked without a failure was flushed once and marked
 once-marked : {W : Type 0} (drain : Drain W) (a b : Bool) (old new : W) (text : List ℕ) (serial : ℕ) → a ≡ false → b ≡ false → WrittenAndMarked drain a b old new text serial → TakenAndMarked drain old new text serial
 once-marked drain false false old new text serial good well made = made
 once-marked drain true b old new text serial good well made = absurd (not-both true refl good)
 once-marked drain false true old new text serial good well made = absurd (not-both true refl well)
 
--- what failed now is not marked
+-- a letter in whose call the outbox failed is not marked
 unmarked-now : {W : Type 0} (drain : Drain W) (a b : Bool) (old new : W) (text : List ℕ) (serial : ℕ) → a ≡ false → b ≡ true → WrittenAndMarked drain a b old new text serial → Unmarked drain old new text serial
 unmarked-now drain false true old new text serial good failed made = made
 unmarked-now drain true b old new text serial good failed made = absurd (not-both true refl good)
 unmarked-now drain false false old new text serial good failed made = absurd (not-both false failed refl)
 
--- one letter more is marked
+-- the count after one more letter is marked
 marked_with-more : (letters : List Letter) (letter : Letter) (count : Option ℕ) → marked_by true letter.serial (marked_with letters count) ≡ marked_with (letters ++ letter ∷ []) count
 marked_with-more [] letter count = refl
 marked_with-more (first ∷ rest) letter count = marked_with-more rest letter (marked_by true first.serial count)
 
--- a device that marked letters marks some
+-- a device that marks letters still does after more are marked
 marked_with-some : (letters : List Letter) (count : Option ℕ) → ¬ (marked_with letters count ≡ None) → ¬ (count ≡ None)
 marked_with-some letters None some none = some (still letters)
   where
@@ -111,14 +111,14 @@ marked_with-some letters None some none = some (still letters)
     still (first ∷ rest) = still rest
 marked_with-some letters (Some n) some none = cc
 
--- what is not marked is as it was
+-- if a letter is not marked, the count is unchanged
 not-marked : {W : Type 0} (drain : Drain W) (old new : W) (text : List ℕ) (serial : ℕ) → Unmarked drain old new text serial → drain.marked new ≡ drain.marked old
 not-marked drain old new text serial (until.unflushed lost same still) = same
 not-marked drain old new text serial (until.at_mark all once passed_on same some unsure any_moment) = same
 
--- ---- what a crash leaves of the marks
+-- ---- the marks that a crash leaves
 
--- what says the count of the first of some letters, says that of the first of more
+-- bytes that count the first part of some letters count a first part of one letter more
 first_of_more : (say : List ℕ → ℕ → Type 0) (count : Option ℕ) (letters : List Letter) (letter : Letter) (left : List ℕ) → SayCountOfFirst say count letters left → SayCountOfFirst say count (letters ++ letter ∷ []) left
 first_of_more say count letters letter left some = record {
   first = some.first;
@@ -127,7 +127,7 @@ first_of_more say count letters letter left some = record {
   counted_are = some.counted_are;
 }
 
--- and so does what says the count of all of them, or of one more
+-- so do bytes that count all of them, or one more
 all_or_more : (say : List ℕ → ℕ → Type 0) (count now : Option ℕ) (letters : List Letter) (letter : Letter) (left : List ℕ) → now ≡ marked_with letters count → SayCountOrNext say now letter.serial left → SayCountOfFirst say count (letters ++ letter ∷ []) left
 all_or_more say count now letters letter left is (inl all) = record {
   first = letters;
@@ -143,7 +143,7 @@ all_or_more say count now letters letter left is (inr more) = record {
 }
 
 module _ {W : Type 0} (drain : Drain W) (start old new : W) (letters : List Letter) where
-  -- one letter more is marked, or may be
+  -- one more letter is marked, or may be marked after a crash
   marks-more : (letter : Letter) → MarksFirstOf drain start old letters → (LeavesMarked drain start → LeavesMarked drain old) → drain.marked old ≡ marked_with letters (drain.marked start)
       → (LeavesMarked drain old → LeavesMarkedOrNext drain old new letter.serial) → MarksFirstOf drain start new (letters ++ letter ∷ [])
   marks-more letter so_far leaves is marking begun =
@@ -151,27 +151,27 @@ module _ {W : Type 0} (drain : Drain W) (start old new : W) (letters : List Lett
       (weaker drain.moment drain.left_since start old _ _ (λ left some. first_of_more drain.say (drain.marked start) letters letter left some) (so_far begun))
       (weaker drain.moment drain.left_since old new _ _ (λ left some. all_or_more drain.say (drain.marked start) (drain.marked old) letters letter left is some) (marking (leaves begun)))
 
-  -- something was done that takes no time, and marks nothing
+  -- a call takes no time and marks nothing
   marks-still : MarksAllOf drain start old letters → TakesNoTime drain old new → drain.marked new ≡ drain.marked old → MarksAllOf drain start new letters
   marks-still so_far still same = (
     λ begun. stood_still drain.moment drain.left_since start old new _ still.0 still.1 (so_far.0 begun),
     λ begun. leaves_still drain old new still same (so_far.1 begun),
   )
 
--- what failed now was lost
+-- a text in whose call the outbox failed is lost
 lost-now : {W : Type 0} (drain : Drain W) (a b : Bool) (old new : W) (text : List ℕ) → a ≡ false → b ≡ true → WrittenAndFlushed drain a b old new text → Lost drain old new text
 lost-now drain false true old new text good failed made = made
 lost-now drain true b old new text good failed made = absurd (not-both true refl good)
 lost-now drain false false old new text good failed made = absurd (not-both false failed refl)
 
--- a text that was lost once these letters were written and flushed
+-- the text was lost after these letters were written and flushed
 failed-in : {W : Type 0} (drain : Drain W) (start old new : W) (posted with_next : List Letter) (least text : List ℕ) → Appends (drain.contents start) (drain.contents old) least → drain.flushes old ≡ flushed_times (length posted) (drain.flushes start) → (drain.flushes_surely start → drain.flushes_surely old) → MarksAllOf drain start new posted → Lost drain old new text → FailedIn drain start new posted with_next (least ++ text)
 failed-in drain start old new posted with_next least text all flushes surely marks (until.in_text part none) =
     in_text (Appends-part (drain.contents start) (drain.contents old) (drain.contents new) least text all part) (none ∙ flushes) marks
 failed-in drain start old new posted with_next least text all flushes surely marks (until.at_flush whole once unsure) =
     at_flush (Appends-trans (drain.contents start) (drain.contents old) (drain.contents new) least text all whole) (once ∙ ap flushed flushes) (λ h. unsure (surely h)) marks
 
--- and so one that was not marked
+-- the text was not marked after these letters were written and flushed
 failed-unmarked : {W : Type 0} (drain : Drain W) (start old new : W) (posted : List Letter) (letter : Letter) (least text : List ℕ) → Appends (drain.contents start) (drain.contents old) least → drain.flushes old ≡ flushed_times (length posted) (drain.flushes start) → drain.marked old ≡ marked_with posted (drain.marked start) → (drain.flushes_surely start → drain.flushes_surely old) → MarksAllOf drain start old posted → Unmarked drain old new text letter.serial → FailedIn drain start new posted (posted ++ letter ∷ []) (least ++ text)
 failed-unmarked drain start old new posted letter least text all flushes marked surely marks (until.unflushed lost same still) =
     failed-in drain start old new posted (posted ++ letter ∷ []) least text all flushes surely (marks-still drain start old new posted marks still same) lost
@@ -180,7 +180,7 @@ failed-unmarked drain start old new posted letter least text all flushes marked 
     (marked_with-some posted (drain.marked start) (λ none. some (marked ∙ none))) (λ h. unsure (surely h))
     (marks-more drain start old new posted letter marks.0 marks.1 marked any_moment)
 
--- the furthest that an outbox gets is a front of the text of all letters
+-- the longest possible text of an outbox is a front of the text of all letters
 until-front : (host : List ℕ) (posted unsent : List Letter) → (more : List ℕ) × (outbox_of host (posted ++ unsent) ≡ text_until host posted unsent ++ more)
 unfolding outbox_of
 until-front host posted [] = ([], rw (append-nil posted) (sym (append-nil (outbox_of host posted))))
@@ -188,7 +188,7 @@ until-front host posted (first ∷ rest) =
     let f = mail_transaction host in
     (flat_map f rest ++ goodbye, rw (flat_map-append f posted (first ∷ rest), flat_map-more f posted first) (simp append_assoc))
 
--- where the device flushes surely, an outbox that failed lacks some of the text of all letters
+-- if the device flushes surely, an outbox that failed lacks some of the text of all letters
 short-of : {W : Type 0} (drain : Drain W) (host : List ℕ) (start end : W) (posted with_next unsent letters : List Letter) → letters ≡ posted ++ unsent → FailedIn drain start end posted with_next (text_until host posted unsent) → drain.flushes_surely start → AppendsPart (drain.contents start) (drain.contents end) (outbox_of host letters)
 short-of drain host start end posted with_next unsent letters split (in_text part none marks) surely =
     let front = until-front host posted unsent in
@@ -196,7 +196,7 @@ short-of drain host start end posted with_next unsent letters split (in_text par
 short-of drain host start end posted with_next unsent letters split (at_flush whole once unsure marks) surely = absurd (unsure surely)
 short-of drain host start end posted with_next unsent letters split (at_mark whole once passed_on some unsure marks) surely = absurd (unsure surely)
 
--- what is steady through two steps is steady through both
+-- a device that stays steady in two steps stays steady in both together
 stays-steady : {W : Type 0} (drain : Drain W) (a b c : W) → StaysSteady drain a b → StaysSteady drain b c → StaysSteady drain a c
 stays-steady drain a b c first second steady =
     let one = first steady in
@@ -204,7 +204,7 @@ stays-steady drain a b c first second steady =
     (two.0, two.1 ∙ one.1)
 
 module _ {W : Type 0} (drain : Drain W) (host : List ℕ) (start : W) (old new : Poster W) (unsent letters : List Letter) (letter : Letter) (before : Delivered drain host start (record { poster = old; unsent = unsent }) letters) where
-  -- a poster that wrote a letter had not failed
+  -- a poster that wrote a letter had not failed before
   was-good : (failed : Bool) → old.failed ≡ failed → (old.failed ≡ true → new ≡ old) → new.failed ≡ false → old.failed ≡ false
   was-good true is nothing good = absurd (not-both new.failed (ap (λ (p : Poster W). p.failed) (nothing is) ∙ is) good)
   was-good false is nothing good = is
@@ -213,7 +213,7 @@ module _ {W : Type 0} (drain : Drain W) (host : List ℕ) (start : W) (old new :
   still-good true count is = absurd (not-both true refl is)
   still-good false count is = refl
 
-  -- one letter more was written
+  -- one more letter was written
   pub hand-ok : Appends (drain.contents old.outbox) (drain.contents new.outbox) (post_text old letter) → (old.failed ≡ true → new ≡ old) → new.failed ≡ false → new.greeted ≡ true → new.host ≡ old.host → drain.failures new.outbox ≡ counts_failure old.failed false (drain.failures old.outbox) → WrittenAndMarked drain old.failed new.failed old.outbox new.outbox (post_text old letter) letter.serial → StaysSteady drain old.outbox new.outbox → Delivered drain host start (record { poster = new; unsent = unsent }) (letters ++ letter ∷ [])
   hand-ok sent nothing good greeted same_host count made steady =
       let was : old.failed ≡ false = was-good old.failed refl nothing good in
@@ -251,7 +251,7 @@ module _ {W : Type 0} (drain : Drain W) (host : List ℕ) (start : W) (old new :
         count = rw good at count ∙ ap (counted true) all.good;
       }
 
-  -- a later one
+  -- a later letter that could not be written
   later-lost : old.failed ≡ true → new ≡ old → FrontWritten drain start (record { poster = new; unsent = unsent ++ letter ∷ [] }) (letters ++ letter ∷ [])
   later-lost failed same =
       let some = before.after_fault failed in record {
@@ -270,7 +270,7 @@ module _ {W : Type 0} (drain : Drain W) (host : List ℕ) (start : W) (old new :
   any-lost true is front made now nothing same_host count = later-lost is (nothing is)
   any-lost false is front made now nothing same_host count = first-lost is front made now same_host count
 
-  -- one letter more could not be written
+  -- one more letter could not be written
   pub hand-err : (fault : PostFault) → fault ≡ post_fault old.failed letter → AppendsFront (drain.contents old.outbox) (drain.contents new.outbox) (post_text old letter) → WrittenAndMarked drain old.failed new.failed old.outbox new.outbox (post_text old letter) letter.serial → (old.failed ≡ true → new ≡ old) → new.failed ≡ true → new.host ≡ old.host → drain.failures new.outbox ≡ counts_failure old.failed true (drain.failures old.outbox) → StaysSteady drain old.outbox new.outbox → Delivered drain host start (record { poster = new; unsent = unsent ++ letter_handed_back fault ∷ [] }) (letters ++ letter ∷ [])
   hand-err fault is front made nothing failed same_host count steady =
       let back : letter_handed_back fault ≡ letter = ap letter_handed_back is ∙ handed_back old.failed letter in record {

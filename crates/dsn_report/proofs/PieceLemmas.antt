@@ -1,4 +1,4 @@
--- The pieces of a text of lines are the lines.
+-- The pieces of the text of some lines are the lines.
 use Rattle.std.proofs.Common.{◌≡◌, ℕ, Bool, true, false, ◌&&◌, inl, inr, List, [], ◌∷◌, ◌++◌, map, refl, ap, subst, ◌∙◌, if◌then◌else◌}
 use Rattle.std.specs.Prelude.{◌==◌}
 use Rattle.std.specs.List.{list_all, onto_first}
@@ -8,7 +8,7 @@ use Rattle.dsn_report.proofs.PlainLemmas.{and-parts}
 use Rattle.dsn_report.specs.LegalLines.{is_mail_byte, is_mail_line}
 use Rattle.dsn_report.specs.Lines.{begins_with_line_feed, pieces_more, pieces_of_text, text_of_lines, text_of_pieces, without_first_byte}
 
--- a text has a piece
+-- a text has at least one piece
 pieces-some : (text : List ℕ) → pieces_of_text text ≡ [] → ⊥
 unfolding pieces_of_text pieces_more
 pieces-some [] none = cc
@@ -42,7 +42,7 @@ pieces-line (byte ∷ line) rest legal =
     let parts = and-parts (is_mail_byte byte) (list_all is_mail_byte line) legal in
     rw (not-return byte parts.0, pieces-line line rest parts.1) refl
 
--- lines of bytes that a line may hold
+-- whether lines have only bytes that a line may hold
 abbrev pub has_line_bytes : List (List ℕ) → Bool
 has_line_bytes lines = list_all (list_all is_mail_byte) lines
 
@@ -53,14 +53,14 @@ pieces-lines (line ∷ lines) legal =
     let parts = and-parts (list_all is_mail_byte line) (has_line_bytes lines) legal in
     pieces-line line (text_of_lines lines) parts.0 ∙ ap (λ pieces. line ∷ pieces) (pieces-lines lines parts.1)
 
--- lines of a mail are such lines
+-- lines that can be in a mail have only such bytes
 pub has_line_bytes-legal : (lines : List (List ℕ)) → list_all is_mail_line lines ≡ true → has_line_bytes lines ≡ true
 has_line_bytes-legal [] legal = refl
 has_line_bytes-legal (line ∷ lines) legal =
     let parts = and-parts (is_mail_line line) (list_all is_mail_line lines) legal in
     rw ((and-parts _ (list_all is_mail_byte line) parts.0).1, has_line_bytes-legal lines parts.1) refl
 
--- pieces with an empty one last are the lines of a text
+-- the text of pieces, of which the last is empty, is that of lines
 text_of_pieces-ended : (lines : List (List ℕ)) → text_of_pieces (lines ++ [] ∷ []) ≡ text_of_lines lines
 unfolding text_of_pieces text_of_lines
 text_of_pieces-ended [] = refl

@@ -19,7 +19,7 @@ pub or-parts : (a b : Bool) → (a || b) ≡ true → (a ≡ true) ⊎ (b ≡ tr
 or-parts true b e = inl refl
 or-parts false b e = inr e
 
--- a byte between two printable ones
+-- a byte between two printable bytes is printable
 between-printable : (low high byte : ℕ) → 32 ≤ low → high ≤ 126 → (nat_le low byte && nat_le byte high) ≡ true → is_printable byte ≡ true
 between-printable low high byte least most e =
     let parts = and-parts (nat_le low byte) (nat_le byte high) e in
@@ -69,14 +69,14 @@ class-printable byte e = elim (or-parts (byte == 50) _ e) [
   ]
 ]
 
--- a text of bytes that pass a stricter test
+-- a text whose bytes pass a stricter test is printable
 all-printable : (test : ℕ → Bool) → ((byte : ℕ) → test byte ≡ true → is_printable byte ≡ true) → (text : List ℕ) → list_all test text ≡ true → list_all is_printable text ≡ true
 all-printable test stricter [] e = refl
 all-printable test stricter (byte ∷ text) e =
     let parts = and-parts (test byte) (list_all test text) e in
     rw (stricter byte parts.0, all-printable test stricter text parts.1) refl
 
--- a text that is printable and has at most so many bytes
+-- a text is printable and has at most the given number of bytes
 pub record IsPlain (most : ℕ) (text : List ℕ) : Type 0 where
   pub printable : list_all is_printable text ≡ true
   pub short : length text ≤ most

@@ -1,5 +1,5 @@
--- How many bytes some lines take with a line feed each: the returned lines take at most one more than
--- the text that they are of.
+-- The number of bytes of some lines with a line feed each: for the returned lines it is at most one more than that of
+-- the text.
 use Rattle.std.proofs.Common.{◌≡◌, ℕ, zero, suc, ◌+◌, ◌-◌, ◌≤◌, Bool, true, false, List, [], ◌∷◌, length, get_or, take, map, cond, not, arith, if◌then◌else◌}
 use Rattle.std.specs.Prelude.{◌==◌}
 use Rattle.std.specs.List.{onto_first, slice_split, prefix_len}
@@ -17,7 +17,7 @@ unfolding room
 room-onto_first b [] n e = absurd (omega arith)
 room-onto_first b (part ∷ parts) n e = omega arith
 
--- a text's parts take the text's length and one more
+-- the parts of a text take its length plus one
 room-slice_split : (p : ℕ → Bool) (text : List ℕ) → room (slice_split p text) ≡ suc (length text)
 unfolding room
 room-slice_split p [] = omega arith
@@ -55,7 +55,7 @@ unfolding room
 room-shown [] = omega arith
 room-shown (line ∷ ls) = omega (arith, room-shown ls, length-take 998 (map shown_byte line), length-map line shown_byte)
 
--- all lines of a text, and those of its header
+-- the lines of a text, and those of its header
 room-lines : (text : List ℕ) → room (lines text) ≤ length text + 1
 room-lines text =
     let parts = slice_split {X = ℕ} (λ b. b == 10) text in

@@ -1,4 +1,4 @@
--- Letters on their way to an outbox may go to another thread where the outbox may.
+-- Letters with their outbox may be sent to another thread if the outbox may be.
 use denote.Hole.{as_row}
 use denote.Param.Send.{IsSend, sendable, view_send}
 use denote.Param.SendFields.{as_row_send, declared_send}

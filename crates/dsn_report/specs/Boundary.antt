@@ -12,12 +12,12 @@ use Rattle.dsn_text.specs.Text.{is_printable}
 use Rattle.dsn_report.specs.LegalLines.{is_mail_line}
 use Rattle.dsn_report.specs.Lines.{longest_line}
 
--- a byte of a returned header: `?` stands for one that is neither printable nor a tab, since a notice
--- is 7bit text (RFC 2045 section 2.7)
+-- a byte of a returned header; it is `?` if it is neither printable nor a tab, since a notice is
+-- 7bit text (RFC 2045 section 2.7)
 abbrev pub shown_byte : ℕ → ℕ
 shown_byte byte = if is_printable byte || (byte == 9) then byte else 63
 
--- a line of a returned header, cut to the length that a line may have
+-- a line of a returned header, cut to the length limit of a line
 abbrev pub shown_line : List ℕ → List ℕ
 shown_line line = take longest_line (map shown_byte line)
 
@@ -25,28 +25,27 @@ shown_line line = take longest_line (map shown_byte line)
 unfoldable pub header_lines : List ℕ → List (List ℕ)
 header_lines header = before_first (λ line. length line == 0) (lines header)
 
--- whether a text is wanted back as a message
+-- whether the flush has a whole message to be returned
 abbrev pub is_message : Returned → Bool
 is_message Header = false
 is_message Message = true
 
--- whether each line of a text stands in a 7bit mail as it is
+-- whether each line of a text can be in a 7bit mail unchanged
 unfoldable pub stands_whole : List ℕ → Bool
 stands_whole text = list_all is_mail_line (lines text)
 
--- whether a notice returns the message, and not its header: the message is there, and each of its
--- lines stands in a mail as it is (RFC 3461 section 4.3; RFC 2045 section 2.7)
+-- whether a notice returns the message instead of its header: the flush has the message, and each
+-- line can be in a mail unchanged (RFC 3461 section 4.3; RFC 2045 section 2.7)
 unfoldable pub returns_message : Draft → Bool
 returns_message draft = is_message draft.returned && stands_whole draft.header
 
--- the lines that a notice returns: those of the message as they are, or those of its header
+-- the lines that a notice returns: those of the message unchanged, or those of its header
 unfoldable pub returned_lines : Draft → List (List ℕ)
 returned_lines draft =
     if returns_message draft then lines draft.header
     else map shown_line (header_lines draft.header)
 
--- how many boundaries a letter has: as many as there are numbers of four digits (this project's
--- profile)
+-- how many boundaries a letter has: one for each number of four digits (this project's profile)
 abbrev pub boundary_numbers : ℕ
 boundary_numbers = 10000
 
@@ -54,25 +53,25 @@ boundary_numbers = 10000
 abbrev pub four_digits : ℕ → List ℕ
 four_digits n = (48 + n / 1000) ∷ (48 + n / 100 % 10) ∷ (48 + n / 10 % 10) ∷ (48 + n % 10) ∷ []
 
--- `S.QUEUEID.MOMENT`: what sets a letter apart from others
+-- `S.QUEUEID.MOMENT`, which identifies a letter
 abbrev pub letter_name : Letter → List ℕ
 letter_name letter =
     (service_letter letter.key.service ∷ []) ++ codes "." ++ letter.key.id ++ codes "."
     ++ decimal letter.draft.moment
 
--- what the boundaries of a letter begin with, whatever their number
+-- the text that each of a letter's boundaries begins with, before its number
 abbrev pub boundary_front : Letter → List ℕ
 boundary_front letter = letter_name letter ++ codes "."
 
--- the boundary that has this number (this project's profile)
+-- the boundary with this number (this project's profile)
 unfoldable pub boundary_text : Letter → ℕ → List ℕ
 boundary_text letter number = boundary_front letter ++ four_digits number
 
--- a line that would be taken for a delimiter (RFC 2046 section 5.1.1)
+-- whether a line would be taken for a delimiter (RFC 2046 section 5.1.1)
 abbrev pub is_delimiter : List ℕ → List ℕ → Bool
 is_delimiter boundary line = starts_with nat_eq line (codes "--" ++ boundary)
 
--- some returned line rules this number out
+-- whether some returned line rules this number out
 unfoldable pub is_ruled_out : Letter → ℕ → Bool
 is_ruled_out letter number =
     list_any (is_delimiter (boundary_text letter number)) (returned_lines letter.draft)
@@ -82,13 +81,13 @@ pub record IsBoundaryNumber (letter : Letter) (number : ℕ) : Type 0 where
   pub free : IsFalse (is_ruled_out letter number)
   pub least : (smaller : ℕ) → smaller < number → IsTrue (is_ruled_out letter smaller)
 
--- the first number from one on that fails a test, tried so many times
+-- the first number from the given one on that fails a test, after at most the given number of tries
 unfoldable pub first_failing : (ℕ → Bool) → ℕ → ℕ → ℕ
 first_failing test number zero = number
 first_failing test number (suc tries) =
     if test number then first_failing test (suc number) tries else number
 
--- the number of a notice's boundary; it has four digits
+-- the number of a notice's boundary, which has four digits
 unfoldable pub boundary_number : Letter → ℕ
 boundary_number letter = first_failing (is_ruled_out letter) 0 (boundary_numbers - 1)
 

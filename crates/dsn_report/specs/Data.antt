@@ -1,5 +1,5 @@
--- What the receiver of a mail transaction, or of a whole session, makes of its bytes (RFC 5321
--- section 4.5.2).
+-- The messages that the receiver of a mail transaction, or of a whole session, gets from its bytes
+-- (RFC 5321 section 4.5.2).
 use Rattle.std.specs.Prelude.{◌≡◌, ℕ, Bool, true, false, List, [], ◌∷◌, ◌++◌, map, Option, Some, None, drop, codes, if◌then◌else◌, nat_eq}
 use Rattle.dsn_outcome.specs.Letter.{Letter}
 use lib.Pointwise.{pointwise}
@@ -7,11 +7,11 @@ use Rattle.dsn_report.specs.Lines.{begins_with_dot, pieces_of_text, text_of_line
 use Rattle.dsn_report.specs.Notice.{notice_of}
 use Rattle.dsn_report.specs.Outbox.{mail_data, mail_transaction, outbox_of}
 
--- the line that begins the data
+-- whether a line begins the data
 abbrev pub begins_data : List ℕ → Bool
 begins_data line = pointwise nat_eq line (codes "DATA")
 
--- the line that ends the data
+-- whether a line ends the data
 abbrev pub ends_data : List ℕ → Bool
 ends_data line = pointwise nat_eq line (codes ".")
 
@@ -19,12 +19,12 @@ ends_data line = pointwise nat_eq line (codes ".")
 abbrev pub without_dot : List ℕ → List ℕ
 without_dot line = if begins_with_dot line then drop 1 line else line
 
--- the lines of the message: those before the line that ends the data, each without its dot
+-- the lines of the message: those before the line that ends the data, without the added dots
 unfoldable pub message_lines : List (List ℕ) → List (List ℕ)
 message_lines [] = []
 message_lines (line ∷ rest) = if ends_data line then [] else without_dot line ∷ message_lines rest
 
--- what follows the command DATA
+-- the lines after the command DATA
 unfoldable pub data_after : List (List ℕ) → List (List ℕ)
 data_after [] = []
 data_after (line ∷ rest) = if begins_data line then rest else data_after rest
@@ -42,9 +42,9 @@ abbrev pub ReceivesData : List ℕ → Letter → Type 0
 ReceivesData host letter =
     text_of_lines (message_lines (pieces_of_text (mail_data host letter))) ≡ notice_of host letter
 
--- the messages of a session's lines, by what has come of the message under way, if one is: the line
--- DATA begins one, and the line that ends the data ends it. One that is cut short is none (RFC 5321
--- section 4.1.1.4)
+-- the messages in the lines of a session, given the lines of the unfinished message, if there is
+-- one; DATA begins a message, and the line that ends the data ends it; a message without that line
+-- is not received (RFC 5321 section 4.1.1.4)
 unfoldable pub messages_in : Option (List (List ℕ)) → List (List ℕ) → List (List (List ℕ))
 messages_in under_way [] = []
 messages_in None (line ∷ rest) = elim (begins_data line) [
@@ -60,6 +60,6 @@ messages_in (Some message) (line ∷ rest) = elim (ends_data line) [
 unfoldable pub messages_of : List ℕ → List (List ℕ)
 messages_of session = map text_of_lines (messages_in None (pieces_of_text session))
 
--- the receiver of an outbox gets the notice of each letter, in their order, and nothing else
+-- the receiver of an outbox gets the notice of each letter, in order, and nothing else
 abbrev pub ReceivesNotices : List ℕ → List Letter → Type 0
 ReceivesNotices host letters = messages_of (outbox_of host letters) ≡ map (notice_of host) letters

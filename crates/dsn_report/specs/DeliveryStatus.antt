@@ -12,19 +12,19 @@ unfoldable pub line_if_any : List ℕ → Option (List ℕ) → List (List ℕ)
 line_if_any name None = []
 line_if_any name (Some value) = (name ++ value) ∷ []
 
--- the types of a recipient and of a diagnostic where none is said: an address of Internet mail, and
--- the reply of an SMTP server (RFC 3464 sections 2.3.2 and 2.3.6)
+-- the usual types of a recipient and of a diagnostic, used if no type is given (RFC 3464 sections
+-- 2.3.2 and 2.3.6): an address of Internet mail, and an SMTP reply
 abbrev pub usual_address_type : List ℕ
 usual_address_type = codes "rfc822"
 
 abbrev pub usual_diagnostic_type : List ℕ
 usual_diagnostic_type = codes "smtp"
 
--- what stands before a value that has a type: the field's name, the type, a semicolon and a space
+-- the text before a typed value: the field's name, the type, a semicolon and a space
 abbrev pub typed : List ℕ → List ℕ → Option (List ℕ) → List ℕ
 typed name usual kind = name ++ unwrap_or kind usual ++ codes "; "
 
--- the fields of the message as a whole (RFC 3464 section 2.2), its extension fields last (section 2.4)
+-- the fields of the message (RFC 3464 section 2.2), with its extension fields last (section 2.4)
 unfoldable pub per_message_fields : List ℕ → Letter → List (List ℕ)
 per_message_fields host letter =
     line_if_any (codes "Original-Envelope-Id: ") letter.draft.envelope_id
@@ -32,7 +32,7 @@ per_message_fields host letter =
     ∷ (codes "Arrival-Date: " ++ date_text letter.draft.arrival)
     ∷ lines_ended_by_lf letter.draft.extensions
 
--- the fields of one recipient (RFC 3464 section 2.3), its extension fields last (section 2.4)
+-- the fields of one recipient (RFC 3464 section 2.3), with its extension fields last (section 2.4)
 unfoldable pub per_recipient_fields : Outcome → List (List ℕ)
 per_recipient_fields outcome =
     line_if_any (typed (codes "Original-Recipient: ") usual_address_type outcome.original_type)

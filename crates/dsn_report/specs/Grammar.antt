@@ -1,4 +1,4 @@
--- The grammar of a delivery status part (RFC 3464 section 2.1), apart from its text.
+-- The grammar of a delivery status part (RFC 3464 section 2.1), independent of the writer.
 use Rattle.std.specs.Prelude.{◌≡◌, ◌≢◌, ℕ, Bool, true, ◌&&◌, List, [], ◌∷◌, ◌++◌, map, All, Option, Some, None, IsTrue, IsSome, IsSomeAnd, IfSome, codes, if◌then◌else◌, nat_eq, option_map}
 use Rattle.std.specs.List.{AllZip, list_all, list_any, flat_map}
 use lib.Pointwise.{pointwise}
@@ -20,28 +20,28 @@ pub record Field : Type 0 where
   pub name : List ℕ
   pub value : List ℕ
 
--- its line: the name, a colon, a space and the value
+-- the line of a field: the name, a colon, a space and the value
 abbrev pub field_line : Field → List ℕ
 field_line field = field.name ++ codes ": " ++ field.value
 
 abbrev pub same_text : List ℕ → List ℕ → Bool
 same_text a b = pointwise nat_eq a b
 
--- the fields of a message, in the order of RFC 3464 section 2.2
+-- the names of a message's fields, in the order of RFC 3464 section 2.2
 abbrev pub per_message_names : List (List ℕ)
 per_message_names =
     codes "Original-Envelope-Id" ∷ codes "Reporting-MTA" ∷ codes "DSN-Gateway"
     ∷ codes "Received-From-MTA" ∷ codes "Arrival-Date" ∷ []
 
--- the fields of a recipient, in the order of RFC 3464 section 2.3
+-- the names of a recipient's fields, in the order of RFC 3464 section 2.3
 abbrev pub per_recipient_names : List (List ℕ)
 per_recipient_names =
     codes "Original-Recipient" ∷ codes "Final-Recipient" ∷ codes "Action" ∷ codes "Status"
     ∷ codes "Remote-MTA" ∷ codes "Diagnostic-Code" ∷ codes "Last-Attempt-Date" ∷ codes "Final-Log-ID"
     ∷ codes "Will-Retry-Until" ∷ []
 
--- the fields have some of the names, in their order, none of them twice, and what follows are
--- extension fields (RFC 3464 section 2.4)
+-- the fields have some of the names, in order and each at most once, and then extension fields (RFC
+-- 3464 section 2.4)
 abbrev pub is_choice_of : List (List ℕ) → List Field → Bool
 is_choice_of [] [] = true
 is_choice_of [] (field ∷ fields) = is_extension_name field.name && is_choice_of [] fields
@@ -50,23 +50,23 @@ is_choice_of (name ∷ names) (field ∷ fields) =
     if same_text name field.name then is_choice_of names fields
     else is_choice_of names (field ∷ fields)
 
--- the value of the first field of a name
+-- the value of the first field with this name
 abbrev pub value_of : List ℕ → List Field → Option (List ℕ)
 value_of name [] = None
 value_of name (field ∷ fields) =
     if same_text name field.name then Some field.value else value_of name fields
 
--- the extension fields among some fields: their names begin with X- (RFC 3464 section 2.4)
+-- the extension fields among these fields; their names begin with X- (RFC 3464 section 2.4)
 abbrev pub extensions_in : List Field → List Field
 extensions_in [] = []
 extensions_in (field ∷ fields) =
     if is_extension_name field.name then field ∷ extensions_in fields else extensions_in fields
 
--- each value is printable, and so within its line
+-- each value is printable, so it is within its line
 abbrev pub has_plain_values : List Field → Bool
 has_plain_values fields = list_all (λ field. list_all is_printable field.value) fields
 
--- the five words of RFC 3464 section 2.3.3
+-- whether a text is one of the five words of RFC 3464 section 2.3.3
 abbrev pub is_action_word : List ℕ → Bool
 is_action_word text =
     list_any (same_text text)
@@ -78,14 +78,14 @@ pub record IsMessageGroup (fields : List Field) : Type 0 where
   pub plain : IsTrue (has_plain_values fields)
   pub reporter : IsSome (value_of (codes "Reporting-MTA") fields)
 
--- a value that begins with its type, an atom, and a semicolon (RFC 3464 sections 2.1.2 and 2.3.6)
+-- a value begins with its type, an atom, and a semicolon (RFC 3464 sections 2.1.2 and 2.3.6)
 pub record HasType (value : List ℕ) : Type 0 where
   pub type_name : List ℕ
   pub text : List ℕ
   pub is_name : IsTrue (is_type_name type_name)
   pub is_laid_out : value ≡ type_name ++ codes "; " ++ text
 
--- the fields of a recipient; only a delayed one's delivery is tried again (RFC 3464 section 2.3.9)
+-- the fields of a recipient; only a delayed recipient has Will-Retry-Until (RFC 3464 section 2.3.9)
 pub record IsRecipientGroup (fields : List Field) : Type 0 where
   pub in_order : IsTrue (is_choice_of per_recipient_names fields)
   pub plain : IsTrue (has_plain_values fields)
@@ -97,8 +97,8 @@ pub record IsRecipientGroup (fields : List Field) : Type 0 where
   pub retry_until : IsSome (value_of (codes "Will-Retry-Until") fields)
       → value_of (codes "Action") fields ≡ Some (codes "delayed")
 
--- the lines are the message's fields, and then for each recipient an empty line and its fields;
--- there is a recipient
+-- the lines are the message's fields, and then an empty line and the fields of each recipient;
+-- there is at least one recipient
 pub record IsDeliveryStatus (lines : List (List ℕ)) (message : List Field)
     (recipients : List (List Field)) : Type 0 where
   pub laid_out : lines
@@ -107,8 +107,8 @@ pub record IsDeliveryStatus (lines : List (List ℕ)) (message : List Field)
   pub some_recipient : recipients ≢ []
   pub recipient_groups : All IsRecipientGroup recipients
 
--- the group says what became of the recipient: each field's value is the outcome's, and missing
--- where that is, and the extension fields are its own, as they stand
+-- the group reports the outcome: each field has the outcome's value, or is missing if the outcome
+-- has none; the extension fields are the outcome's, unchanged
 pub record GivesOutcome (outcome : Outcome) (fields : List Field) : Type 0 where
   pub original : value_of (codes "Original-Recipient") fields
       ≡ option_map (λ text. typed [] usual_address_type outcome.original_type ++ text)
@@ -128,28 +128,28 @@ pub record GivesOutcome (outcome : Outcome) (fields : List Field) : Type 0 where
       ≡ option_map date_text outcome.retry_until
   pub extensions : map field_line (extensions_in fields) ≡ lines_ended_by_lf outcome.extensions
 
--- the group says whose message it is, who reports, and when the message came, and its extension
--- fields are the message's own, as they stand
+-- the group reports the message: its envelope id, the reporting host, and when it arrived; the
+-- extension fields are the message's, unchanged
 pub record GivesMessage (host : List ℕ) (letter : Letter) (fields : List Field) : Type 0 where
   pub envelope_id : value_of (codes "Original-Envelope-Id") fields ≡ letter.draft.envelope_id
   pub reporter : value_of (codes "Reporting-MTA") fields ≡ Some (codes "dns; " ++ host)
   pub arrival : value_of (codes "Arrival-Date") fields ≡ Some (date_text letter.draft.arrival)
   pub extensions : map field_line (extensions_in fields) ≡ lines_ended_by_lf letter.draft.extensions
 
--- the second of some texts, if there are two
+-- the second of these texts, if there are two
 abbrev pub second_of : List (List ℕ) → Option (List ℕ)
 second_of [] = None
 second_of (first ∷ []) = None
 second_of (first ∷ second ∷ rest) = Some second
 
 -- the delivery status that a mail program finds in a report: the pieces of its second part's body
--- (RFC 6522 section 3), of which the last is what stands after the last line's CRLF
+-- (RFC 6522 section 3); the last piece is the text after the last CRLF
 abbrev pub delivery_status_in : Multipart → Option (List (List ℕ))
 delivery_status_in report =
     option_map (λ part. message_body (pieces_of_text part)) (second_of report.parts)
 
--- in the second part of a notice's bytes there are lines, each of them ended, that meet the
--- grammar, with one group for each outcome, in log order
+-- the second part in a notice's bytes is lines, each with its CRLF, that obey the grammar, with one
+-- group for each outcome, in log order
 pub record ReportsOutcomes (host : List ℕ) (letter : Letter) : Type 0 where
   pub found : delivery_status_in (multipart_of (boundary_of letter) (notice_of host letter))
       ≡ Some (delivery_status host letter ++ [] ∷ [])
@@ -159,7 +159,7 @@ pub record ReportsOutcomes (host : List ℕ) (letter : Letter) : Type 0 where
   pub gives_message : GivesMessage host letter message
   pub gives_outcomes : AllZip GivesOutcome letter.outcomes recipients
 
--- a report of no outcome is no delivery status, however its lines are read
+-- a report without outcomes is not a delivery status, however its lines are read
 abbrev pub EmptyLogLaw : Type 0
 EmptyLogLaw =
     (host : List ℕ) (letter : Letter) (message : List Field) (recipients : List (List Field))

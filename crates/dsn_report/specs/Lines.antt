@@ -2,11 +2,11 @@
 use Rattle.std.specs.Prelude.{ℕ, Bool, false, ◌&&◌, List, [], ◌∷◌, ◌++◌, ◌==◌, drop, if◌then◌else◌}
 use Rattle.std.specs.List.{onto_first}
 
--- the longest line of a mail, in bytes without its CRLF (RFC 5322 section 2.1.1)
+-- the length limit of a mail's line, in bytes without its CRLF (RFC 5322 section 2.1.1)
 abbrev pub longest_line : ℕ
 longest_line = 998
 
--- the text of some lines
+-- the text of these lines, each with its CRLF
 unfoldable pub text_of_lines : List (List ℕ) → List ℕ
 text_of_lines [] = []
 text_of_lines (line ∷ rest) = line ++ (13 ∷ 10 ∷ text_of_lines rest)
@@ -19,22 +19,21 @@ abbrev pub without_first_byte : List (List ℕ) → List (List ℕ)
 without_first_byte [] = []
 without_first_byte (piece ∷ rest) = drop 1 piece ∷ rest
 
--- one byte more, before a text whose pieces are given
+-- the pieces of a text with one more byte in front, given the text and its pieces
 unfoldable pub pieces_more : ℕ → List ℕ → List (List ℕ) → List (List ℕ)
 pieces_more byte rest pieces =
     if (byte == 13) && begins_with_line_feed rest then [] ∷ without_first_byte pieces
     else onto_first byte pieces
 
--- what a reader of a message makes of its bytes: the pieces between its CRLFs. What follows the
--- last CRLF is the last piece, and an empty one where the text ends there. A CR or an LF alone is a
--- byte of a piece
--- The reader's side is defined from the bytes up and knows nothing of the writer: here a line ends at CR LF and nowhere
--- else. proofs/ReaderExamples.antt computes it on small examples.
+-- the pieces between the CRLFs of a message's bytes, as a reader takes them; the last piece follows
+-- the last CRLF, and is empty if the text ends there; a CR or LF alone is a byte of a piece; this
+-- is defined from the bytes alone, independent of the writer, and proofs/ReaderExamples.antt
+-- computes it on small examples
 unfoldable pub pieces_of_text : List ℕ → List (List ℕ)
 pieces_of_text [] = [] ∷ []
 pieces_of_text (byte ∷ rest) = pieces_more byte rest (pieces_of_text rest)
 
--- the text of some pieces: a CRLF between each and the next
+-- the text of these pieces, with a CRLF between each and the next
 unfoldable pub text_of_pieces : List (List ℕ) → List ℕ
 text_of_pieces [] = []
 text_of_pieces (piece ∷ []) = piece
@@ -44,7 +43,7 @@ abbrev pub begins_with_dot : List ℕ → Bool
 begins_with_dot [] = false
 begins_with_dot (byte ∷ rest) = byte == 46
 
--- a line as the mail protocol carries it: a dot before one that begins with a dot (RFC 5321 section
--- 4.5.2)
+-- a line as SMTP carries it: a line that begins with a dot gets another dot in front (RFC 5321
+-- section 4.5.2)
 unfoldable pub dot_stuffed : List ℕ → List ℕ
 dot_stuffed line = if begins_with_dot line then 46 ∷ line else line

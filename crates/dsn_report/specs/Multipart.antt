@@ -1,5 +1,5 @@
--- How a mail program divides the body of a multipart message (RFC 2046 section 5.1.1). It knows the
--- boundary and the message's bytes, and nothing of who wrote them.
+-- How a mail program divides the body of a multipart message (RFC 2046 section 5.1.1). It uses only
+-- the boundary and the message's bytes, and doesn't depend on the writer.
 use Rattle.std.specs.Prelude.{◌≡◌, ℕ, Bool, List, [], ◌∷◌, ◌++◌, map, Option, Some, None, option_map, codes, if◌then◌else◌, nat_eq}
 use Rattle.std.specs.List.{starts_with}
 use Rattle.dsn_outcome.specs.Letter.{Letter}
@@ -8,18 +8,18 @@ use Rattle.dsn_report.specs.DeliveryStatus.{delivery_status}
 use Rattle.dsn_report.specs.Lines.{pieces_of_text, text_of_lines, text_of_pieces}
 use Rattle.dsn_report.specs.Notice.{notice_of, notification, returned_description, returned_type, words_of}
 
--- what stands before the first delimiter, the parts, and what stands after the last delimiter, if
--- there is one, in the pieces between CRLFs
+-- the lines before the first delimiter, the parts, and the lines after the last delimiter, if there
+-- is one
 pub record Division : Type 0 where
   pub before : List (List ℕ)
   pub parts : List (List (List ℕ))
   pub after : Option (List (List ℕ))
 
--- a delimiter that no part follows
+-- whether a line is a delimiter that no part follows
 abbrev pub is_last_delimiter : List ℕ → List ℕ → Bool
 is_last_delimiter boundary line = starts_with nat_eq line (codes "--" ++ boundary ++ codes "--")
 
--- one line more, before the lines whose division is given
+-- the division with one more line in front, given the lines after it and their division
 unfoldable pub divide_more : List ℕ → List ℕ → List (List ℕ) → Division → Division
 divide_more boundary line rest division =
     if is_delimiter boundary line
@@ -32,9 +32,8 @@ unfoldable pub divide : List ℕ → List (List ℕ) → Division
 divide boundary [] = record { before = []; parts = []; after = None }
 divide boundary (line ∷ rest) = divide_more boundary line rest (divide boundary rest)
 
--- the texts of a multipart message's parts, of what stands before them, if the first delimiter
--- isn't the first line, and of what stands after them, if there is a last delimiter. The CRLF
--- before a delimiter belongs to it
+-- the texts of a multipart message's parts; the preamble, if the first delimiter isn't the first
+-- line; and the epilogue, if there is a last delimiter; the CRLF before a delimiter belongs to it
 pub record Multipart : Type 0 where
   pub preamble : Option (List ℕ)
   pub parts : List (List ℕ)
@@ -51,7 +50,7 @@ multipart_of_pieces division = record {
   epilogue = option_map text_of_pieces division.after;
 }
 
--- the body of a message: what follows its first empty line (RFC 5322 section 2.1)
+-- the body of a message: the lines after the first empty one (RFC 5322 section 2.1)
 unfoldable pub message_body : List (List ℕ) → List (List ℕ)
 message_body [] = []
 message_body ([] ∷ rest) = rest
@@ -69,7 +68,7 @@ part_lines description content_type body =
     ∷ []
     ∷ body
 
--- the returned part, where there are returned lines
+-- the returned part, if there are returned lines
 unfoldable pub returned_parts : List ℕ → List ℕ → List (List ℕ) → List (List (List ℕ))
 returned_parts description content_type [] = []
 returned_parts description content_type (line ∷ rest) =
@@ -85,8 +84,8 @@ notice_parts host letter =
     ∷ returned_parts (returned_description (words_of letter) (returns_message letter.draft))
     (returned_type (returns_message letter.draft)) (returned_lines letter.draft)
 
--- who divides a notice's bytes at its boundary gets its parts, each with the CRLF of its last line,
--- and nothing before and nothing after them
+-- a reader that divides a notice's bytes at its boundary gets its parts, each with the CRLF of its
+-- last line, and nothing before and nothing after them
 abbrev pub DividesIntoParts : List ℕ → Letter → Type 0
 DividesIntoParts host letter =
     multipart_of (boundary_of letter) (notice_of host letter)

@@ -1,5 +1,5 @@
--- A notice: a multipart/report of what became of a message's recipients (RFC 6522, RFC 3464, RFC
--- 3834), as a list of lines.
+-- A notice: a multipart/report on the delivery to a message's recipients, as a list of lines (RFC
+-- 6522, RFC 3464, RFC 3834).
 use Rattle.std.specs.Prelude.{ℕ, Bool, true, false, List, [], ◌∷◌, ◌++◌, Option, Some, None, codes, decimal, nat_eq, unwrap_or, if◌then◌else◌}
 use Rattle.std.specs.List.{list_all, flat_map}
 use lib.Pointwise.{pointwise}
@@ -17,15 +17,15 @@ use Rattle.dsn_report.specs.Boundary.{letter_name, boundary_of, returned_lines, 
 use Rattle.dsn_report.specs.DeliveryStatus.{line_if_any, delivery_status}
 use Rattle.dsn_report.specs.Lines.{text_of_lines}
 
--- the words that a notice chooses: its subject, what it says to its reader first, and the
--- descriptions of what it returns, a header and a whole message
+-- the words of a notice that depend on its letter: its subject, its first sentence to the reader,
+-- and the descriptions of a returned header and of a returned message
 pub record Words : Type 0 where
   pub subject : List ℕ
   pub opening : List ℕ
   pub header : List ℕ
   pub message : List ℕ
 
--- whether the message reached the recipient, or went on to where it is no longer followed (RFC 3464
+-- whether the message reached the recipient, or left the mail systems that report on it (RFC 3464
 -- section 2.3.3)
 abbrev pub has_arrived : Action → Bool
 has_arrived Failed = false
@@ -66,13 +66,13 @@ success_words = record {
   message = codes "Message";
 }
 
--- where they are chosen by the service, what is returned is named in one way
+-- the words with the bounce's descriptions of the returned part, for wording by service
 abbrev pub with_bounce_names : Words → Words
 with_bounce_names words =
     record words { header = bounce_words.header; message = bounce_words.message }
 
--- the words by the wording, the service and whether the message arrived everywhere (this project's
--- profile)
+-- the words, chosen by the wording, the service and whether the message arrived at all recipients
+-- (this project's profile)
 abbrev pub words_by : Wording → Service → Bool → Words
 words_by ByService Bounce arrived = bounce_words
 words_by ByService Defer arrived = with_bounce_names defer_words
@@ -88,7 +88,8 @@ words_of letter =
     words_by letter.draft.wording letter.key.service
     (list_all (λ outcome. has_arrived outcome.action) letter.outcomes)
 
--- the description and the type of what is returned: the message, or its header (RFC 6522 section 3)
+-- the description and the media type of the returned part: the message, or its header (RFC 6522
+-- section 3)
 abbrev pub returned_description : Words → Bool → List ℕ
 returned_description words true = words.message
 returned_description words false = words.header
@@ -97,7 +98,7 @@ abbrev pub returned_type : Bool → List ℕ
 returned_type true = codes "message/rfc822"
 returned_type false = codes "text/rfc822-headers"
 
--- who gets the notice: the message's return path (RFC 3464 section 2)
+-- the address that the notice is sent to: the message's return path (RFC 3464 section 2)
 abbrev pub return_path_of : Letter → List ℕ
 return_path_of letter = unwrap_or letter.draft.return_path []
 
@@ -117,7 +118,7 @@ notice_header host letter boundary =
     ∷ (codes " boundary=\"" ++ boundary ++ codes "\"")
     ∷ []
 
--- what begins a part: its delimiter, and its header with an empty line (RFC 2046 section 5.1.1)
+-- the beginning of a part: its delimiter, its header and an empty line (RFC 2046 section 5.1.1)
 unfoldable pub part_header : List ℕ → List ℕ → List ℕ → List (List ℕ)
 part_header boundary description content_type =
     (codes "--" ++ boundary)
@@ -126,13 +127,14 @@ part_header boundary description content_type =
     ∷ []
     ∷ []
 
--- one part; the empty line after its body belongs to the next delimiter, so that the body ends with
--- the CRLF of its last line (RFC 2046 section 5.1.1)
+-- one part; the empty line after its body belongs to the next delimiter, so the body ends with the
+-- CRLF of its last line (RFC 2046 section 5.1.1)
 unfoldable pub part_of : List ℕ → List ℕ → List ℕ → List (List ℕ) → List (List ℕ)
 part_of boundary description content_type body =
     part_header boundary description content_type ++ body ++ [] ∷ []
 
--- the original recipient of an outcome, where its notice tells it: it isn't the final one
+-- the original recipient of an outcome, if its notice names it: the wording is by outcome, and it
+-- isn't the final recipient
 abbrev pub origin_if_other : List ℕ → Option (List ℕ) → Option (List ℕ)
 origin_if_other recipient None = None
 origin_if_other recipient (Some original) =
@@ -142,20 +144,20 @@ abbrev pub origin_told : Wording → Outcome → Option (List ℕ)
 origin_told ByService outcome = None
 origin_told ByOutcome outcome = origin_if_other outcome.recipient outcome.original
 
--- a recipient, and from which address it came, where that is told
+-- a recipient, and the address that it was expanded from, if the notice names it
 unfoldable pub recipient_told : List ℕ → Option (List ℕ) → List ℕ
 recipient_told recipient None = codes "<" ++ recipient ++ codes ">"
 recipient_told recipient (Some original) =
     codes "<" ++ recipient ++ codes "> (expanded from <" ++ original ++ codes ">)"
 
--- what a person reads of one outcome
+-- the lines for people of one outcome
 unfoldable pub outcome_lines : Wording → Outcome → List (List ℕ)
 outcome_lines wording outcome =
     (recipient_told outcome.recipient (origin_told wording outcome) ++ codes ": "
     ++ action_word outcome.action ++ codes " (" ++ outcome.status ++ codes ")")
     ∷ line_if_any (codes "    ") outcome.reason
 
--- what a person reads (RFC 6522 section 3, first part)
+-- the part for people (RFC 6522 section 3, first part)
 unfoldable pub notification : List ℕ → Letter → List (List ℕ)
 notification host letter =
     (codes "This is the mail system at host " ++ host ++ codes ".")
@@ -164,7 +166,7 @@ notification host letter =
     ∷ []
     ∷ flat_map (outcome_lines letter.draft.wording) letter.outcomes
 
--- the part with the returned lines, where there are any (RFC 6522 sections 3 and 4)
+-- the part with the returned lines, if there are any (RFC 6522 sections 3 and 4)
 unfoldable pub returned_part : List ℕ → List ℕ → List ℕ → List (List ℕ) → List (List ℕ)
 returned_part boundary description content_type [] = []
 returned_part boundary description content_type (line ∷ rest) =

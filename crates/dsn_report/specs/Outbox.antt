@@ -1,30 +1,29 @@
--- The outbox: the client's side of a session of the mail protocol that hands in each notice (RFC
--- 5321 section 3.3).
+-- The outbox: the client's side of an SMTP session that submits each notice (RFC 5321 section 3.3).
 use Rattle.std.specs.Prelude.{ℕ, List, [], ◌∷◌, ◌++◌, map, codes}
 use Rattle.std.specs.List.{flat_map}
 use Rattle.dsn_outcome.specs.Letter.{Letter}
 use Rattle.dsn_report.specs.Lines.{text_of_lines, dot_stuffed}
 use Rattle.dsn_report.specs.Notice.{notice_lines, return_path_of}
 
--- what opens the session (RFC 5321 section 3.2)
+-- the greeting, which opens the session (RFC 5321 section 3.2)
 unfoldable pub greeting : List ℕ → List ℕ
 greeting host = text_of_lines ((codes "EHLO " ++ host) ∷ [])
 
--- what ends it (RFC 5321 section 3.8)
+-- the end of the session (RFC 5321 section 3.8)
 unfoldable pub goodbye : List ℕ
 goodbye = text_of_lines (codes "QUIT" ∷ [])
 
--- the lines after the command DATA: those of a notice, each with the dot that it needs, and a dot
--- alone (RFC 5321 section 4.5.2)
+-- the lines after the command DATA: those of a notice, with the dots that SMTP adds, and the final
+-- dot (RFC 5321 section 4.5.2)
 abbrev pub data_lines : List ℕ → Letter → List (List ℕ)
 data_lines host letter = map dot_stuffed (notice_lines host letter) ++ codes "." ∷ []
 
--- the mail data of a notice (RFC 5321 section 4.1.1.4), with the dot that ends it
+-- the mail data of a notice (RFC 5321 section 4.1.1.4), with the final dot
 unfoldable pub mail_data : List ℕ → Letter → List ℕ
 mail_data host letter = text_of_lines (data_lines host letter)
 
--- the lines of one mail transaction: a notice comes from the null path, so that nobody answers it
--- with another (RFC 3464 section 2, RFC 5321 section 4.5.5), and a dot alone ends it
+-- the lines of one mail transaction; it has the null path, so that no notice answers a notice (RFC
+-- 3464 section 2, RFC 5321 section 4.5.5)
 unfoldable pub transaction_lines : List ℕ → Letter → List (List ℕ)
 transaction_lines host letter =
     codes "MAIL FROM:<>"

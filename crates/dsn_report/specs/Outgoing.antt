@@ -1,4 +1,5 @@
--- Letters on their way to the outbox: what was written of them, and which could not be written.
+-- Letters that are written to the outbox: how much of them is written, and which could not be
+-- written.
 use Rattle.std.specs.Prelude.{◌≡◌, ℕ, Bool, true, false, not, List, [], ◌∷◌, ◌++◌, length, take, Option, None, if◌then◌else◌}
 use Rattle.std.specs.Io.KnownBytes.{Appends}
 use Rattle.std.specs.List.{flat_map}
@@ -18,31 +19,32 @@ pub record Outgoing (W : Type 0) : Type 0 where
   pub poster : Poster W
   pub unsent : List Letter
 
--- nothing was posted so far, and nothing is written
+-- nothing is posted yet, and nothing is written
 abbrev pub begun : {W : Type 0} → List ℕ → W → Outgoing W
 begun host outbox = record {
   poster = record { host = host; outbox = outbox; greeted = false; failed = false };
   unsent = [];
 }
 
--- what is written of letters that are posted: the greeting comes with the first of them
+-- the text that posting these letters writes: the greeting is written before the first of them
 abbrev pub written_of : List ℕ → Bool → List Letter → List ℕ
 written_of host greeted letters =
     (if greeted then greeting host else []) ++ flat_map (mail_transaction host) letters
 
--- known bytes grow by a front of the text that has at least this much of it
+-- known bytes grow by a front of the text that contains at least this much of it
 pub record AppendsAtLeast (old new : Option (List ℕ)) (least text : List ℕ) : Type 0 where
   pub more : List ℕ
   pub unsent : List ℕ
   pub split : text ≡ (least ++ more) ++ unsent
   pub appended : Appends old new (least ++ more)
 
--- the count of marked letters once these were marked, one after another
+-- the count of marked letters after these were marked, one after another
 abbrev pub marked_with : List Letter → Option ℕ → Option ℕ
 marked_with [] count = count
 marked_with (first ∷ rest) count = marked_with rest (marked_by true first.serial count)
 
--- bytes that say the count after the first of these letters was marked: none of them, some or all
+-- bytes of marks whose count is that after some first part of these letters was marked, which may
+-- be empty
 pub record SayCountOfFirst (say : List ℕ → ℕ → Type 0) (count : Option ℕ) (letters : List Letter)
     (left : List ℕ) : Type 0 where
   pub first : List Letter
@@ -50,24 +52,25 @@ pub record SayCountOfFirst (say : List ℕ → ℕ → Type 0) (count : Option �
   pub split : letters ≡ first ++ rest
   pub counted_are : SayCount say (marked_with first count) left
 
--- a device that marks letters: at each moment a crash leaves marks that count the first of these
--- letters, behind those that were counted at the start, and no others
+-- a crash at any moment until the end leaves marks that count some first part of these letters as
+-- well, and no others; this requires that a crash at the start leaves marks that count the device's
+-- letters
 abbrev pub MarksFirstOf : {W : Type 0} → Drain.Ghosts W → W → W → List Letter → Type 0
 MarksFirstOf drain start end letters =
     LeavesMarked drain start
     → LeavesThroughout drain.moment drain.left_since start end
     (SayCountOfFirst drain.say (drain.marked start) letters)
 
--- and at the end marks that count all of these letters
+-- the same, and a crash at the end leaves marks that count all of these letters
 abbrev pub MarksAllOf : {W : Type 0} → Drain.Ghosts W → W → W → List Letter → Type 0
 MarksAllOf drain start end letters =
     MarksFirstOf drain start end letters × (LeavesMarked drain start → LeavesMarked drain end)
 
--- how an outbox failed once these letters were posted, each flushed once: within this text, and then
--- it was not flushed again; at the one flush after all of it, which it can't where it flushes surely;
--- or at the mark after that flush, which it can't either, nor where it marks no letters. A crash
--- leaves marks of posted letters alone, and at the end of all of them; where the mark failed, also of
--- that letter, all of whose text is there
+-- how an outbox failed after these letters were posted, each flushed once: within this text,
+-- without another flush; at the flush after all of it; or at the mark after that flush; a device
+-- that flushes surely fails only within the text, and one that marks no letters doesn't fail at a
+-- mark; a crash leaves marks of posted letters only, and at the end of all of them; if the mark
+-- failed, a crash may leave marks that count its letter too, all of whose text is there
 pub data FailedIn {W : Type 0} (drain : Drain.Ghosts W) (start end : W)
     (posted with_next : List Letter) (text : List ℕ) : Type 0 where
   in_text : AppendsPart (drain.contents start) (drain.contents end) text
@@ -89,12 +92,12 @@ abbrev pub are_some : List Letter → Bool
 are_some [] = false
 are_some (first ∷ rest) = true
 
--- the furthest that an outbox gets: QUIT, or within the first letter that was not written
+-- the longest possible text of an outbox: with QUIT, or with the first letter that was not written
 abbrev pub text_until : List ℕ → List Letter → List Letter → List ℕ
 text_until host posted [] = outbox_of host posted
 text_until host posted (first ∷ rest) = written_of host true (posted ++ first ∷ [])
 
--- while nothing failed, each letter is written, flushed and marked, and nothing was written after the
+-- if nothing failed, each letter is written, flushed and marked, and nothing is written after the
 -- last flush
 pub record AllWritten {W : Type 0} (drain : Drain.Ghosts W) (start : W) (out : Outgoing W)
     (letters : List Letter) : Type 0 where
@@ -110,8 +113,8 @@ pub record AllWritten {W : Type 0} (drain : Drain.Ghosts W) (start : W) (out : O
   pub marks : MarksAllOf drain start out.poster.outbox letters
   pub surely : drain.flushes_surely start → drain.flushes_surely out.poster.outbox
 
--- after a failure the letters before the failed one are written, each of them flushed and marked, and
--- a front of it; the rest of them are kept
+-- after a failure, the letters before the failed one are written, each flushed and marked, and a
+-- front of the failed one is written; the failed letter and the later ones are kept
 pub record FrontWritten {W : Type 0} (drain : Drain.Ghosts W) (start : W) (out : Outgoing W)
     (letters : List Letter) : Type 0 where
   pub posted : List Letter
@@ -127,12 +130,12 @@ pub record FrontWritten {W : Type 0} (drain : Drain.Ghosts W) (start : W) (out :
   pub marked : drain.marked out.poster.outbox ≡ marked_with posted (drain.marked start)
   pub count : drain.failures out.poster.outbox ≡ counted true (drain.failures start)
 
--- a device whose calls don't fail stays so, and its count of failures stays
+-- a device whose calls don't fail stays such a device, and its count of failures doesn't change
 abbrev pub StaysSteady : {W : Type 0} → Drain.Ghosts W → W → W → Type 0
 StaysSteady drain old new =
     drain.steady old → drain.steady new × (drain.failures new ≡ drain.failures old)
 
--- these letters were handed on, one after another
+-- these letters were posted, one after another
 pub record Delivered {W : Type 0} (drain : Drain.Ghosts W) (host : List ℕ) (start : W) (out : Outgoing W)
     (letters : List Letter) : Type 0 where
   pub host_kept : out.poster.host ≡ host
@@ -140,14 +143,13 @@ pub record Delivered {W : Type 0} (drain : Drain.Ghosts W) (host : List ℕ) (st
   pub after_fault : out.poster.failed ≡ true → FrontWritten drain start out letters
   pub steady : StaysSteady drain start out.poster.outbox
 
--- how an outbox ended: with the whole text of all letters; or after a failure with the mails of all
--- letters before those that are unsent, and a front of what follows; the device failed once where
--- it isn't whole, and else not; a whole one was flushed once for each letter and once at QUIT,
--- after all of its text, and another one once for each letter before those that are unsent, and
--- once more where it failed at a flush or at a mark; each letter before those that are unsent was
--- marked, and no other; at each moment a crash leaves marks of posted letters alone, but for the one
--- whose mark failed; where the device flushes surely, some of the text of all letters is missing
--- from one that isn't whole
+-- how an outbox ended: whole, with the whole text of all letters; or after one failure, with the
+-- transactions of the posted letters, which are those before the unsent ones, and a front of what
+-- follows; a whole one was flushed once for each letter and once after QUIT; another one was
+-- flushed once for each posted letter, and once more if it failed at a flush or at a mark; exactly
+-- the posted letters are marked; a crash at any moment leaves marks of posted letters only, except
+-- of a letter whose mark failed; if the device flushes surely, one that isn't whole lacks some of
+-- the text of all letters
 pub record IsOutbox {W : Type 0} (drain : Drain.Ghosts W) (host : List ℕ) (start end : W) (whole : Bool)
     (unsent letters : List Letter) : Type 0 where
   pub posted : List Letter

@@ -1,4 +1,5 @@
--- What the types of a site and of a letter keep: each text is legal, and each moment has a date.
+-- The invariants of a site and of a letter together: each text is legal, and each moment has a
+-- date.
 use Rattle.std.specs.Prelude.{ℕ, ◌<◌, ◌≤◌, ◌^◌, List, length, All, IsTrue}
 use Rattle.dsn_outcome.specs.Letter.{Letter, IsLetter}
 use Rattle.dsn_outcome.specs.Outcome.{IsLegalOutcome}

@@ -11,8 +11,8 @@ use crate::returned_text::ReturnedText;
 use crate::ruled_out_boundaries::{first_free, numbers_ruled_out};
 use dsn_outcome::Letter;
 
-/// The number of the boundary of a letter's notice: the least that no returned line rules out. It
-/// takes no memory. It is for embedders and tests.
+/// Returns the number of the boundary of a letter's notice, which is the least that no returned
+/// line rules out. It takes no memory. It is for embedders and tests.
 pub fn boundary(letter: &Letter) -> u16
     ensures least { IsBoundaryNumber letter.now result }
     ensures number { result ≡ boundary_number letter.now }
@@ -21,7 +21,8 @@ pub fn boundary(letter: &Letter) -> u16
     boundary_beside(letter, ReturnedText::of(letter))
 }
 
-/// The number of the boundary of a letter's notice, which returns this.
+/// Returns the number of the boundary of a letter's notice. Requires that `returned` is what the
+/// notice returns.
 pub(crate) fn boundary_beside(letter: &Letter, returned: ReturnedText<'_>) -> u16
     requires { lines_shown returned.whole returned.bytes.now ≡ returned_lines letter.now.draft }
     ensures least { IsBoundaryNumber letter.now result }
@@ -32,8 +33,8 @@ pub(crate) fn boundary_beside(letter: &Letter, returned: ReturnedText<'_>) -> u1
     least_number(letter, returned)
 }
 
-/// The least number that no returned line rules out. Few messages have a line that rules one out,
-/// and the others need no table.
+/// Returns the least number that no returned line rules out. Few messages have a line that rules
+/// one out; for the others no table is made.
 #[tactic(auto, using(crate::proofs::BoundaryLemmas::none_ruled_out))]
 fn least_number(letter: &Letter, returned: ReturnedText<'_>) -> u16
     requires { lines_shown returned.whole returned.bytes.now ≡ returned_lines letter.now.draft }
@@ -46,12 +47,12 @@ fn least_number(letter: &Letter, returned: ReturnedText<'_>) -> u16
     }
 }
 
-/// Whether some returned line begins with two dashes, as each delimiter does.
+/// Whether some returned line begins with two dashes, as every delimiter does.
 fn has_dashed_line(returned: ReturnedText<'_>) -> bool
     ensures { result
         ≡ list_any is_dashed (taken_lines returned.entry.whole returned.entry.bytes.now) }
 {
-    // Without a dash there is no such line, and the text needn't be cut into lines.
+    // Without a dash there is no such line, so the text isn't split into lines.
     if !returned.bytes.contains(&b'-') {
         return false;
     }
@@ -63,7 +64,7 @@ fn has_dashed_line(returned: ReturnedText<'_>) -> bool
     false
 }
 
-/// The least number that no returned line rules out, found in one pass over the lines.
+/// Returns the least number that no returned line rules out, in one pass over the lines.
 fn least_free(letter: &Letter, returned: ReturnedText<'_>) -> u16
     requires { lines_shown returned.whole returned.bytes.now ≡ returned_lines letter.now.draft }
     ensures { IsBoundaryNumber letter.now result }
@@ -73,7 +74,7 @@ fn least_free(letter: &Letter, returned: ReturnedText<'_>) -> u16
     let ruled_out = numbers_ruled_out(front.bytes(), returned);
     match first_free(&ruled_out) {
         Some(number) => number as u16,
-        // A text has too few bytes to rule out each number of the table.
+        // The text has too few bytes to rule out every number of the table.
         None => unreachable!(),
     }
 }

@@ -1,5 +1,5 @@
-//! What holds of the notice of every letter. These functions change nothing: their contracts are
-//! the laws. They read their arguments, since what a type keeps is known of a value that is read.
+//! Laws of the notice of every letter, stated as contracts of functions that change nothing. They
+//! read their arguments, since the invariant of a type is known only of a value that is read.
 ghost use Rattle.std.specs.Prelude.{◌≡◌, false, All, IsTrue};
 ghost use Rattle.std.specs.List.{list_all};
 ghost use Rattle.dsn_outcome.specs.Outcome.{IsLegalOutcome};
@@ -16,22 +16,22 @@ ghost use Rattle.dsn_report.specs.WellFormed.{IsWellFormed};
 use crate::site::Site;
 use dsn_outcome::Letter;
 
-/// The receiver of a letter's mail transaction, who takes the added dots away, gets the notice.
+/// The receiver of a letter's mail transaction gets the notice once it removes the added dots.
 pub fn dots_law(site: &Site, letter: &Letter)
     ensures { ReceivesNotice site.now letter.now }
 {
     well_formed_law(site, letter);
 }
 
-/// The receiver of a letter's mail data, who takes the added dots away, gets the notice.
+/// The receiver of a letter's mail data gets the notice once it removes the added dots.
 pub fn data_law(site: &Site, letter: &Letter)
     ensures { ReceivesData site.now letter.now }
 {
     well_formed_law(site, letter);
 }
 
-/// The receiver of a whole outbox gets the notice of each of its letters, in their order, and
-/// nothing else.
+/// The receiver of a whole outbox gets the notice of each of its letters, in order, and nothing
+/// else.
 pub fn outbox_law(site: &Site, letters: &[Letter])
     ensures { ReceivesNotices site.now letters.now }
 {
@@ -39,30 +39,31 @@ pub fn outbox_law(site: &Site, letters: &[Letter])
     well_formed_letters(site, letters);
 }
 
-/// Who divides a notice at its boundary gets its parts, with nothing before and nothing after
-/// them.
+/// A reader that divides a notice at its boundary gets its parts, with nothing before and nothing
+/// after them.
 pub fn division_law(site: &Site, letter: &Letter)
     ensures { DividesIntoParts site.now letter.now }
 {
     well_formed_law(site, letter);
 }
 
-/// The second part of a notice, as a mail program finds it in the bytes, is a delivery status, with
-/// one group for each outcome.
+/// The second part of a notice, as a mail program finds it in the bytes, is a delivery status. It
+/// has one group for each outcome.
 pub fn grammar_law(site: &Site, letter: &Letter)
     ensures { ReportsOutcomes site.now letter.now }
 {
     well_formed_law(site, letter);
 }
 
-/// A report of no outcome would be no delivery status: the grammar asks for a recipient's group.
+/// A report without outcomes is not a delivery status, since the grammar requires a recipient's
+/// group.
 pub fn empty_log_law()
     ensures { EmptyLogLaw }
 {}
 
-/// A notice is lines, each ended by CRLF, that stand in a 7bit mail: of at most 998 bytes, none of
-/// them NUL, CR, LF or over 127. All but those of a message that is returned whole are of tabs and
-/// printable bytes.
+/// A notice is lines that end with CRLF and can be in a 7bit mail. Each has at most 998 bytes, none
+/// of them NUL, CR, LF or over 127. All lines consist of tabs and printable bytes, except those of
+/// a message that is returned whole.
 pub fn lines_law(site: &Site, letter: &Letter)
     ensures lines { HasLegalLines (notice_of site.now letter.now)
         (returned_lines letter.now.draft) }
@@ -88,7 +89,7 @@ pub fn well_formed_law(site: &Site, letter: &Letter)
     legal_outcomes(letter);
 }
 
-/// Each of some letters is well formed.
+/// Each of these letters is well formed.
 fn well_formed_letters(site: &Site, letters: &[Letter])
     ensures { All (IsWellFormed site.now) letters.now }
 {
@@ -97,7 +98,7 @@ fn well_formed_letters(site: &Site, letters: &[Letter])
     }
 }
 
-/// An envelope id is one wherever it is there.
+/// The envelope id of a letter, if there is one, is valid.
 fn legal_envelope_id(letter: &Letter)
     ensures { IsTrue (is_none_or is_envelope_id letter.now.draft.envelope_id) }
 {

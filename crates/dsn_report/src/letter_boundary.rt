@@ -1,4 +1,4 @@
-//! The name and the serial of a letter, and the boundaries made of its name.
+//! The name and the serial of a letter, and the boundaries that begin with its name.
 //! Implements docs/FORMATS.md, "The boundary".
 ghost use Rattle.std.specs.Prelude.{◌≡◌, ◌+◌, ◌<◌, ◌≤◌, decimal, length};
 ghost use Rattle.dsn_report.specs.Boundary.{letter_name, boundary_front, boundary_numbers, boundary_text};
@@ -6,10 +6,10 @@ ghost use Rattle.dsn_report.specs.inner.Boundary.{longest_letter_name};
 
 use dsn_outcome::{Letter, ShortText};
 
-/// How long a boundary's number is, which is last in it.
+/// The length of a boundary's number in bytes. The boundary ends with it.
 pub(crate) const NUMBER_LEN: usize = 4;
 
-/// The letter's name: its service's letter, its queue id and its moment.
+/// The letter's name: the letter of its service, its queue id and its moment.
 fn letter_name(letter: &Letter) -> ShortText
     ensures name { result ≡ letter_name letter.now }
     ensures short { length result ≤ longest_letter_name }
@@ -33,7 +33,7 @@ pub(crate) fn serial_text(letter: &Letter) -> ShortText
     serial
 }
 
-/// What the letter's boundaries begin with, whatever their number.
+/// The text that each of the letter's boundaries begins with, before its number.
 pub(crate) fn boundary_front(letter: &Letter) -> ShortText
     ensures front { result ≡ boundary_front letter.now }
     ensures short { length result ≤ longest_letter_name + 1 }
@@ -43,7 +43,7 @@ pub(crate) fn boundary_front(letter: &Letter) -> ShortText
     front
 }
 
-/// The letter's boundary that has this number.
+/// The letter's boundary with this number. Requires that the number has at most four digits.
 #[tactic(auto, unfolding(crate::specs::Boundary::boundary_text))]
 pub(crate) fn boundary_text(letter: &Letter, number: u16) -> ShortText
     requires { number < boundary_numbers }
@@ -59,7 +59,7 @@ pub(crate) fn boundary_text(letter: &Letter, number: u16) -> ShortText
     boundary
 }
 
-/// A number below ten as a digit.
+/// The digit for a number. Requires that the number is below ten.
 fn digit(n: u16) -> u8
     requires { n < 10 }
     ensures { result ≡ 48 + n }

@@ -1,5 +1,5 @@
-//! Delivery status notifications: the text of a notice, and the outbox that the notices are
-//! written to as mail transactions.
+//! Delivery status notifications: the text of a notice, and the outbox, to which notices are
+//! written as mail transactions.
 #![tactic(auto)]
 
 mod boundary_number;

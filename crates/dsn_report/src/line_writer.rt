@@ -1,4 +1,4 @@
-//! Lines on their way to a drain, one piece after another.
+//! Lines that are written to a drain in pieces.
 //! Implements RFC 5321 section 4.5.2.
 ghost use Rattle.std.specs.Prelude.{◌≡◌, ◌<◌, false, ℕ, List, [], ◌∷◌, ◌++◌, codes, length};
 ghost use Rattle.std.specs.List.{flat_map};
@@ -8,15 +8,15 @@ ghost use Rattle.dsn_report.specs.inner.LineWriter.{IsBlock, Settled, Took, Wrot
 use crate::pending_bytes::PendingBytes;
 use dsn_device::{Drain, QuietWriter};
 
-/// Writes lines to a drain, each ended by CRLF. It holds texts back until many of them make one
-/// write, or until it is settled. After the drain's first failure it writes nothing more, so that
-/// its callers need not look at each line.
+/// Writes lines that end with CRLF to a drain. It buffers texts until the buffer is full or
+/// `settle` is called. It writes nothing after the drain's first failure, so callers need not check
+/// each line.
 #[derive(Drop)]
 pub(crate) struct LineWriter<W> {
     pub(crate) writer: QuietWriter<W>,
-    /// Whether a line that begins with a dot gets one more in front (RFC 5321 section 4.5.2).
+    /// Whether a line that begins with a dot gets another dot in front (RFC 5321 section 4.5.2).
     pub(crate) dots: bool,
-    /// What it holds back.
+    /// The buffer.
     pub(crate) pending: PendingBytes,
 }
 
@@ -31,7 +31,7 @@ impl<W: Drain> LineWriter<W> {
         }
     }
 
-    /// Writes what it holds back, and then the text.
+    /// Writes the buffer, and then the text.
     #[inline(never)]
     fn write_through(&mut self, text: &[u8])
         ensures { Took W.Drain self.old self.new text.now }
@@ -40,7 +40,7 @@ impl<W: Drain> LineWriter<W> {
         self.writer.write(text);
     }
 
-    /// Writes what it holds back.
+    /// Writes the buffer.
     pub(crate) fn settle(&mut self)
         ensures { Settled W.Drain self.old self.new }
     {
@@ -48,7 +48,7 @@ impl<W: Drain> LineWriter<W> {
         self.pending.clear();
     }
 
-    /// Has the drain pass on what it holds.
+    /// Flushes the drain.
     pub(crate) fn flush(&mut self)
         ensures flushes { Flushes W.Drain self.old.writer self.new.writer }
         ensures dots { self.new.dots ≡ self.old.dots }
@@ -57,7 +57,8 @@ impl<W: Drain> LineWriter<W> {
         self.writer.flush();
     }
 
-    /// Has the drain mark the letter with this serial.
+    /// Has the drain mark the letter with this serial. Requires that the drain has failed or has
+    /// taken no bytes since its last flush.
     pub(crate) fn mark_letter(&mut self, serial: u64)
         requires flushed { self.old.writer.failed ≡ false
             → W.unflushed self.old.writer.drain ≡ false }
@@ -68,10 +69,10 @@ impl<W: Drain> LineWriter<W> {
         self.writer.mark_letter(serial);
     }
 
-    /// Writes lines with their CRLFs, from pieces of their text, of which each may reach over
-    /// several lines. It adds no dots: none of the lines may begin with one.
+    /// Writes lines with their CRLFs, as pieces of their text. A piece may contain several lines.
+    /// It adds no dots, so none of the lines may begin with one.
     ///
-    /// What is constant between two values of a notice is one piece, across its lines, and costs
+    /// The constant text between two values of a notice is one piece, even across lines, and costs
     /// one copy.
     pub(crate) fn block(&mut self, pieces: &[&[u8]])
         ensures { (lines : List (List ℕ))
@@ -83,8 +84,8 @@ impl<W: Drain> LineWriter<W> {
         }
     }
 
-    /// Writes a line that is given with its CRLF behind a dot. The dot is written if the line
-    /// begins with one and dots are added.
+    /// Writes a line that is passed with its CRLF after a dot. The dot is written if the line
+    /// begins with a dot and dots are added. Requires that the text is not empty.
     pub(crate) fn dotted_line(&mut self, dotted: &[u8])
         requires { 0 < length dotted.now }
         ensures { (line : List ℕ) → dotted.now ≡ codes "." ++ line ++ codes "\r\n"
@@ -94,7 +95,7 @@ impl<W: Drain> LineWriter<W> {
     }
 }
 
-/// What is sent of a line that is given with its CRLF behind a dot.
+/// The text to be sent for a line that is passed with its CRLF after a dot.
 #[tactic(auto, using(crate::proofs::LineWriterLemmas::after_dot))]
 fn sent(dots: bool, dotted: &[u8]) -> &[u8]
     requires { 0 < length dotted.now }

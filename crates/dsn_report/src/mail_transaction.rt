@@ -1,4 +1,4 @@
-//! The client's side of the mail protocol.
+//! The client's side of an SMTP session.
 //! Implements RFC 5321 section 3.3 and docs/FORMATS.md, "The outbox".
 ghost use Rattle.std.specs.Prelude.{◌≡◌, true, [], ◌++◌, if◌then◌else◌};
 ghost use Rattle.dsn_device.specs.QuietWriter.{Writes};
@@ -11,7 +11,7 @@ use crate::site::Site;
 use dsn_device::Drain;
 use dsn_outcome::Letter;
 
-/// Sends a letter's mail transaction, after what opens the session unless that is sent.
+/// Sends a letter's mail transaction, after the greeting unless that is sent already.
 pub(crate) fn send_letter<W: Drain>(
     lines: &mut LineWriter<W>,
     site: &Site,
@@ -30,7 +30,7 @@ pub(crate) fn send_letter<W: Drain>(
     lines.settle();
 }
 
-/// Sends what ends the session, after what opens it unless that is sent.
+/// Sends QUIT, after the greeting unless that is sent already.
 pub(crate) fn send_goodbye<W: Drain>(lines: &mut LineWriter<W>, site: &Site, greeted: bool)
     requires { lines.old.pending ≡ [] }
     ensures { Writes W.Drain lines.old.writer lines.new.writer
@@ -41,7 +41,7 @@ pub(crate) fn send_goodbye<W: Drain>(lines: &mut LineWriter<W>, site: &Site, gre
     lines.settle();
 }
 
-/// Writes what opens the session, unless it is written.
+/// Writes the greeting unless it is written already.
 #[tactic(auto, unfolding(crate::specs::Outbox::greeting, crate::specs::Lines::text_of_lines))]
 fn greet_once<W: Drain>(lines: &mut LineWriter<W>, site: &Site, greeted: bool)
     ensures { Took W.Drain lines.old lines.new (if greeted then [] else greeting site.now) }
@@ -67,7 +67,7 @@ fn write_transaction<W: Drain>(lines: &mut LineWriter<W>, site: &Site, letter: &
     lines.piece(b".\r\n");
 }
 
-/// Writes what ends the session.
+/// Writes QUIT.
 #[tactic(auto, unfolding(crate::specs::Outbox::goodbye, crate::specs::Lines::text_of_lines))]
 fn write_goodbye<W: Drain>(lines: &mut LineWriter<W>)
     ensures { Took W.Drain lines.old lines.new goodbye }

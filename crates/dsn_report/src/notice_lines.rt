@@ -1,7 +1,7 @@
 //! The text of a notice, line by line.
 //! Implements RFC 6522 sections 3 and 4, RFC 3464 section 2, and docs/FORMATS.md, "The notice".
-//! The order of header fields, the subjects and the words for people are this project's own; what
-//! RFC 6522, RFC 3464 and RFC 3834 ask for is there.
+//! The order of header fields, the subjects and the words for people are this project's own. All
+//! that RFC 6522, RFC 3464 and RFC 3834 require is present.
 ghost use Rattle.std.specs.Prelude.{◌≡◌, ℕ, List, [], ◌∷◌, ◌++◌, None, codes, IsTrue};
 ghost use Rattle.std.specs.List.{flat_map};
 ghost use Rattle.std.specs.Option.{option_copied, option_map};
@@ -26,7 +26,7 @@ use crate::site::Site;
 use dsn_device::Drain;
 use dsn_outcome::{EnvelopeId, Letter, Outcome, Stamp, Wording};
 
-/// Writes a notice's header. The boundary's front is the letter's name and a dot.
+/// Writes a notice's header. Requires that `front` is the letter's name and a dot.
 fn write_header<'a, W: Drain>(
     lines: &mut LineWriter<W>,
     site: &'a Site,
@@ -65,7 +65,7 @@ fn write_header<'a, W: Drain>(
     ]);
 }
 
-/// Writes the empty line before a part, and the part that a person reads.
+/// Writes the empty line before the first part, and that part, which is for people.
 fn write_notification<'a, W: Drain>(
     lines: &mut LineWriter<W>,
     site: &'a Site,
@@ -94,7 +94,7 @@ fn write_notification<'a, W: Drain>(
     write_outcomes(lines, letter);
 }
 
-/// Writes what a person reads of each outcome, oldest first.
+/// Writes the lines for people of each outcome, oldest first.
 fn write_outcomes<W: Drain>(lines: &mut LineWriter<W>, letter: &Letter)
     ensures { Wrote W.Drain lines.old lines.new
         (flat_map (outcome_lines letter.now.draft.wording) letter.now.outcomes) }
@@ -105,7 +105,7 @@ fn write_outcomes<W: Drain>(lines: &mut LineWriter<W>, letter: &Letter)
     }
 }
 
-/// Writes what a person reads of an outcome.
+/// Writes the lines for people of an outcome.
 fn write_outcome<W: Drain>(lines: &mut LineWriter<W>, wording: Wording, outcome: &Outcome)
     ensures { Wrote W.Drain lines.old lines.new (outcome_lines wording outcome.now) }
 {
@@ -113,7 +113,8 @@ fn write_outcome<W: Drain>(lines: &mut LineWriter<W>, wording: Wording, outcome:
     write_if_any(lines, b"    ", outcome.reason());
 }
 
-/// Writes what was done for a recipient, and from which address it came, if that is said.
+/// Writes a recipient and its action. If `origin` is an address, the line says that the recipient
+/// was expanded from it.
 fn write_action<W: Drain>(lines: &mut LineWriter<W>, outcome: &Outcome, origin: Option<&[u8]>)
     ensures { Wrote W.Drain lines.old lines.new
         ((recipient_told outcome.now.recipient (option_copied origin.entry) ++ codes ": "
@@ -146,7 +147,8 @@ fn action_word(outcome: &Outcome) -> &[u8]
     outcome.action().word()
 }
 
-/// Writes the line of a value, if there is one.
+/// Writes the line of a value, if there is one. Requires that the name is not empty and doesn't
+/// begin with a dot.
 fn write_if_any<W: Drain>(lines: &mut LineWriter<W>, name: &[u8], value: Option<&[u8]>)
     requires { IsTrue (begins_plainly name.now) }
     ensures { Wrote W.Drain lines.old lines.new (line_if_any name.now (option_copied value.entry)) }
@@ -156,7 +158,7 @@ fn write_if_any<W: Drain>(lines: &mut LineWriter<W>, name: &[u8], value: Option<
     }
 }
 
-/// Writes the empty line before a part, and the part that a program reads.
+/// Writes the empty line before the second part, and that part, which is for programs.
 fn write_delivery_status<W: Drain>(
     lines: &mut LineWriter<W>,
     site: &Site,
@@ -228,7 +230,7 @@ fn write_recipient_fields<W: Drain>(lines: &mut LineWriter<W>, outcome: &Outcome
     write_extensions(lines, outcome.extensions());
 }
 
-/// Writes extension fields, each unchanged (RFC 3464 section 2.4).
+/// Writes extension fields unchanged (RFC 3464 section 2.4).
 fn write_extensions<W: Drain>(lines: &mut LineWriter<W>, extensions: &[u8])
     requires { IsTrue (is_extension_text extensions.now) }
     ensures { Wrote W.Drain lines.old lines.new (lines_ended_by_lf extensions.now) }
@@ -272,7 +274,7 @@ fn write_final_recipient<W: Drain>(lines: &mut LineWriter<W>, outcome: &Outcome)
     );
 }
 
-/// Writes what the remote system said, if it said something (RFC 3464 section 2.3.6).
+/// Writes the response of the remote system, if there is one (RFC 3464 section 2.3.6).
 fn write_diagnostic<W: Drain>(lines: &mut LineWriter<W>, outcome: &Outcome)
     ensures { Wrote W.Drain lines.old lines.new
         (line_if_any
@@ -288,8 +290,8 @@ fn write_diagnostic<W: Drain>(lines: &mut LineWriter<W>, outcome: &Outcome)
     );
 }
 
-/// Writes the line of a value that has a type, if there is one: after `usual`, which ends with the
-/// usual type, or after `name` and the type that is said.
+/// Writes the line of a typed value, if there is one. If `kind` is a type, the line begins with
+/// `name` and that type. Otherwise it begins with `usual`, which ends with the usual type.
 fn write_typed_if_any<W: Drain>(
     lines: &mut LineWriter<W>,
     usual: &[u8],
@@ -313,7 +315,8 @@ fn write_typed_if_any<W: Drain>(
     }
 }
 
-/// Writes the line of a date, if there is one.
+/// Writes the line of a date, if there is one. Requires that the name is not empty and doesn't
+/// begin with a dot.
 fn write_date_if_any<W: Drain>(lines: &mut LineWriter<W>, name: &[u8], moment: Option<Stamp>)
     requires { IsTrue (begins_plainly name.now) }
     ensures { Wrote W.Drain lines.old lines.new
@@ -324,7 +327,7 @@ fn write_date_if_any<W: Drain>(lines: &mut LineWriter<W>, name: &[u8], moment: O
     }
 }
 
-/// Writes the empty line before a part, and the part with the returned lines, if there are any.
+/// Writes the empty line before the third part, and that part if there are returned lines.
 fn write_returned_part<W: Drain>(
     lines: &mut LineWriter<W>,
     words: Words,
@@ -347,7 +350,7 @@ fn write_returned_part<W: Drain>(
     lines.block(&[b"\r\n"]);
 }
 
-/// Writes the empty line before a part, and what begins it.
+/// Writes the empty line before a part, and the part's delimiter and header.
 fn write_part_header<'a, W: Drain>(
     lines: &mut LineWriter<W>,
     boundary: &'a [u8],

@@ -14,8 +14,8 @@ use dsn_device::{Plain, QuietWriter};
 use dsn_outcome::{Letter, NoMemory};
 use std::alloc::Global;
 
-/// The text of a letter's notice, as a mail program shows it: without the dots that the mail
-/// protocol adds. Returns `NoMemory` only if the memory for it was refused.
+/// Returns the text of a letter's notice as a mail program shows it, without the dots that SMTP
+/// adds. Returns `NoMemory` only if memory for it was refused.
 #[tactic(auto, using(crate::proofs::NoticeTextLemmas::plain_text))]
 pub fn notice(alloc: Global, site: &Site, letter: &Letter) -> Result<Vec<u8>, NoMemory>
     ensures { IfOk result (λ text. text.items ≡ notice_of site.now letter.now) }
@@ -23,9 +23,9 @@ pub fn notice(alloc: Global, site: &Site, letter: &Letter) -> Result<Vec<u8>, No
     notice_text(alloc, site, letter, false)
 }
 
-/// The mail data of a letter's notice: what is sent after the command DATA (RFC 5321 section
-/// 4.1.1.4), with the dots that the mail protocol adds and the one that ends it (section 4.5.2).
-/// Returns `NoMemory` only if the memory for it was refused.
+/// Returns the mail data of a letter's notice, which follows the command DATA (RFC 5321 section
+/// 4.1.1.4). It has the dots that SMTP adds and the final dot (section 4.5.2). Returns `NoMemory`
+/// only if memory for it was refused.
 #[tactic(auto, using(crate::proofs::NoticeTextLemmas::data_text))]
 pub fn mail_data(alloc: Global, site: &Site, letter: &Letter) -> Result<Vec<u8>, NoMemory>
     ensures { IfOk result (λ text. text.items ≡ mail_data site.now letter.now) }
@@ -33,7 +33,7 @@ pub fn mail_data(alloc: Global, site: &Site, letter: &Letter) -> Result<Vec<u8>,
     notice_text(alloc, site, letter, true)
 }
 
-/// The text of a letter's notice, without dots, or with them and the one that ends it.
+/// The text of a letter's notice: plain, or with added dots and the final dot.
 fn notice_text(alloc: Global, site: &Site, letter: &Letter, dots: bool) -> Result<Vec<u8>, NoMemory>
     ensures { IfOk result (λ text. text.items
         ≡ text_of_lines (lines_sent dots (notice_lines site.now letter.now))
@@ -60,7 +60,7 @@ fn notice_text(alloc: Global, site: &Site, letter: &Letter, dots: bool) -> Resul
     Ok(text)
 }
 
-/// What ends the text of a notice: nothing, or the dot that ends mail data.
+/// The end of the text of a notice: empty, or the final dot of mail data.
 fn end_of_text(dots: bool) -> &'static [u8]
     ensures { result.now ≡ (if dots then codes ".\r\n" else []) }
 {

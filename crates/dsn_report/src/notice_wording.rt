@@ -1,4 +1,4 @@
-//! The words that a notice chooses.
+//! The words of a notice that depend on its letter.
 //! Implements docs/FORMATS.md, "The notice".
 ghost use Rattle.std.specs.Prelude.{◌≡◌};
 ghost use Rattle.std.specs.List.{list_all};
@@ -15,7 +15,7 @@ use dsn_outcome::{Action, Letter, Outcome, Service, Wording};
 pub(crate) struct Words {
     /// Its subject.
     pub(crate) subject: &'static [u8],
-    /// What it says to its reader first.
+    /// Its first sentence to the reader.
     pub(crate) opening: &'static [u8],
     /// The description of a returned header.
     pub(crate) header: &'static [u8],
@@ -45,7 +45,7 @@ impl Words {
     }
 }
 
-/// The words of a trace, by its recipients' outcomes.
+/// The words of a trace, which depend on whether the message arrived at all recipients.
 fn trace_words(letter: &Letter) -> Words
     ensures { words_in result
         ≡ words_by ByOutcome Trace
@@ -54,7 +54,7 @@ fn trace_words(letter: &Letter) -> Words
     if all_arrived(letter) { SUCCESS } else { TRACE }
 }
 
-/// The words with one name for what is returned.
+/// The words with the bounce's descriptions of the returned part.
 fn with_bounce_names(words: Words) -> Words
     ensures { words_in result ≡ with_bounce_names (words_in words) }
 {
@@ -82,7 +82,7 @@ const DEFER: Words = Words {
     message: b"Delayed Message",
 };
 
-/// About a delivery that the sender asked about.
+/// About a delivery that the sender requested a report of.
 const TRACE: Words = Words {
     subject: b"Mail Delivery Status Report",
     opening: b"This is the delivery report for your message.",
@@ -90,7 +90,7 @@ const TRACE: Words = Words {
     message: b"Message",
 };
 
-/// About such a delivery, if the message arrived everywhere.
+/// About such a delivery, if the message arrived at all recipients.
 const SUCCESS: Words = Words {
     subject: b"Successful Mail Delivery Report",
     opening: b"Your message was delivered to the recipients below.",
@@ -110,7 +110,7 @@ fn all_arrived(letter: &Letter) -> bool
     true
 }
 
-/// Whether the message reached the recipient, or went on to where it is no longer followed.
+/// Whether the message reached the recipient, or left the mail systems that report on it.
 fn has_arrived(action: Action) -> bool
     ensures { result ≡ has_arrived action }
 {
@@ -120,7 +120,8 @@ fn has_arrived(action: Action) -> bool
     }
 }
 
-/// The original recipient of an outcome, if its notice names it: it isn't the final one.
+/// The original recipient of an outcome, if the wording is by outcome and it isn't the final
+/// recipient.
 pub(crate) fn origin_told(wording: Wording, outcome: &Outcome) -> Option<&[u8]>
     ensures { option_copied result ≡ origin_told wording outcome.now }
 {
@@ -136,7 +137,7 @@ pub(crate) fn origin_told(wording: Wording, outcome: &Outcome) -> Option<&[u8]>
     }
 }
 
-/// The type of what is returned, a whole message or a header.
+/// The media type of the returned part, for a whole message or for a header.
 pub(crate) fn returned_type(whole: bool) -> &'static [u8]
     ensures { result.now ≡ returned_type whole }
 {

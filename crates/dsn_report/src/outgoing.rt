@@ -1,4 +1,4 @@
-//! Letters on their way to the outbox.
+//! Letters that are written to the outbox.
 //! Implements docs/FORMATS.md, "The outbox".
 ghost use Rattle.std.specs.Prelude.{◌≡◌, ◌+◌, ◌≤◌, ℕ, List, [], ◌∷◌, ◌++◌, length};
 ghost use Rattle.std.specs.Option.{option_to_list};
@@ -27,7 +27,7 @@ impl<W> Model for Outgoing<W> {
 }
 
 impl<W: Drain> Outgoing<W> {
-    /// Nothing is written so far.
+    /// An outbox to which nothing is written yet.
     pub fn new(site: Site, outbox: W) -> Self
         ensures delivered { Delivered W.Drain site outbox result [] }
         ensures new { result ≡ begun site outbox }
@@ -45,7 +45,7 @@ impl<W: Drain> Outgoing<W> {
         self.poster.has_failed()
     }
 
-    /// Posts a letter, or keeps it where the outbox fails or has failed.
+    /// Posts a letter. If the outbox fails or has failed before, keeps the letter as unsent.
     pub fn hand(&mut self, letter: Letter)
         ensures delivered { (host : List ℕ) (start : W) (letters : List _)
             → Delivered W.Drain host start self.old letters
@@ -53,12 +53,13 @@ impl<W: Drain> Outgoing<W> {
         ensures few { length self.new.unsent ≤ length self.old.unsent + 1 }
     {
         if let Err(fault) = self.poster.post(letter) {
-            // Its log stays closed and its answer stays Sealed: the notes name it as unsent.
+            // The log stays closed and its answer stays `Sealed`. The notes report the letter as
+            // unsent.
             self.unsent.push(fault.into_letter());
         }
     }
 
-    /// Posts the letter that a request sealed, if it sealed one.
+    /// Posts the letter that a request sealed, if there is one.
     pub fn hand_any(&mut self, letter: Option<Letter>)
         ensures { (host : List ℕ) (start : W) (letters : List _)
             → Delivered W.Drain host start self.old letters
@@ -69,15 +70,14 @@ impl<W: Drain> Outgoing<W> {
         }
     }
 
-    /// Gives the outbox back as it is: nothing more is written, and it isn't ended. Letters that
-    /// could not be written are dropped.
+    /// Returns the outbox as it is, without QUIT. Letters that could not be written are dropped.
     pub fn into_outbox(self) -> W
         ensures { result ≡ self.poster.outbox }
     {
         self.poster.into_outbox()
     }
 
-    /// Ends the outbox.
+    /// Ends the session with QUIT, and returns the outbox and the unsent letters.
     pub fn finish(self) -> OutboxEnd<W>
         ensures outbox { (host : List ℕ) (start : W) (letters : List _)
             → Delivered W.Drain host start self letters

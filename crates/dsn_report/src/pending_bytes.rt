@@ -1,14 +1,14 @@
-//! Bytes that wait to be written.
+//! A buffer of bytes to be written.
 ghost use Rattle.std.specs.Prelude.{◌≡◌, [], ◌++◌, if◌then◌else◌};
 
 use std::marker::Model;
 
-/// How many bytes can wait.
-// Each write through a device costs far more than a copy. Nothing waits between two calls of a
+/// The size of the buffer in bytes.
+// A write through a device costs far more than a copy. The buffer is empty between two calls of a
 // poster.
 const HELD_ROOM: usize = 4_096;
 
-/// Bytes that wait to be written, so that short texts are one write.
+/// A buffer that joins short texts into one write.
 #[derive(Drop)]
 pub(crate) struct PendingBytes {
     room: [u8; HELD_ROOM],
@@ -27,7 +27,7 @@ impl Model for PendingBytes {
 }
 
 impl PendingBytes {
-    /// No bytes.
+    /// An empty buffer.
     pub(crate) fn new() -> Self
         ensures { result ≡ [] }
     {
@@ -37,7 +37,7 @@ impl PendingBytes {
         }
     }
 
-    /// Adds a text at the end if there is room for it, and says whether there is.
+    /// Appends a text if there is room for it, and returns whether there was.
     #[inline(always)]
     pub(crate) fn push(&mut self, text: &[u8]) -> bool
         ensures { self.new ≡ (if result then self.old ++ text.now else self.old) }
@@ -51,14 +51,14 @@ impl PendingBytes {
         true
     }
 
-    /// The bytes.
+    /// The buffered bytes.
     pub(crate) fn bytes(&self) -> &[u8]
         ensures { result.now ≡ self.now }
     {
         &self.room[..self.len]
     }
 
-    /// Drops the bytes.
+    /// Empties the buffer.
     pub(crate) fn clear(&mut self)
         ensures { self.new ≡ [] }
     {

@@ -5,17 +5,17 @@ ghost use Rattle.dsn_report.specs.Poster.{letter_handed_back, post_fault_code};
 use dsn_outcome::Letter;
 use dsn_text::fault_code;
 
-/// Why a letter was not posted. The letter comes back.
+/// Why a letter was not posted, with the letter.
 #[derive(Drop)]
 pub enum PostFault {
-    /// The outbox failed now: a front of the letter's text may be written.
+    /// The outbox failed in this call. A front of the letter's text may be written.
     Write(Letter),
-    /// The outbox failed before: nothing is written.
+    /// The outbox failed before. Nothing is written.
     Failed(Letter),
 }
 
 impl PostFault {
-    /// The number of the fault: 31, or 32, which stays in the library.
+    /// The number of the fault: 31 for `Write`, 32 for `Failed`. The program never reports 32.
     pub fn code(&self) -> u32
         ensures { result ≡ post_fault_code self.now }
     {
@@ -25,7 +25,7 @@ impl PostFault {
         }
     }
 
-    /// The letter that was handed back.
+    /// The letter that was not posted.
     pub fn into_letter(self) -> Letter
         ensures { result ≡ letter_handed_back self }
     {

@@ -1,4 +1,4 @@
-//! Posting notices to an outbox, one mail transaction after another.
+//! Posts notices to an outbox, as one mail transaction after another.
 //! Implements docs/FORMATS.md, "The outbox".
 ghost use Rattle.std.specs.Prelude.{◌≡◌, true, false, not, IsTrue, IsFalse, Err, OnOk, OnErr, IfErr, is_err};
 ghost use Rattle.std.specs.Io.KnownBytes.{Appends};
@@ -15,8 +15,8 @@ use dsn_device::{Drain, QuietWriter};
 use dsn_outcome::Letter;
 use std::marker::Model;
 
-/// Posts letters to an outbox. Nothing is written before the first letter, nothing is held back
-/// between calls, and nothing is written after the outbox's first failure.
+/// Posts letters to an outbox. It writes nothing before the first letter, buffers nothing between
+/// calls, and writes nothing after the outbox's first failure.
 #[derive(Drop)]
 pub struct Poster<W> {
     site: Site,
@@ -40,17 +40,17 @@ impl<W> Model for Poster<W> {
     ghost invariant = { λ p. (p.lines.dots ≡ true) × (p.lines.pending ≡ []) };
 }
 
-/// How a poster ended.
+/// The state of a poster at its end.
 #[derive(Drop)]
 pub struct Ended<W> {
     /// The outbox.
     pub outbox: W,
-    /// Whether nothing failed, so that the outbox has the notice of each letter and QUIT.
+    /// Whether nothing failed. Then the outbox has the notice of each letter, and QUIT.
     pub whole: bool,
 }
 
 impl<W> Poster<W> {
-    /// A poster of this site. It writes nothing.
+    /// A poster for this site. It writes nothing.
     pub fn new(site: Site, outbox: W) -> Poster<W>
         ensures { result ≡ record {
           host = site;
@@ -77,7 +77,7 @@ impl<W> Poster<W> {
         self.lines.writer.has_failed()
     }
 
-    /// Gives the outbox back as it is: nothing more is written, and it isn't ended.
+    /// Returns the outbox as it is, without QUIT.
     pub fn into_outbox(self) -> W
         ensures { result ≡ self.outbox }
     {
@@ -86,9 +86,11 @@ impl<W> Poster<W> {
 }
 
 impl<W: Drain> Poster<W> {
-    /// Writes the letter's notice, after the greeting if that isn't written, then flushes the
-    /// outbox, once, and then has it mark the letter. Returns `Write` if the outbox fails now, and
-    /// `Failed` from every later call, with the letter. It takes no memory.
+    /// Writes the letter's notice, after the greeting if that isn't written yet. Then it flushes
+    /// the outbox once and has it mark the letter. It takes no memory.
+    ///
+    /// Returns `Write` with the letter if the outbox fails in this call, and `Failed` with the
+    /// letter if it failed before.
     #[tactic(auto, using(crate::proofs::PosterLemmas::marked_by_serial), unfolding(crate::specs::Poster::post_text))]
     pub fn post(&mut self, letter: Letter) -> Result<(), PostFault>
         ensures sent { OnOk result
@@ -104,12 +106,12 @@ impl<W: Drain> Poster<W> {
         ensures greeted { OnOk result (self.new.greeted ≡ true) }
         ensures host { self.new.host ≡ self.old.host }
 
-        // Once it has failed, a letter comes back at once and nothing is written.
+        // After a failure, later calls return the letter at once and write nothing.
         ensures later { IsTrue self.old.failed → result ≡ Err (PostFault.Failed letter) }
         ensures nothing { IsTrue self.old.failed → self.new ≡ self.old }
 
-        // It fails where the outbox does: the outbox's count of failures rises there, unless it is
-        // at its end, and nowhere else.
+        // Exactly the call in which the outbox fails returns `Write`. It raises the outbox's count
+        // of failures by one, unless the count is at its maximum. No other call changes the count.
         ensures count { W.failures self.new.outbox
             ≡ counts_failure self.old.failed (is_err result) (W.failures self.old.outbox) }
         ensures steady { W.steady self.old.outbox
@@ -121,8 +123,8 @@ impl<W: Drain> Poster<W> {
         send_letter(&mut self.lines, &self.site, &letter, self.greeted);
         self.greeted = true;
         self.lines.flush();
-        // The order of text, flush and mark is here alone, for `batch`, `serve` and a run over a
-        // journal.
+        // Only this function fixes the order of text, flush and mark, for `batch`, `serve` and a
+        // run over a journal.
         self.lines.mark_letter(letter.serial());
         if self.lines.writer.has_failed() {
             return Err(PostFault::Write(letter));
@@ -130,8 +132,8 @@ impl<W: Drain> Poster<W> {
         Ok(())
     }
 
-    /// Ends the session: writes the greeting if it isn't written, and QUIT, and then flushes the
-    /// outbox, once. After a fault it does nothing.
+    /// Ends the session. It writes the greeting if that isn't written yet, and QUIT, and then
+    /// flushes the outbox once. After a failure it does nothing.
     #[tactic(auto, unfolding(crate::specs::Poster::finish_text))]
     pub fn finish(self) -> Ended<W>
         ensures sent { IsTrue result.whole
@@ -145,7 +147,7 @@ impl<W: Drain> Poster<W> {
         ensures nothing { IsTrue self.failed
             → result ≡ record { outbox = self.outbox; whole = false } }
 
-        // If nothing failed before, `whole` is false exactly where the outbox fails now.
+        // If nothing failed before, `whole` is false if and only if the outbox fails in this call.
         ensures count { W.failures result.outbox
             ≡ counts_failure self.failed (not result.whole) (W.failures self.outbox) }
         ensures steady { W.steady self.outbox

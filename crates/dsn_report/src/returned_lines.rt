@@ -8,19 +8,19 @@ ghost use Rattle.dsn_report.specs.inner.NoticeLines.{byte_shown, line_shown, lin
 
 use bstr::ByteSlice;
 
-/// The longest line of a notice, in bytes without its CRLF (RFC 5322 section 2.1.1).
+/// The length limit of a notice's line, in bytes without its CRLF (RFC 5322 section 2.1.1).
 pub(crate) const LONGEST_LINE: usize = 998;
 
-/// Room for a line of a notice with its CRLF, and for a dot before it.
+/// The space for a line of a notice with its CRLF, and for a dot before it.
 pub(crate) const LINE_ROOM: usize = LONGEST_LINE + 3;
 
-/// The lines of a text up to its first empty one, or all of them, as they came, without their line
-/// feeds.
+/// An iterator over the lines of a text without their line ends: all lines, or those before the
+/// first empty one.
 #[derive(Drop)]
 pub(crate) struct ReturnedLines<'a> {
     /// The text from the next line on.
     pub(crate) rest: &'a [u8],
-    /// Whether all lines are taken.
+    /// Whether all lines are returned.
     pub(crate) whole: bool,
 }
 
@@ -33,7 +33,7 @@ impl<'a> Iterator for ReturnedLines<'a> {
 
     fn next(&mut self) -> Option<&'a [u8]> {
         let (line, rest) = first_line(self.rest);
-        // A line of spaces or tabs isn't empty, and doesn't end the header.
+        // A line of spaces or tabs isn't empty, so it doesn't end the header.
         if line.is_empty() && (!self.whole || self.rest.is_empty()) {
             return None;
         }
@@ -42,7 +42,8 @@ impl<'a> Iterator for ReturnedLines<'a> {
     }
 }
 
-/// A text's first line, and what follows it. A line ends at LF, and a CR before it goes with it.
+/// Returns a text's first line without its line end, and the text after it. A line ends with LF, or
+/// with CR and LF.
 #[inline(always)]
 #[tactic(auto, using(crate::proofs::Rules::header))]
 pub(crate) fn first_line(text: &[u8]) -> (&[u8], &[u8])
@@ -53,9 +54,9 @@ pub(crate) fn first_line(text: &[u8]) -> (&[u8], &[u8])
     ensures empty { length text.now ≡ 0 → length result.0.now ≡ 0 }
 {
     match text.find_byte(b'\n') {
-        // Of two CRs before LF only the last belongs to the line's end.
+        // Of two CRs before LF, only the second belongs to the line end.
         Some(feed) => (without_carriage_return(&text[..feed]), &text[feed + 1..]),
-        // The end of a last line without LF keeps its CR.
+        // A last line without LF keeps a final CR.
         None => (text, &text[text.len()..]),
     }
 }
@@ -70,15 +71,15 @@ fn without_carriage_return(line: &[u8]) -> &[u8]
     }
 }
 
-/// Puts a dot, and then a line as a notice shows it, at the front of `shown`, and says how long the
-/// line is. A line of a whole message is shown as it is.
+/// Writes a dot, and then a line as a notice shows it, at the front of `shown`. Returns the line's
+/// length in bytes. A line of a whole message is shown unchanged up to 998 bytes.
 pub(crate) fn show_line(line: &[u8], whole: bool, shown: &mut [u8; LINE_ROOM]) -> usize
     ensures within { result ≤ LONGEST_LINE }
     ensures line { take (result + 1) shown.new ≡ codes "." ++ line_shown whole line.now }
 {
     shown[0] = b'.';
-    // Counted before the dot is put in front. Whether a line is cut or cleaned first makes no
-    // difference.
+    // The length is limited before the dot is put in front. Cutting and cleaning a line give the
+    // same in either order.
     let len = line.len().min(LONGEST_LINE);
     for (index, byte) in line[..len].iter().enumerate() {
         shown[index + 1] = byte_shown(*byte, whole);
@@ -86,8 +87,8 @@ pub(crate) fn show_line(line: &[u8], whole: bool, shown: &mut [u8; LINE_ROOM]) -
     len
 }
 
-/// Puts a dot, and then a line as a notice shows it, with its CRLF, at the front of `shown`, and
-/// gives them.
+/// Writes a dot, and then a line as a notice shows it, with its CRLF, at the front of `shown`.
+/// Returns what it wrote.
 pub(crate) fn show_dotted_line<'a>(
     line: &[u8],
     whole: bool,
@@ -101,7 +102,7 @@ pub(crate) fn show_dotted_line<'a>(
     &shown[..len + 3]
 }
 
-/// A byte as a notice shows it, of a whole message or of a header.
+/// A byte as a notice shows it, in a whole message or in a header.
 fn byte_shown(byte: u8, whole: bool) -> u8
     ensures { result ≡ byte_shown whole byte }
 {

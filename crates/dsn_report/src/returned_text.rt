@@ -1,4 +1,4 @@
-//! What a notice returns of a message.
+//! The text that a notice returns of a message.
 //! Implements RFC 2045 section 2.7, RFC 3461 section 4.3, and docs/FORMATS.md, "Returned lines".
 ghost use Rattle.std.specs.Prelude.{◌≡◌, ◌==◌, length};
 ghost use Rattle.std.specs.List.{list_all};
@@ -9,17 +9,17 @@ ghost use Rattle.dsn_report.specs.inner.NoticeLines.{lines_shown};
 use crate::returned_lines::{LONGEST_LINE, ReturnedLines, first_line};
 use dsn_outcome::{Letter, Returned};
 
-/// What a notice returns of a message: all lines of a text, or those of its header.
+/// The text that a notice returns of a message: all its lines, or those of its header.
 #[derive(Clone, Copy)]
 pub(crate) struct ReturnedText<'a> {
     /// The text as it came.
     pub(crate) bytes: &'a [u8],
-    /// Whether it is returned whole, as it came.
+    /// Whether all lines are returned unchanged.
     pub(crate) whole: bool,
 }
 
 impl<'a> ReturnedText<'a> {
-    /// What the notice of a letter returns (RFC 3461 section 4.3).
+    /// The text that the notice of a letter returns (RFC 3461 section 4.3).
     pub(crate) fn of(letter: &'a Letter) -> ReturnedText<'a>
         ensures whole { result.whole ≡ returns_message letter.now.draft }
         ensures bytes { result.bytes.now ≡ letter.now.draft.header }
@@ -33,7 +33,7 @@ impl<'a> ReturnedText<'a> {
         }
     }
 
-    /// Whether there are no lines to be returned.
+    /// Whether there are no returned lines.
     #[tactic(auto, using(crate::proofs::HeaderLemmas::none_shown))]
     pub(crate) fn is_empty(self) -> bool
         ensures { result ≡ (length (lines_shown self.entry.whole self.entry.bytes.now) == 0) }
@@ -46,7 +46,7 @@ impl<'a> ReturnedText<'a> {
         }
     }
 
-    /// The lines that are returned.
+    /// An iterator over the returned lines.
     pub(crate) fn lines(self) -> ReturnedLines<'a>
         ensures rest { result.rest.now ≡ self.entry.bytes.now }
         ensures whole { result.whole ≡ self.entry.whole }
@@ -58,15 +58,15 @@ impl<'a> ReturnedText<'a> {
     }
 }
 
-/// Whether the notice of a letter returns this text, which the letter has, whole.
+/// Whether the notice of a letter returns this text whole. Requires that it is the letter's text.
 #[tactic(auto, unfolding(crate::specs::Boundary::returns_message))]
 fn returns_message(letter: &Letter, text: &[u8]) -> bool
     requires { text.now ≡ letter.now.draft.header }
     ensures { result ≡ returns_message letter.now.draft }
 {
     // The outbox is written without waiting for replies, so it is unknown whether the server offers
-    // 8BITMIME, without which no 8bit line may be sent (RFC 6152). A message that was cleaned or
-    // cut would be another message.
+    // 8BITMIME. Without 8BITMIME no 8bit line may be sent (RFC 6152). A cleaned or cut message
+    // would be another message.
     if is_message(letter) {
         stands_whole(text)
     } else {
@@ -74,7 +74,7 @@ fn returns_message(letter: &Letter, text: &[u8]) -> bool
     }
 }
 
-/// Whether a message is wanted back.
+/// Whether the flush has a whole message to be returned.
 fn is_message(letter: &Letter) -> bool
     ensures { result ≡ is_message letter.now.draft.returned }
 {
@@ -84,7 +84,7 @@ fn is_message(letter: &Letter) -> bool
     }
 }
 
-/// Whether each line of a text can be in a 7bit mail as it is (RFC 2045 section 2.7).
+/// Whether each line of a text can be in a 7bit mail unchanged (RFC 2045 section 2.7).
 #[tactic(auto, unfolding(crate::specs::Boundary::stands_whole))]
 fn stands_whole(text: &[u8]) -> bool
     ensures { result ≡ stands_whole text.now }
@@ -101,15 +101,15 @@ fn stands_whole(text: &[u8]) -> bool
     true
 }
 
-/// Whether a line can be in a 7bit mail as it is.
+/// Whether a line can be in a 7bit mail unchanged.
 fn is_mail_line(line: &[u8]) -> bool
     ensures { result ≡ is_mail_line line.now }
 {
     line.len() <= LONGEST_LINE && has_mail_bytes(line)
 }
 
-/// Whether each byte is one that a line of a 7bit mail may hold. It looks at all of them, also
-/// after one that isn't, so that several are tested at once.
+/// Whether a line of a 7bit mail may hold each of the bytes. It doesn't stop at the first one that
+/// fails, so that several bytes are checked at once.
 fn has_mail_bytes(line: &[u8]) -> bool
     ensures { result ≡ list_all is_mail_byte line.now }
 {
@@ -122,8 +122,8 @@ fn has_mail_bytes(line: &[u8]) -> bool
 
 /// Whether a line of a 7bit mail may hold the byte.
 ///
-/// Escape (27) is allowed, as ISO-2022-JP has it, so a returned message has bytes that no other
-/// line of a notice has.
+/// Escape (27) is allowed, since ISO-2022-JP uses it. So a returned message may have bytes that no
+/// other line of a notice has.
 fn is_mail_byte(byte: u8) -> bool
     ensures { result ≡ is_mail_byte byte }
 {

@@ -9,11 +9,12 @@ ghost use Rattle.dsn_report.specs.inner.NoticeLines.{lines_shown};
 use crate::returned_lines::{LINE_ROOM, show_line};
 use crate::returned_text::ReturnedText;
 
-/// More numbers than returned lines can rule out. What is proved is 2,979: a line that rules one out has
-/// at least ten bytes and a line feed. (The shortest has twelve, so 2,520 is the most.)
+/// More numbers than returned lines can rule out. The proof bounds them by 2,979, since a line that
+/// rules one out takes at least eleven bytes with its line feed. (The shortest takes thirteen, so
+/// 2,520 is the actual maximum.)
 pub(crate) const NUMBERS: usize = 2_980;
 
-/// Which numbers the returned lines rule out, for boundaries that begin so.
+/// Which numbers the returned lines rule out, for boundaries that begin with `front`.
 pub(crate) fn numbers_ruled_out(front: &[u8], returned: ReturnedText<'_>) -> [bool; NUMBERS]
     ensures { (number : ℕ) → number < NUMBERS
         → slice_index_or result number false
@@ -34,7 +35,7 @@ pub(crate) fn numbers_ruled_out(front: &[u8], returned: ReturnedText<'_>) -> [bo
     ruled_out
 }
 
-/// The least number that isn't ruled out, if there is one.
+/// Returns the least number that isn't ruled out, if there is one.
 pub(crate) fn first_free(ruled_out: &[bool; NUMBERS]) -> Option<usize>
     ensures first { result ≡ position not ruled_out.now }
     ensures within { IfSome result (λ number. number < NUMBERS) }
@@ -42,9 +43,10 @@ pub(crate) fn first_free(ruled_out: &[bool; NUMBERS]) -> Option<usize>
     ruled_out.iter().position(|ruled_out| !ruled_out)
 }
 
-/// The number that a line rules out, if it rules one out.
+/// Returns the number that a line rules out, if it rules one out.
 ///
-/// The front of a line rules it out, whatever follows (RFC 2046 section 5.1.1).
+/// A line rules out a number if it begins with the delimiter, whatever follows (RFC 2046 section
+/// 5.1.1).
 fn number_ruled_out(front: &[u8], line: &[u8]) -> Option<usize>
     ensures some { IfSome result
         (λ number. (number < boundary_numbers)
@@ -56,7 +58,7 @@ fn number_ruled_out(front: &[u8], line: &[u8]) -> Option<usize>
     leading_number(line.strip_prefix(b"--")?.strip_prefix(front)?)
 }
 
-/// The number in four digits that a text begins with, if it begins with one.
+/// Returns the number of four digits that a text begins with, if it begins with four digits.
 fn leading_number(text: &[u8]) -> Option<usize>
     ensures some { IfSome result
         (λ number. (number < boundary_numbers)
@@ -76,7 +78,7 @@ fn leading_number(text: &[u8]) -> Option<usize>
     )
 }
 
-/// The value of a digit, if the byte is one.
+/// Returns the value of a digit, or `None` if the byte isn't a digit.
 fn digit_value(byte: u8) -> Option<usize>
     ensures some { IfSome result (λ value. (value < 10) × (byte ≡ 48 + value)) }
     ensures none { IfNone result ((value : ℕ) → value < 10 → byte ≢ 48 + value) }

@@ -1,4 +1,4 @@
-//! The mail system's own name.
+//! The host name of the mail system.
 //! Implements docs/FORMATS.md, "Command line and exit status".
 ghost use Rattle.std.specs.Prelude.{◌≡◌, ◌↔◌, IsTrue, IfOk, IsOk, IsErrOf};
 ghost use Rattle.std.specs.List.{list_all};
@@ -9,22 +9,24 @@ use std::alloc::Global;
 use std::marker::Model;
 use thiserror::Error;
 
-/// The longest host name, in bytes (RFC 5321 section 4.5.3.1.2).
+/// The length limit of a host name, in bytes (RFC 5321 section 4.5.3.1.2).
 pub const LONGEST_HOST: usize = 255;
 
-/// Why a site is refused.
+/// Why a host name is refused.
 #[derive(Clone, Copy, Debug, PartialEq, Eq, Error)]
 pub enum SiteFault {
-    /// The host is empty or too long, or has a byte that is no ASCII letter, digit, `.` or `-`.
+    /// The host name is empty, is too long, or has a byte other than ASCII letters, digits, `.` and
+    /// `-`.
     #[error("not a host name")]
     BadHost,
-    /// The memory to keep the host was refused.
+    /// Memory for the host name was refused.
     #[error("out of memory")]
     NoMemory,
 }
 
 impl SiteFault {
-    /// The number of the refusal: 9, or 51, for which the program has no line.
+    /// The number of the fault: 51 for `BadHost`, 9 for `NoMemory`. The program has no message for
+    /// 51.
     pub fn code(&self) -> u32
         ensures { result ≡ site_fault_code self.now }
     {
@@ -35,8 +37,8 @@ impl SiteFault {
     }
 }
 
-/// The mail system that notices come from, by its host name: 1 to 255 ASCII letters, digits, `.`
-/// and `-`.
+/// The mail system that notices come from, by its host name. A host name is 1 to 255 ASCII letters,
+/// digits, `.` and `-`.
 #[derive(Debug, Drop)]
 pub struct Site {
     host: Vec<u8>,
@@ -54,15 +56,15 @@ impl Model for Site {
 }
 
 impl Site {
-    /// Whether a text can be a host name. It takes no memory.
+    /// Whether a text is a valid host name. It takes no memory.
     pub fn is_valid(host: &[u8]) -> bool
         ensures { IsTrue result ↔ IsHost host.now }
     {
         1 <= host.len() && host.len() <= LONGEST_HOST && has_host_bytes(host)
     }
 
-    /// The site of a host name. `BadHost` comes where it is none, `NoMemory` only where memory for
-    /// it was refused.
+    /// Returns the site with this host name. Returns `BadHost` if it is not valid, and `NoMemory`
+    /// only if memory for it was refused.
     pub fn new(alloc: Global, host: &[u8]) -> Result<Site, SiteFault>
         ensures kept { IfOk result (λ site. site ≡ host.now) }
         ensures legal { IsOk result → IsHost host.now }

@@ -1,4 +1,4 @@
--- Lines of a notice, by the functions that write them.
+-- The lines of a notice, as the functions that write them pass them.
 use Rattle.std.specs.Prelude.{ℕ, List, Bool, if◌then◌else◌, take, map}
 use Rattle.std.specs.Str.Lines.{lines}
 use Rattle.dsn_report.specs.Boundary.{header_lines, shown_byte}
@@ -25,14 +25,14 @@ words_in words = record {
 abbrev pub taken_lines : Bool → List ℕ → List (List ℕ)
 taken_lines whole text = if whole then lines text else header_lines text
 
--- a byte and a line as they are, or as those of a header are shown
+-- a byte and a line, unchanged for a whole message, or as a returned header shows them
 abbrev pub byte_shown : Bool → ℕ → ℕ
 byte_shown whole byte = if whole then byte else shown_byte byte
 
 abbrev pub line_shown : Bool → List ℕ → List ℕ
 line_shown whole line = take longest_line (map (byte_shown whole) line)
 
--- what is shown of a text
+-- the lines that are shown of a text
 abbrev pub lines_shown : Bool → List ℕ → List (List ℕ)
 lines_shown whole text = map (line_shown whole) (taken_lines whole text)
 

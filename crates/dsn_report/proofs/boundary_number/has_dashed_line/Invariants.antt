@@ -1,4 +1,4 @@
--- The lines so far begin with something else.
+-- No line so far begins with two dashes.
 use Rattle.std.proofs.Common.{◌≡◌}
 use Rattle.std.specs.List.{list_any}
 use Rattle.dsn_report.specs.inner.Boundary.{is_dashed}

@@ -1,4 +1,4 @@
--- If those that are left are legal, all are.
+-- If the remaining outcomes are legal, all are.
 use Rattle.std.specs.Prelude.{All}
 use Rattle.dsn_outcome.specs.Outcome.{IsLegalOutcome}
 use Rattle.dsn_outcome.specs.Outcomes.{outcomes_left}

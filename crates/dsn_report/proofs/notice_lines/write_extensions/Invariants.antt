@@ -1,4 +1,4 @@
--- Whoever writes what is left has written all.
+-- Writing the remaining lines completes the text.
 use Rattle.std.proofs.Common.{◌≡◌, true}
 use Rattle.std.specs.List.{list_all}
 use Rattle.dsn_text.specs.Extension.{lines_ended_by_lf, is_extension_line}

@@ -1,4 +1,4 @@
--- Whoever writes what is left has written all.
+-- Writing the remaining groups completes the text.
 use Rattle.std.specs.List.{flat_map}
 use Rattle.dsn_outcome.specs.Outcomes.{outcomes_left}
 use Rattle.dsn_report.specs.inner.LineWriter.{Wrote}

@@ -1,4 +1,4 @@
--- Whoever writes what is left has written all.
+-- Writing the remaining lines completes the text.
 use Rattle.std.proofs.Common.{◌≡◌, map, length}
 use Rattle.dsn_report.specs.inner.NoticeLines.{line_shown, lines_left, lines_shown}
 use Rattle.dsn_report.specs.inner.LineWriter.{Wrote}

@@ -1,4 +1,4 @@
--- The lines so far stand in a mail as they are.
+-- The lines so far can be in a mail unchanged.
 use Rattle.std.proofs.Common.{◌≡◌}
 use Rattle.std.specs.List.{list_all}
 use Rattle.std.specs.Str.Lines.{lines}

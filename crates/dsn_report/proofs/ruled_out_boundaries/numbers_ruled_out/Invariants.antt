@@ -1,4 +1,4 @@
--- The table has what the lines so far rule out.
+-- The table has the numbers that the lines so far rule out.
 use Rattle.std.proofs.Common.{◌≡◌, length}
 use Rattle.dsn_report.proofs.BoundaryLemmas.{IsMarked}
 use Rattle.dsn_report.specs.inner.NoticeLines.{lines_left, lines_shown}

@@ -1,4 +1,4 @@
--- Dates that are known from outside, so that a wrong rule of the calendar does not check.
+-- Dates that are known independently, so that a wrong calendar rule fails the check.
 use Rattle.std.proofs.Common.{◌≡◌, codes, refl, rules}
 use Rattle.jiff_core.proofs.DateLemmas.{days_from_civil-max}
 use Rattle.dsn_text.specs.Stamp.{last_moment, civil_after, date_text}
@@ -16,7 +16,7 @@ autumn_2023 : date_text 1_700_000_000 ≡ codes "Tue, 14 Nov 2023 22:13:20 +0000
 unfolding date_text civil_after
 autumn_2023 = refl
 
--- nearly three million days are too many to count here, so this one goes by the day number
+-- counting nearly three million days takes too long here, so this date is derived from its day number
 last_day : civil_after 2_932_896 ≡ record { year = 9999; month = 12; day = 31 }
 last_day = civil_after-from 2_932_896 9999 12 31 (search rules) days_from_civil-max
 

@@ -1,4 +1,4 @@
--- Texts of extension fields, computed by the definitions.
+-- Worked examples of texts of extension fields, computed by the definitions.
 use Rattle.std.specs.Prelude.{◌≡◌, true, false, List, [], ◌∷◌, codes, refl}
 use Rattle.std.specs.List.{flat_map}
 use Rattle.std.specs.Prelude.{ℕ, replicate}

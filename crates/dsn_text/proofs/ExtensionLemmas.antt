@@ -1,4 +1,4 @@
--- The test of a text of extension fields answers as the definition says.
+-- The test of a text of extension fields agrees with the definition.
 use Rattle.std.proofs.Common.{◌≡◌, ℕ, zero, suc, ◌+◌, ◌*◌, ◌<◌, ◌≤◌, Bool, true, false, List, [], ◌∷◌, ◌++◌, length, drop, codes, refl, sym, ap, subst, ◌∙◌, cond, arith, length-append, length-drop, length-take, append_assoc}
 use Rattle.std.specs.Prelude.{◌&&◌, ◌==◌, nat_eq, nat_lt, All, IsTrue, if◌then◌else◌}
 use Rattle.std.specs.List.{starts_with, before_first, after_first, position_or_len, slice_split, onto_first, flat_map}
@@ -11,7 +11,7 @@ use Rattle.std.proofs.lemmas.List.Sums.{fails_before_first, split_at_first, pass
 use Rattle.dsn_text.specs.Extension.{IsExtensionLine, IsExtensionText, lines_but_last, are_extension_lines, lines_ended_by_lf, is_field_colon, is_feed, is_extension_line, is_extension_name, is_extension_rest, is_extension_text, is_extension_value, longest_extension_name, longest_extension_value, most_extensions}
 use Rattle.dsn_text.specs.Text.{is_atom_byte, is_printable, is_text}
 
--- a list before others is not the last, since there is always one after it
+-- a list before other lists is not the last
 before-others : (test : Bool) (line : List ℕ) (byte : ℕ) (parts : List (List ℕ))
     → lines_but_last (line ∷ cond test ([] ∷ parts) (onto_first byte parts)) ≡ line ∷ lines_but_last (cond test ([] ∷ parts) (onto_first byte parts))
 before-others true line byte parts = refl
@@ -22,19 +22,19 @@ lines_but_last-cons : (line text : List ℕ) → lines_but_last (line ∷ slice_
 lines_but_last-cons line [] = refl
 lines_but_last-cons line (byte ∷ rest) = before-others (is_feed byte) line byte (slice_split is_feed rest)
 
--- where there is LF, the first line stands before it, and the others after it
+-- if there is an LF, the first line is the text before it, and the other lines are after it
 pub lines_ended_by_lf_first : (text : List ℕ) → position_or_len is_feed text < length text → lines_ended_by_lf text ≡ before_first is_feed text ∷ lines_ended_by_lf (after_first is_feed text)
 unfolding lines_ended_by_lf
 lines_ended_by_lf_first text found =
     ap lines_but_last (slice_split_first is_feed text 0 found) ∙ lines_but_last-cons (before_first is_feed text) (after_first is_feed text)
 
--- where there is none, no line ends
+-- if there is no LF, no line ends
 pub lines_ended_by_lf_none : (text : List ℕ) → length text ≤ position_or_len is_feed text → lines_ended_by_lf text ≡ []
 unfolding lines_ended_by_lf
 lines_ended_by_lf_none text none =
     ap lines_but_last (slice_split_none is_feed text (λ k d within. fails_before_first is_feed text k d (omega arith)))
 
--- all of a text stands before its first LF only where there is none
+-- the text before the first LF is the whole text only if there is no LF
 pub feed_before : (text : List ℕ) → length (before_first is_feed text) ≡ length text → length text ≤ position_or_len is_feed text
 feed_before text whole = omega (arith, length-take (position_or_len is_feed text) text, whole)
 
@@ -45,7 +45,7 @@ pub lines_ended_by_lf-nil : lines_ended_by_lf [] ≡ []
 unfolding lines_ended_by_lf
 lines_ended_by_lf-nil = refl
 
--- a text of a kind is no longer than its kind allows
+-- a text of a kind is no longer than the limit of its kind
 length-is_text : (allowed : ℕ → Bool) (least most : ℕ) (text : List ℕ) → IsTrue (is_text allowed least most text) → length text ≤ most
 length-is_text allowed least most text is = grind (arith, common_steps)
 
@@ -60,7 +60,7 @@ feed-split text found =
     let byte = eqb-true _ 10 (passes_at_first is_feed text 0 found) in
     split_at_first is_feed text 0 found ∙ ap (λ (b : ℕ). before_first is_feed text ++ b ∷ after_first is_feed text) byte
 
--- a text that begins with a space
+-- a text of a space and a value begins with the space
 space-first : (rest : List ℕ) → IsTrue (is_extension_rest rest) → (rest ≡ 32 ∷ drop 1 rest) × IsTrue (is_extension_value (drop 1 rest))
 space-first [] is = absurd (false≢true is)
 space-first (byte ∷ rest) is =
@@ -68,7 +68,7 @@ space-first (byte ∷ rest) is =
     let space = and_parts (nat_eq 32 byte) true parts.0 in
     (ap (λ (b : ℕ). b ∷ rest) (sym (eqb-true 32 byte space.0)), parts.1)
 
--- something stands after the first place only where there is one
+-- there is text after the first colon only if there is a colon
 found-rest : (line : List ℕ) (byte : ℕ) (rest : List ℕ) → after_first is_field_colon line ≡ byte ∷ rest → position_or_len is_field_colon line < length line
 found-rest line byte rest is = omega (arith, ap length is, length-drop (position_or_len is_field_colon line + 1) line)
 
@@ -95,7 +95,7 @@ length-IsExtensionLine line is =
     let value = length-is_text is_printable 1 longest_extension_value is.value is.value_legal in
     omega (arith, name, value, ap length is.shape, length-append (is.name ++ codes ": ") is.value, length-append is.name (codes ": "))
 
--- what is known of so many lines that pass the test
+-- properties of a text of at most the given number of lines that pass the test
 record AreRead (most : ℕ) (text : List ℕ) : Type 0 where
   fields : All IsExtensionLine (lines_ended_by_lf text)
   few : length (lines_ended_by_lf text) ≤ most
@@ -144,7 +144,7 @@ extension_text_read text is =
     let read = AreRead-test most_extensions text is in
     record { fields = read.fields; few = read.few; shape = read.shape; short = read.short }
 
--- ---- one line after the other
+-- ---- one line after another
 
 pub lines-go_on : (left : ℕ) (text : List ℕ) → position_or_len is_feed text < length text → is_extension_line (before_first is_feed text) ≡ true → are_extension_lines (suc left) text ≡ are_extension_lines left (after_first is_feed text)
 unfolding are_extension_lines

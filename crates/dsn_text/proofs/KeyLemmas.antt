@@ -21,23 +21,23 @@ same_service-Decides Trace Bounce = (λ differ. cc, λ differ. cc)
 same_service-Decides Trace Defer = (λ differ. cc, λ differ. cc)
 same_service-Decides Trace Trace = (λ _. refl, λ _. refl)
 
--- keys of equal parts are equal
+-- keys with equal parts are equal
 key_of_parts : (a b : Key) → a.service ≡ b.service → a.id ≡ b.id → a ≡ b
 key_of_parts a b services ids =
     let first : a ≡ record a { service = b.service } = ap (λ (service : Service). record a { service = service }) services in
     let second : record a { service = b.service } ≡ b = ap (λ (id : List ℕ). record { service = b.service; id = id }) ids in
     first ∙ second
 
--- keys that `same_key` calls the same are equal
+-- keys that `same_key` accepts are equal
 pub same_key-equal : (a b : Key) → same_key a b ≡ true → a ≡ b
 same_key-equal a b same =
     key_of_parts a b (grind (arith, (same_service-Decides a.service b.service).0)) (grind (arith, (bytes_eq-Decides a.id b.id).0))
 
--- a key is the same as itself
+-- `same_key` accepts a key and itself
 pub same_key_refl : (a : Key) → same_key a a ≡ true
 same_key_refl a = rw ((same_service-Decides a.service a.service).1 refl, (bytes_eq-Decides a.id a.id).1 refl)
 
--- equal keys are the same
+-- `same_key` accepts equal keys
 pub equal-same_key : (a b : Key) → a ≡ b → same_key a b ≡ true
 equal-same_key a b equal = rw (← equal) (same_key_refl a)
 
@@ -45,7 +45,7 @@ equal-same_key a b equal = rw (← equal) (same_key_refl a)
 pub same_key-Decides : (a b : Key) → Decides (same_key a b) (a ≡ b)
 same_key-Decides a b = (same_key-equal a b, equal-same_key a b)
 
--- which key comes first makes no difference
+-- `same_key` is symmetric
 pub same_key_sym : (a b : Key) → same_key a b ≡ same_key b a
 same_key_sym a b =
     same_from_decides (same_key a b) (same_key b a) (same_key-Decides a b) (λ same. sym (same_key-equal b a same), λ equal. equal-same_key b a (sym equal))

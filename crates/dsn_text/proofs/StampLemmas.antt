@@ -10,7 +10,7 @@ use Rattle.jiff_core.proofs.CalendarLemmas.{days_from_civil-day_count, day_count
 use Rattle.jiff_core.proofs.DateLemmas.{epoch_day_injective, days_from_civil-day, days_from_civil-next_month, days_from_civil-next_year, days_from_civil-max, epoch_day_range}
 use Rattle.dsn_text.specs.Stamp.{CivilDate, days_in_month, next_day, civil_after}
 
--- the calendar has this date, and it has this day number
+-- the date is in the calendar, and has this day number
 record IsDay (days : ℕ) (date : CivilDate) : Type 0 where
   month : IsInRange 1 12 date.month
   day : IsInRange 1 (days_in_month date.year date.month) date.day
@@ -63,7 +63,7 @@ unfolding civil_after
 civil_after_is zero = first_is
 civil_after_is (suc days) = next_is days (civil_after days) (civil_after_is days)
 
--- the years have four digits up to 31 December 9999
+-- years have at most four digits up to 31 December 9999
 year_bound : (days : ℕ) → days ≤ 2_932_896 → (civil_after days).year ≤ 9999
 year_bound days h =
     let date = civil_after days in
@@ -73,7 +73,7 @@ year_bound days h =
       | inr le ↦ le
     ]
 
--- the date of jiff's with this day number is the one that the count leads to
+-- jiff's date with this day number is the date that the count reaches
 pub civil_after-epoch_day : (days : ℕ) (date : Date) → epoch_day date ≡ pos days → (date.year ≡ pos (civil_after days).year) × (date.month ≡ (civil_after days).month) × (date.day ≡ (civil_after days).day)
 civil_after-epoch_day days date e =
     let is = civil_after_is days in
@@ -87,7 +87,7 @@ civil_after-epoch_day days date e =
     } in
     epoch_day_injective date counted (e ∙ sym is.number)
 
--- the other way round: a date with this day number is the one that the count leads to
+-- conversely, a date with this day number is the date that the count reaches
 pub civil_after-from : (days year month day : ℕ) → IsCivilDate (pos year) month day → days_from_civil (pos year) month day ≡ pos days → civil_after days ≡ record { year = year; month = month; day = day }
 civil_after-from days year month day h e =
     let wanted : Date = record { year = pos year; month = month; day = day; year_in = h.0; month_in = h.1; day_in = h.2 } in

@@ -1,4 +1,4 @@
--- Status codes that are read, and texts that are refused.
+-- Worked examples of valid status codes, and of texts that are refused.
 use Rattle.std.specs.Prelude.{◌≡◌, true, false, codes, refl}
 use Rattle.std.proofs.lemmas.Bool.{false≢true}
 use Rattle.dsn_text.specs.Status.{IsStatusCode, is_status_code}
@@ -46,7 +46,7 @@ space_after = refl
 empty : is_status_code (codes "") ≡ false
 empty = refl
 
--- the definition refuses them too
+-- the definition refuses this text as well
 no_leading_zero : ¬ IsStatusCode (codes "5.01.1")
 no_leading_zero code = false≢true (is_status_code-passes (codes "5.01.1") code)
 

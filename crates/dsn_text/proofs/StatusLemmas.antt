@@ -1,4 +1,4 @@
--- The test for status codes answers as their definition says.
+-- The test for status codes agrees with their definition.
 use Rattle.std.specs.Prelude.{◌≡◌, ℕ, ◌+◌, ◌<◌, ◌≤◌, true, false, ◌&&◌, ◌==◌, not, nat_lt, nat_le, List, [], ◌∷◌, ◌++◌, length, codes, refl, IsTrue}
 use Rattle.std.specs.List.{list_all, before_first, after_first, position_or_len}
 use Rattle.std.proofs.Common.{arith, sym, ap, subst, ◌∙◌, inl, inr, get_or, take, length-append, length-drop, zero, suc}
@@ -12,7 +12,7 @@ use Rattle.dsn_text.specs.Text.{is_digit, is_text}
 use Rattle.dsn_text.specs.Status.{IsNumberText, IsStatusCode, is_class, is_dot, has_leading_zero, is_number_text, is_class_text, is_number_pair, is_status_code, status_class}
 use Rattle.dsn_text.specs.inner.Kept.{longest_status}
 
--- the first dot of a text stands after bytes that are no dots
+-- the first dot of a text is after bytes that aren't dots
 position-dot : (front rest : List ℕ) → list_all (λ byte. not (is_dot byte)) front ≡ true → position_or_len is_dot (front ++ 46 ∷ rest) ≡ length front
 position-dot [] rest _ = refl
 position-dot (byte ∷ front) rest clear =
@@ -25,7 +25,7 @@ before-dot front rest clear = rw (position-dot front rest clear) (take-append_se
 after-dot : (front rest : List ℕ) → list_all (λ byte. not (is_dot byte)) front ≡ true → after_first is_dot (front ++ 46 ∷ rest) ≡ rest
 after-dot front rest clear = rw (position-dot front rest clear) (drop-append-add front (46 ∷ rest) 1)
 
--- digits are no dots
+-- digits aren't dots
 digit-no_dot : (byte : ℕ) → is_digit byte ≡ true → not (is_dot byte) ≡ true
 digit-no_dot byte digit = grind arith
 
@@ -66,7 +66,7 @@ number-no_dot : (text : List ℕ) → IsNumberText text → list_all (λ byte. n
 number-no_dot text number =
     digits-no_dot text (number-digits text number)
 
--- what is built as a status code passes the test
+-- a text with the structure of a status code passes the test
 pair-passes : (subject detail : List ℕ) → IsNumberText subject → IsNumberText detail → is_number_pair (subject ++ 46 ∷ detail) ≡ true
 pair-passes subject detail first second =
     let clear = number-no_dot subject first in
@@ -90,7 +90,7 @@ pub is_status_code-passes : (text : List ℕ) → IsStatusCode text → IsTrue (
 is_status_code-passes text code =
     ap is_status_code code.shape ∙ code-passes code.class (code.subject ++ 46 ∷ code.detail) code.class_known (pair-passes code.subject code.detail code.subject_number code.detail_number)
 
--- what passes the test is built as a status code
+-- a text that passes the test has the structure of a status code
 dot-found : (text : List ℕ) → 0 < length (after_first is_dot text) → position_or_len is_dot text < length text
 dot-found text more = omega (arith, length-drop (position_or_len is_dot text + 1) text)
 
@@ -131,7 +131,7 @@ IsStatusCode-test text passes =
       shape = parts-joined text (before_first is_dot text) numbers (before_first is_dot numbers) (after_first is_dot numbers) alone.0 (split-dot text outer_dot) alone.1 (split-dot numbers inner_dot);
     }
 
--- a status code is short
+-- the length of a status code is limited
 length-IsNumberText : (text : List ℕ) → IsNumberText text → length text ≤ 3
 length-IsNumberText text number =
     let sizes = (and_parts (nat_le 1 (length text) && nat_le (length text) 3) (list_all is_digit text) number.digits).0 in

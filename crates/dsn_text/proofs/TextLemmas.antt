@@ -1,4 +1,4 @@
--- What holds of the texts that requests carry.
+-- Properties of the texts that requests carry.
 use Rattle.std.specs.Prelude.{◌≡◌, ℕ, ◌≤◌, Bool, true, false, List, [], ◌∷◌, ◌++◌, length, drop, replicate, refl, if◌then◌else◌}
 use Rattle.std.specs.List.{list_all}
 use Rattle.std.proofs.Common.{arith, sym, ap}
@@ -18,15 +18,15 @@ list_all-clean_text : (text : List ℕ) → list_all is_printable (clean_text te
 list_all-clean_text [] = refl
 list_all-clean_text (byte ∷ text) = grind (arith, is_printable-if byte (is_printable byte) refl, list_all-clean_text text)
 
--- cleaning keeps a text's length
+-- cleaning doesn't change a text's length
 pub IsClean-clean_text : (text : List ℕ) → length text ≤ longest_clean → IsClean (clean_text text)
 IsClean-clean_text text short = grind (arith, common_steps, list_all-clean_text text, length-map text clean_byte)
 
--- and one that isn't empty says something
+-- a cleaned text that isn't empty is a remark
 pub is_remark-clean_text : (text : List ℕ) → 1 ≤ length text → length text ≤ longest_clean → is_remark (clean_text text) ≡ true
 is_remark-clean_text text some short = grind (arith, common_steps, list_all-clean_text text, length-map text clean_byte)
 
--- a text written over zeros
+-- a text written over zeros is padded with zeros
 pub IsPadded-written : (room : ℕ) (text : List ℕ) → IsPadded room (text ++ drop (length text) (replicate room 0)) (length text)
 IsPadded-written room text = record {
   counted = rw (take-append_seam text (drop (length text) (replicate room 0))) refl;

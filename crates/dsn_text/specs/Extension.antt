@@ -1,31 +1,33 @@
--- Extension fields of a delivery status, by which a mail system says more of a message or of a
+-- Extension fields of a delivery status, in which a mail system reports more on a message or a
 -- recipient than the fields of RFC 3464 do (RFC 3464 section 2.4).
 use Rattle.std.specs.Prelude.{◌≡◌, ℕ, zero, suc, ◌≤◌, Bool, ◌&&◌, ◌==◌, nat_eq, nat_lt, List, [], ◌∷◌, ◌++◌, length, drop, codes, All, IsTrue, if◌then◌else◌}
 use Rattle.std.specs.List.{starts_with, before_first, after_first, position_or_len, slice_split, flat_map}
 use Rattle.dsn_text.specs.Text.{is_atom_byte, is_printable, is_text}
 
--- the longest name of an extension field, with its `X-`, in bytes (this project's profile)
+-- the length limit of an extension field's name, in bytes with its `X-` (this project's profile)
 abbrev pub longest_extension_name : ℕ
 longest_extension_name = 64
 
--- the longest value of an extension field, in bytes (this project's profile)
+-- the length limit of an extension field's value, in bytes (this project's profile)
 abbrev pub longest_extension_value : ℕ
 longest_extension_value = 255
 
--- the most extension fields of a text (this project's profile)
+-- the limit of extension fields in a text (this project's profile)
 abbrev pub most_extensions : ℕ
 most_extensions = 8
 
--- the longest text of extension fields, in bytes: each has a colon, a space and LF too
+-- the length limit of a text of extension fields, in bytes; each has a colon, a space and LF as
+-- well
 abbrev pub longest_extension_text : ℕ
 longest_extension_text = 2576
 
--- the name of an extension field: an atom that begins with `X-` and goes on (RFC 3464 section 2.4)
+-- the name of an extension field: an atom longer than `X-` that begins with it (RFC 3464 section
+-- 2.4)
 abbrev pub is_extension_name : List ℕ → Bool
 is_extension_name name =
     starts_with nat_eq name (codes "X-") && is_text is_atom_byte 3 longest_extension_name name
 
--- the value of an extension field: printable, so it stays within its line
+-- the value of an extension field: printable, so it doesn't leave its line
 abbrev pub is_extension_value : List ℕ → Bool
 is_extension_value = is_text is_printable 1 longest_extension_value
 
@@ -43,13 +45,13 @@ is_field_colon byte = byte == 58
 abbrev pub is_feed : ℕ → Bool
 is_feed byte = byte == 10
 
--- all lists but the last
+-- all lists except the last
 abbrev pub lines_but_last : List (List ℕ) → List (List ℕ)
 lines_but_last [] = []
 lines_but_last (line ∷ []) = []
 lines_but_last (line ∷ next ∷ rest) = line ∷ lines_but_last (next ∷ rest)
 
--- the lines of a text, each ended by LF: all that its LFs part but what stands after the last
+-- the lines of a text that end with LF, without the text after the last LF
 unfoldable pub lines_ended_by_lf : List ℕ → List (List ℕ)
 lines_ended_by_lf text = lines_but_last (slice_split is_feed text)
 
@@ -60,9 +62,9 @@ pub record IsExtensionText (text : List ℕ) : Type 0 where
   pub shape : text ≡ flat_map (λ line. line ++ codes "\n") (lines_ended_by_lf text)
   pub short : length text ≤ longest_extension_text
 
--- the tests of the same facts
+-- the same as tests
 
--- what stands after the colon
+-- the text after the colon is a space and a value
 abbrev pub is_extension_rest : List ℕ → Bool
 is_extension_rest rest = starts_with nat_eq rest (codes " ") && is_extension_value (drop 1 rest)
 
@@ -70,7 +72,7 @@ unfoldable pub is_extension_line : List ℕ → Bool
 is_extension_line line =
     is_extension_name (before_first is_field_colon line) && is_extension_rest (after_first is_field_colon line)
 
--- at most so many extension fields, one line after the other
+-- whether a text is at most the given number of extension fields, one line after another
 unfoldable pub are_extension_lines : ℕ → List ℕ → Bool
 are_extension_lines zero text = length text == 0
 are_extension_lines (suc most) text =

@@ -1,28 +1,28 @@
--- The numbers of refusals and of faults, each once (docs/FORMATS.md, "All numbers"). The
--- same numbers stand in the module fault_code.
+-- The numbers of all faults, each once (docs/FORMATS.md, "All numbers"). The module fault_code has
+-- the same numbers.
 use Rattle.std.specs.Prelude.{ℕ}
 
--- the final recipient is no address
+-- the final recipient is not a valid address
 abbrev pub bad_recipient_code : ℕ
 bad_recipient_code = 1
 
--- the original recipient is neither empty nor an address
+-- the original recipient is neither empty nor a valid address
 abbrev pub bad_original_code : ℕ
 bad_original_code = 2
 
--- the action is unknown, or none that the service's log takes
+-- the action is unknown, or the service's log doesn't take it
 abbrev pub bad_action_code : ℕ
 bad_action_code = 3
 
--- the status is no status code
+-- the status is not a valid status code
 abbrev pub bad_status_code : ℕ
 bad_status_code = 4
 
--- the class of the status does not stand with the action
+-- the class of the status does not fit the action
 abbrev pub status_class_code : ℕ
 status_class_code = 5
 
--- the remote system's name is neither empty nor a name
+-- the remote system's name is neither empty nor a valid name
 abbrev pub bad_mta_code : ℕ
 bad_mta_code = 6
 
@@ -34,27 +34,27 @@ long_diagnostic_code = 7
 abbrev pub long_reason_code : ℕ
 long_reason_code = 8
 
--- memory was refused; for a crew that is crew_refused_code
+-- memory was refused, except for a crew, whose number is crew_refused_code
 abbrev pub no_memory_code : ℕ
 no_memory_code = 9
 
--- a recipient that is not delayed is not tried again
+-- a recipient that isn't delayed has a time until which delivery is retried
 abbrev pub retry_until_code : ℕ
 retry_until_code = 10
 
--- the type of the final recipient is neither empty nor the name of a type
+-- the type of the final recipient is neither empty nor a valid type name
 abbrev pub recipient_type_code : ℕ
 recipient_type_code = 15
 
--- the type of the original recipient is none, or there is no original recipient
+-- the type of the original recipient is malformed, or is given without an original recipient
 abbrev pub original_type_code : ℕ
 original_type_code = 16
 
--- the type of the diagnostic is none, or there is no diagnostic
+-- the type of the diagnostic is malformed, or is given without a diagnostic
 abbrev pub diagnostic_type_code : ℕ
 diagnostic_type_code = 17
 
--- it is unknown whether the header field holds the header or the message
+-- the byte that says what the header field holds means neither header nor message
 abbrev pub returned_code : ℕ
 returned_code = 18
 
@@ -62,11 +62,11 @@ returned_code = 18
 abbrev pub wording_code : ℕ
 wording_code = 19
 
--- the extension fields are no text of them
+-- the extension fields are malformed
 abbrev pub extension_code : ℕ
 extension_code = 20
 
--- a frame is longer than a frame may be
+-- a frame is longer than the limit
 abbrev pub frame_too_long_code : ℕ
 frame_too_long_code = 11
 
@@ -90,7 +90,7 @@ version_code = 21
 abbrev pub kind_code : ℕ
 kind_code = 22
 
--- a body ends before its fields do
+-- a body ends before its last field does
 abbrev pub short_code : ℕ
 short_code = 23
 
@@ -102,7 +102,7 @@ extra_code = 24
 abbrev pub service_code : ℕ
 service_code = 25
 
--- the queue id is none
+-- the queue id is malformed
 abbrev pub queue_id_code : ℕ
 queue_id_code = 26
 
@@ -114,11 +114,11 @@ moment_code = 27
 abbrev pub long_header_code : ℕ
 long_header_code = 28
 
--- the return path is neither empty nor an address
+-- the return path is neither empty nor a valid address
 abbrev pub return_path_code : ℕ
 return_path_code = 29
 
--- the envelope id is neither empty nor one
+-- the envelope id is neither empty nor valid
 abbrev pub envelope_id_code : ℕ
 envelope_id_code = 30
 
@@ -134,7 +134,7 @@ outbox_failed_code = 32
 abbrev pub notes_write_code : ℕ
 notes_write_code = 33
 
--- the value of an answer is none
+-- the value of an answer is malformed
 abbrev pub answer_value_code : ℕ
 answer_value_code = 34
 
@@ -142,7 +142,7 @@ answer_value_code = 34
 abbrev pub connection_write_code : ℕ
 connection_write_code = 35
 
--- a lane's other half is gone: the daemon gave up
+-- the other end of a lane is gone, since the daemon gave up
 abbrev pub lane_lost_code : ℕ
 lane_lost_code = 41
 
@@ -150,7 +150,7 @@ lane_lost_code = 41
 abbrev pub crew_refused_code : ℕ
 crew_refused_code = 42
 
--- there are not 1 to 16 agents
+-- the number of agents is not 1 to 16
 abbrev pub agent_count_code : ℕ
 agent_count_code = 43
 
@@ -158,23 +158,23 @@ agent_count_code = 43
 abbrev pub used_up_code : ℕ
 used_up_code = 44
 
--- a request could not be kept: the daemon gave up
+-- a request could not be kept, so the daemon gave up
 abbrev pub not_kept_code : ℕ
 not_kept_code = 45
 
--- the number of a frame is out of turn
+-- the number of a frame is not the next one
 abbrev pub out_of_turn_code : ℕ
 out_of_turn_code = 46
 
--- a session has one frame more than it may have
+-- a session has a frame over its limit
 abbrev pub too_many_frames_code : ℕ
 too_many_frames_code = 47
 
--- the daemon's bytes ended before an answer's first one
+-- no answer came: the daemon's bytes ended before the first byte of an answer
 abbrev pub unanswered_code : ℕ
 unanswered_code = 48
 
--- the name of the host is none
+-- the name of the host is malformed
 abbrev pub bad_host_code : ℕ
 bad_host_code = 51
 
@@ -190,7 +190,7 @@ journal_full_code = 71
 abbrev pub journal_failed_code : ℕ
 journal_failed_code = 72
 
--- a file has no record, and is no new one
+-- a file has no record, and it isn't a new file
 abbrev pub journal_foreign_code : ℕ
 journal_foreign_code = 73
 
@@ -202,7 +202,7 @@ journal_header_code = 74
 abbrev pub journal_damaged_code : ℕ
 journal_damaged_code = 75
 
--- a mark counts more letters than the journal sealed
+-- a mark counts more letters than the journal has sealed
 abbrev pub mark_ahead_code : ℕ
 mark_ahead_code = 76
 

@@ -5,25 +5,25 @@ use Rattle.dsn_text.specs.declared.action.Action.TheVariants.{Failed, Delayed, D
 use Rattle.dsn_text.specs.declared.service.Service.{Service}
 use Rattle.dsn_text.specs.declared.service.Service.TheVariants.{Bounce, Defer, Trace}
 
--- the byte that stands for a service in a request (this project's profile)
+-- the byte that encodes a service in a request (this project's profile)
 abbrev pub service_byte : Service → ℕ
 service_byte Bounce = 1
 service_byte Defer = 2
 service_byte Trace = 3
 
--- the letters B, D and T
+-- the letter of a service: B, D or T
 abbrev pub service_letter : Service → ℕ
 service_letter Bounce = 66
 service_letter Defer = 68
 service_letter Trace = 84
 
--- the service that has this byte, if one has
+-- the service with this byte, if there is one
 abbrev pub service_of_byte : ℕ → Option Service
 service_of_byte byte =
     if byte == 1 then Some Bounce
     else (if byte == 2 then Some Defer else (if byte == 3 then Some Trace else None))
 
--- whether two services are the same one
+-- whether two services are the same
 abbrev pub same_service : Service → Service → Bool
 same_service a b = service_byte a == service_byte b
 

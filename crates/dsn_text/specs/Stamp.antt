@@ -1,11 +1,11 @@
 -- Dates: the civil date of a day number, and the text of a moment (RFC 5322 section 3.3).
 use Rattle.std.specs.Prelude.{ℕ, zero, suc, ◌+◌, ◌-◌, ◌/◌, ◌%◌, Bool, not, ◌&&◌, ◌||◌, ◌==◌, nat_le, nat_lt, if◌then◌else◌, List, [], ◌∷◌, ◌++◌, slice_index_or, codes}
 
--- the last second of the year 9999: a later year has more than four digits
+-- the last second of the year 9999; a later year has more than four digits
 abbrev pub last_moment : ℕ
 last_moment = 253_402_300_799
 
--- a moment has a date of four digits of years
+-- whether a moment has a date with a year of four digits
 abbrev pub is_moment : ℕ → Bool
 is_moment moment = nat_le moment last_moment
 
@@ -15,17 +15,18 @@ pub record CivilDate : Type 0 where
   pub month : ℕ
   pub day : ℕ
 
--- every fourth year, but of the centuries only every fourth (RFC 3339 appendix C)
+-- every fourth year, except the centuries that 400 doesn't divide (RFC 3339 appendix C)
 abbrev pub is_leap_year : ℕ → Bool
 is_leap_year year = (year % 4 == 0) && (not (year % 100 == 0) || (year % 400 == 0))
 
--- thirty days have September, April, June and November (RFC 3339 section 5.7)
+-- the number of days in a month; September, April, June and November have thirty (RFC 3339 section
+-- 5.7)
 abbrev pub days_in_month : ℕ → ℕ → ℕ
 days_in_month year month =
     if month == 2 then (if is_leap_year year then 29 else 28)
     else (if (month == 4) || (month == 6) || (month == 9) || (month == 11) then 30 else 31)
 
--- the day after: of the same month, else the first of the next month, else of the next year
+-- the next day: of the same month, or else the first of the next month, or else of the next year
 abbrev pub next_day : CivilDate → CivilDate
 next_day date =
     if nat_lt date.day (days_in_month date.year date.month)
@@ -34,16 +35,16 @@ next_day date =
     then record { year = date.year; month = date.month + 1; day = 1 }
     else record { year = date.year + 1; month = 1; day = 1 })
 
--- the day so many days after 1 January 1970
+-- the day this number of days after 1 January 1970
 unfoldable pub civil_after : ℕ → CivilDate
 civil_after zero = record { year = 1970; month = 1; day = 1 }
 civil_after (suc days) = next_day (civil_after days)
 
--- the day of the week that day, from 0 for Monday: 1 January 1970 was a Thursday
+-- the day of the week this number of days after 1 January 1970, a Thursday; 0 is Monday
 abbrev pub weekday_after : ℕ → ℕ
 weekday_after days = (days + 3) % 7
 
--- the names of the days, from 0 for Monday
+-- the names of the days from Monday on, which has number 0
 abbrev pub day_names : List (List ℕ)
 day_names =
     codes "Mon" ∷ codes "Tue" ∷ codes "Wed" ∷ codes "Thu" ∷ codes "Fri" ∷ codes "Sat"
@@ -52,7 +53,7 @@ day_names =
 abbrev pub day_name : ℕ → List ℕ
 day_name weekday = slice_index_or day_names weekday []
 
--- the names of the months, from 1 for January
+-- the names of the months from January on, which has number 1
 abbrev pub month_names : List (List ℕ)
 month_names =
     codes "Jan" ∷ codes "Feb" ∷ codes "Mar" ∷ codes "Apr" ∷ codes "May" ∷ codes "Jun"
@@ -65,7 +66,7 @@ month_name month = slice_index_or month_names (month - 1) []
 abbrev pub two_digits : ℕ → List ℕ
 two_digits n = (48 + n / 10) ∷ (48 + n % 10) ∷ []
 
--- the day so many days after 1 January 1970, as `Thu, 01 Jan 1970`
+-- the day this number of days after 1 January 1970, as `Thu, 01 Jan 1970`
 abbrev pub day_text : ℕ → List ℕ
 day_text days =
     let date = civil_after days in

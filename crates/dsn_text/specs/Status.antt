@@ -4,7 +4,7 @@ use Rattle.std.specs.Prelude.{◌≡◌, ℕ, Bool, false, ◌&&◌, ◌||◌, n
 use Rattle.std.specs.List.{before_first, after_first}
 use Rattle.dsn_text.specs.Text.{is_digit, is_text}
 
--- success, a failure that may pass, and a failure that stays: `2`, `4` and `5`
+-- whether a byte is a class: success `2`, temporary failure `4` or permanent failure `5`
 abbrev pub is_class : ℕ → Bool
 is_class byte = byte == 50 || (byte == 52 || byte == 53)
 
@@ -23,7 +23,7 @@ pub record IsStatusCode (text : List ℕ) : Type 0 where
   pub detail_number : IsNumberText detail
   pub shape : text ≡ (class ∷ codes ".") ++ (subject ++ (codes "." ++ detail))
 
--- the tests of the same facts
+-- the same as tests
 
 abbrev pub is_dot : ℕ → Bool
 is_dot byte = byte == 46

@@ -1,4 +1,4 @@
-//! What a delivery agent did with a recipient (RFC 3464 section 2.3.3).
+//! The action that a delivery agent took for a recipient (RFC 3464 section 2.3.3).
 //! Implements docs/FORMATS.md, "Append: log one recipient's outcome".
 ghost use Rattle.std.specs.Prelude.{◌≡◌};
 ghost use Rattle.dsn_text.specs.Action.{action_byte, action_of_byte, action_of_word, action_word};
@@ -6,23 +6,24 @@ ghost use Rattle.dsn_text.specs.Action.{fits_class, fits_retry};
 
 use crate::stamp::Stamp;
 
-/// The action of RFC 3464 section 2.3.3.
+/// The action of a recipient's outcome (RFC 3464 section 2.3.3).
 #[derive(Clone, Copy, Debug, PartialEq, Eq, PartialOrd, Ord, Hash)]
 pub enum Action {
     /// The message could not be delivered to the recipient.
     Failed,
-    /// Delivery was not possible so far and is tried again.
+    /// The message could not be delivered so far, and delivery is retried.
     Delayed,
     /// The message was delivered to the recipient.
     Delivered,
-    /// The message was handed to a system that makes no notifications.
+    /// The message was relayed to a system that doesn't report successful delivery.
     Relayed,
     /// The message was delivered and forwarded to several recipients.
     Expanded,
 }
 
 impl Action {
-    /// The action that a request's byte means, 1 to 5 in the order of the variants.
+    /// The action of a request's byte, 1 to 5 in the order of the variants. Returns `None` for any
+    /// other byte.
     pub fn from_byte(byte: u8) -> Option<Action>
         ensures { result ≡ action_of_byte byte }
     {
@@ -62,7 +63,7 @@ impl Action {
         }
     }
 
-    /// The action that has this word in a notice, if one has.
+    /// The action with this word in a notice. Returns `None` for any other word.
     pub fn from_word(word: &[u8]) -> Option<Action>
         ensures { result ≡ action_of_word word.now }
     {
@@ -92,10 +93,10 @@ impl Action {
         }
     }
 
-    /// Whether the action fits this moment until which delivery is tried again: only a delayed
-    /// recipient may have one (RFC 3464 section 2.3.9).
+    /// Whether an outcome of this action may have this value of retry-until. Only a delayed
+    /// recipient may have a moment until which delivery is retried (RFC 3464 section 2.3.9).
     ///
-    /// The daemon reads no clock: neither moment has to be the earlier one.
+    /// The daemon reads no clock, and either of an outcome's two moments may be the earlier one.
     pub fn fits_retry(self, retry_until: Option<Stamp>) -> bool
         ensures { result ≡ fits_retry self retry_until }
     {

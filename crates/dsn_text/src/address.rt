@@ -8,14 +8,12 @@ use crate::text::{Alphabet, TextFault, copied, has_long_form};
 use std::alloc::Global;
 use std::marker::Model;
 
-/// The longest address, in bytes (this project's profile; RFC 5321 section 4.5.3.1.3 has 256 with
-/// the angle brackets).
+/// The length limit of an address, in bytes (this project's profile). RFC 5321 section 4.5.3.1.3
+/// has 256 with the angle brackets.
 pub const LONGEST_ADDRESS: usize = 256;
 
 /// An envelope address without its angle brackets: 1 to 256 bytes of printable ASCII without the
-/// space, `<` and `>`. It needs no `@`.
-///
-/// Local recipients have no `@`.
+/// space, `<` and `>`. It needs no `@`, since local recipients have none.
 #[derive(Debug, Drop)]
 pub struct Address {
     bytes: Vec<u8>,
@@ -33,15 +31,15 @@ impl Model for Address {
 }
 
 impl Address {
-    /// Whether a text can be an address. It takes no memory.
+    /// Whether a text is a valid address. It takes no memory.
     pub fn is_valid(text: &[u8]) -> bool
         ensures { IsTrue result ↔ IsAddress text.now }
     {
         has_long_form(text, 1, LONGEST_ADDRESS, Alphabet::AddressBytes)
     }
 
-    /// Keeps a text that can be an address. Returns `Bad` if it can't be one, and `NoMemory` only
-    /// if memory for it was refused.
+    /// Copies a text. Returns `Bad` if it isn't a valid address, and `NoMemory` only if memory for
+    /// it was refused.
     pub fn new(alloc: Global, text: &[u8]) -> Result<Address, TextFault>
         ensures kept { IfOk result (λ kept. kept ≡ text.now) }
         ensures legal { IsOk result → IsAddress text.now }
@@ -53,8 +51,8 @@ impl Address {
         Ok(Address::kept(alloc, text)?)
     }
 
-    /// Keeps a text that can be an address, as [`Address::is_valid`] found: it isn't tested again.
-    /// Returns `NoMemory` only if memory for it was refused.
+    /// Copies a text. Requires that it is a valid address ([`Address::is_valid`]); it isn't checked
+    /// again. Returns `NoMemory` only if memory for it was refused.
     pub fn kept(alloc: Global, text: &[u8]) -> Result<Address, NoMemory>
         requires { IsAddress text.now }
         ensures { IfOk result (λ kept. kept ≡ text.now) }

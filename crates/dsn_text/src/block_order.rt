@@ -6,9 +6,11 @@ ghost use Rattle.std.specs.Slice.Scan.{big_endian};
 
 use std::cmp::Ordering;
 
-/// The order of two blocks by their bytes, which is that of their words in turn.
+/// The order of two blocks by their bytes. It compares words of eight bytes, which have the same
+/// order.
 ///
-/// A queue id's bytes are more than 0 and zeros follow them, so this is also the order of two ids.
+/// A queue id in a block has no zero byte and is followed by zeros, so this is also the order of
+/// queue ids.
 pub(crate) fn compare(left: &[u8; 32], right: &[u8; 32]) -> Ordering
     ensures { result ≡ slice_cmp nat_cmp left.now right.now }
 {
@@ -21,7 +23,8 @@ pub(crate) fn compare(left: &[u8; 32], right: &[u8; 32]) -> Ordering
     Ordering::Equal
 }
 
-/// One of a block's four words, whose first byte counts most.
+/// One of a block's four words, with the first byte as the most significant one. Requires that the
+/// number is below 4.
 fn word(block: &[u8; 32], number: usize) -> u64
     requires { number < 4 }
     ensures { result ≡ big_endian 0 (take 8 (drop (number * 8) block.now)) }

@@ -7,11 +7,11 @@ use crate::text::{Alphabet, TextFault, copied};
 use std::alloc::Global;
 use std::marker::Model;
 
-/// The longest diagnostic or reason, in bytes (this project's profile).
+/// The length limit of a diagnostic or a reason, in bytes (this project's profile).
 pub const LONGEST_CLEAN: usize = 800;
 
-/// A diagnostic or a reason as it is kept: at most 800 bytes of printable ASCII, the space
-/// included. It may be empty.
+/// A cleaned diagnostic or reason: at most 800 bytes of printable ASCII, including the space. It
+/// may be empty.
 #[derive(Debug, Drop)]
 pub struct Clean {
     bytes: Vec<u8>,
@@ -29,15 +29,15 @@ impl Model for Clean {
 }
 
 impl Clean {
-    /// Whether a text is short enough to be kept. It takes no memory.
+    /// Whether a text has at most 800 bytes. It takes no memory.
     pub fn is_valid(text: &[u8]) -> bool
         ensures { IsTrue result ↔ (length text.now ≤ LONGEST_CLEAN) }
     {
         text.len() <= LONGEST_CLEAN
     }
 
-    /// Keeps a text that is short enough, with `?` for each byte that isn't printable, a tab too.
-    /// Returns `Bad` if it is too long, and `NoMemory` only if memory for it was refused.
+    /// Copies a text with `?` in place of each byte that isn't printable, a tab included. Returns
+    /// `Bad` if the text has over 800 bytes, and `NoMemory` only if memory for it was refused.
     pub fn new(alloc: Global, text: &[u8]) -> Result<Clean, TextFault>
         ensures kept { IfOk result (λ kept. kept ≡ clean_text text.now) }
         ensures legal { IsOk result → length text.now ≤ LONGEST_CLEAN }
@@ -61,8 +61,8 @@ impl Clean {
 
 /// The byte, or `?` if it isn't printable.
 ///
-/// Remote systems send such bytes, and the outcome matters more than they do: so a byte is replaced
-/// and the text isn't refused.
+/// Remote systems send such bytes, and the outcome matters more than they do. So a byte is replaced
+/// instead of the text refused.
 fn printable(byte: u8) -> u8
     ensures { result ≡ clean_byte byte }
 {
@@ -73,8 +73,8 @@ fn printable(byte: u8) -> u8
     }
 }
 
-/// Writes `?` over each byte that isn't printable, a tab too: what [`Clean::new`] does to a text,
-/// done in place. It takes no memory.
+/// Writes `?` over each byte that isn't printable, a tab included. This is [`Clean::new`] in place.
+/// It takes no memory.
 pub fn replace_unprintable(text: &mut [u8])
     ensures { text.new ≡ clean_text text.old }
 {
@@ -83,7 +83,7 @@ pub fn replace_unprintable(text: &mut [u8])
     }
 }
 
-/// The cleaned text in memory of its own.
+/// A cleaned copy of the text. Returns `NoMemory` if memory for it was refused.
 fn cleaned(alloc: Global, text: &[u8]) -> Result<Vec<u8>, TextFault>
     ensures kept { IfOk result (λ copy. copy.items ≡ clean_text text.now) }
     ensures fault { IsErr result → IsErrOf result TextFault.NoMemory }

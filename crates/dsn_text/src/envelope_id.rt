@@ -8,11 +8,11 @@ use crate::text::{Alphabet, TextFault, copied, has_form};
 use std::alloc::Global;
 use std::marker::Model;
 
-/// The longest envelope id, in bytes (RFC 3461 section 4.4).
+/// The length limit of an envelope id, in bytes (RFC 3461 section 4.4).
 pub const LONGEST_ENVELOPE_ID: usize = 100;
 
-/// An envelope id that the sender gave, decoded (RFC 3464 section 2.2.1): 1 to 100 bytes of
-/// printable ASCII, the space included.
+/// The sender's envelope id, decoded (RFC 3464 section 2.2.1): 1 to 100 bytes of printable ASCII,
+/// including the space.
 #[derive(Debug, Drop)]
 pub struct EnvelopeId {
     bytes: Vec<u8>,
@@ -30,15 +30,15 @@ impl Model for EnvelopeId {
 }
 
 impl EnvelopeId {
-    /// Whether a text can be an envelope id. It takes no memory.
+    /// Whether a text is a valid envelope id. It takes no memory.
     pub fn is_valid(text: &[u8]) -> bool
         ensures { IsTrue result ↔ IsEnvelopeId text.now }
     {
         has_form(text, 1, LONGEST_ENVELOPE_ID, Alphabet::Printable)
     }
 
-    /// Keeps a text that can be an envelope id. Returns `Bad` if it can't be one, and `NoMemory`
-    /// only if memory for it was refused.
+    /// Copies a text. Returns `Bad` if it isn't a valid envelope id, and `NoMemory` only if memory
+    /// for it was refused.
     pub fn new(alloc: Global, text: &[u8]) -> Result<EnvelopeId, TextFault>
         ensures kept { IfOk result (λ kept. kept ≡ text.now) }
         ensures legal { IsOk result → IsEnvelopeId text.now }
@@ -50,8 +50,8 @@ impl EnvelopeId {
         Ok(EnvelopeId::kept(alloc, text)?)
     }
 
-    /// Keeps a text that can be an envelope id, as [`EnvelopeId::is_valid`] found: it isn't tested
-    /// again. Returns `NoMemory` only if memory for it was refused.
+    /// Copies a text. Requires that it is a valid envelope id ([`EnvelopeId::is_valid`]); it isn't
+    /// checked again. Returns `NoMemory` only if memory for it was refused.
     pub fn kept(alloc: Global, text: &[u8]) -> Result<EnvelopeId, NoMemory>
         requires { IsEnvelopeId text.now }
         ensures { IfOk result (λ kept. kept ≡ text.now) }

@@ -1,5 +1,5 @@
-//! Extension fields: what a mail system says of a message or of a recipient beside the fields of
-//! RFC 3464 (RFC 3464 section 2.4).
+//! Extension fields, in which a mail system reports more on a message or a recipient than the
+//! fields of RFC 3464 do (RFC 3464 section 2.4).
 //! Implements docs/FORMATS.md, "Append: log one recipient's outcome".
 ghost use Rattle.std.specs.Prelude.{◌≡◌, ◌<◌, ◌≤◌, ◌==◌, [], ◌∷◌, length, IsTrue, IfSome, MatchOption};
 ghost use Rattle.std.specs.List.{after_first, before_first, position_or_len};
@@ -7,23 +7,24 @@ ghost use Rattle.dsn_text.specs.Extension.{IsExtensionText, are_extension_lines,
 
 use crate::text::{Alphabet, has_form};
 
-/// The longest name of an extension field, in bytes, with its `X-` (this project's profile).
+/// The length limit of an extension field's name, in bytes with its `X-` (this project's profile).
 pub const LONGEST_EXTENSION_NAME: usize = 64;
 
-/// The longest value of an extension field, in bytes (this project's profile).
+/// The length limit of an extension field's value, in bytes (this project's profile).
 pub const LONGEST_EXTENSION_VALUE: usize = 255;
 
-/// The most extension fields of a text (this project's profile).
+/// The limit of extension fields in a text (this project's profile).
 ///
-/// The bounds are small so that a log of 1,000 outcomes stays small.
+/// The limits are small so that a log of 1,000 outcomes stays small.
 pub const MOST_EXTENSIONS: usize = 8;
 
-/// The longest text of extension fields, in bytes: each has a colon, a space and LF too.
+/// The length limit of a text of extension fields, in bytes. Each field has a colon, a space and LF
+/// as well.
 pub const LONGEST_EXTENSION_TEXT: usize = 2576;
 
 /// Whether a text is extension fields (RFC 3464 section 2.4): at most 8 lines, each ended by LF
 /// alone, and nothing after them. A line is a name, a colon, a space and a value. The name is an
-/// atom (RFC 5322 section 3.2.3) of 3 to 64 bytes that begins with `X-`, the value 1 to 255
+/// atom (RFC 5322 section 3.2.3) of 3 to 64 bytes that begins with `X-`. The value is 1 to 255
 /// printable bytes. It takes no memory.
 pub fn is_extension_text(text: &[u8]) -> bool
     ensures test { result ≡ is_extension_text text.now }
@@ -32,7 +33,7 @@ pub fn is_extension_text(text: &[u8]) -> bool
     is_empty_or_lines(text)
 }
 
-/// Whether a text is extension fields and nothing else. Most texts are empty, and cost one test.
+/// Whether a text is extension fields. Most texts are empty, and cost one comparison.
 #[tactic(auto, unfolding(crate::specs::Extension::are_extension_lines))]
 fn is_empty_or_lines(text: &[u8]) -> bool
     ensures { result ≡ is_extension_text text.now }
@@ -40,7 +41,7 @@ fn is_empty_or_lines(text: &[u8]) -> bool
     text.is_empty() || are_extension_lines(text)
 }
 
-/// Whether a text is at most the allowed number of extension fields, one line after the other.
+/// Whether a text is at most 8 extension fields, one line after another.
 #[inline(never)]
 fn are_extension_lines(text: &[u8]) -> bool
     ensures { result ≡ are_extension_lines most_extensions text.now }
@@ -58,9 +59,10 @@ fn are_extension_lines(text: &[u8]) -> bool
     rest.is_empty()
 }
 
-/// The first line of a text that LF ends, without it, and what follows.
+/// Returns the first line that ends with LF, without the LF, and the text after it. Returns `None`
+/// if the text has no LF.
 ///
-/// A CR has no part in a line's end: none that a client sends can end a line of the notice early.
+/// A CR is never part of a line end, so no CR from a client can end a line of the notice early.
 #[tactic(auto, using(crate::proofs::ExtensionLemmas::lines_ended_by_lf_first, crate::proofs::ExtensionLemmas::lines_ended_by_lf_none, crate::proofs::ExtensionLemmas::feed_before))]
 pub fn first_ended_line(text: &[u8]) -> Option<(&[u8], &[u8])>
     ensures lines { MatchOption result (lines_ended_by_lf text.now ≡ [])
@@ -77,7 +79,7 @@ pub fn first_ended_line(text: &[u8]) -> Option<(&[u8], &[u8])>
     Some((line, rest))
 }
 
-/// Whether a line is an extension field.
+/// Whether a line is a valid extension field.
 #[tactic(auto, unfolding(crate::specs::Extension::is_extension_line))]
 fn is_extension_line(line: &[u8]) -> bool
     ensures { result ≡ is_extension_line line.now }
@@ -86,9 +88,9 @@ fn is_extension_line(line: &[u8]) -> bool
     is_extension_name(name) && is_extension_rest(rest)
 }
 
-/// Whether a text is the name of an extension field.
+/// Whether a text is a valid name of an extension field.
 ///
-/// Names with `X-` are for experiments and for the fields of one mail system. Any other name has to
+/// Names with `X-` are for experiments and for the fields of one mail system. Any other name must
 /// be registered (RFC 3464 section 2.4), and the daemon may write a field of that name itself.
 fn is_extension_name(name: &[u8]) -> bool
     ensures { result ≡ is_extension_name name.now }
@@ -96,15 +98,15 @@ fn is_extension_name(name: &[u8]) -> bool
     name.starts_with(b"X-") && has_form(name, 3, LONGEST_EXTENSION_NAME, Alphabet::AtomBytes)
 }
 
-/// Whether a text is a space and the value of an extension field.
+/// Whether a text is a space and a valid value of an extension field.
 fn is_extension_rest(rest: &[u8]) -> bool
     ensures { result ≡ is_extension_rest rest.now }
 {
     rest.starts_with(b" ") && has_form(&rest[1..], 1, LONGEST_EXTENSION_VALUE, Alphabet::Printable)
 }
 
-/// What is before the first such byte, and what is after it. Without one all of the text is before
-/// it.
+/// The text before the first occurrence of a byte, and the text after it. If the byte doesn't
+/// occur, the whole text is before it.
 fn split_at_first(text: &[u8], sought: u8) -> (&[u8], &[u8])
     ensures before { result.0.now ≡ before_first (λ byte. byte == sought) text.now }
     ensures after { result.1.now ≡ after_first (λ byte. byte == sought) text.now }
@@ -117,7 +119,8 @@ fn split_at_first(text: &[u8], sought: u8) -> (&[u8], &[u8])
     }
 }
 
-/// The place of the first such byte, or the length of a text without one.
+/// The place of the first occurrence of a byte, or the length of the text if the byte doesn't
+/// occur.
 fn first_place(text: &[u8], sought: u8) -> usize
     ensures place { result ≡ position_or_len (λ byte. byte == sought) text.now }
     ensures within { result ≤ length text.now }

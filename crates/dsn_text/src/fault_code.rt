@@ -1,48 +1,50 @@
-//! The numbers of refusals and of faults, each once: docs/FORMATS.md, "All numbers". The same
-//! numbers are in the contracts' FaultCode.
+//! The numbers of all faults, each once (docs/FORMATS.md, "All numbers"). The function `code()` of
+//! an error type returns them.
 //!
-//! 1 to 10 and 15 to 30 are refusals of a request's body, 11 to 14 faults of a frame, 31
-//! to 35 of what is written, 41 to 45 of a crew, 46 to 48 of a session, 51 of a site, 61 of a socket
-//! and 71 to 77 of a journal.
-//! Each is what `code()` of an error type of this project gives.
-//! The contracts have a list of their own so that a wrong number in one list is a contract that
-//! isn't met, and not another meaning of the number everywhere.
+//! - 1 to 10 and 15 to 30 refuse a request's body.
+//! - 11 to 14 are faults of a frame.
+//! - 31 to 35 are faults of the outbox, the notes, an answer and a connection.
+//! - 41 to 45 are faults of a crew, 46 to 48 of a session, and 51 of a site.
+//! - 61 is a fault of a socket, and 71 to 77 are faults of a journal.
+//!
+//! The contracts have a list of their own, the module FaultCode. So a wrong number in one list
+//! breaks a contract, instead of being wrong everywhere alike.
 
-/// The final recipient is no address.
+/// The final recipient is not a valid address.
 pub const BAD_RECIPIENT: u32 = 1;
-/// The original recipient is neither empty nor an address.
+/// The original recipient is neither empty nor a valid address.
 pub const BAD_ORIGINAL: u32 = 2;
-/// The action is unknown, or none that the service's log takes.
+/// The action is unknown, or the service's log doesn't take it.
 pub const BAD_ACTION: u32 = 3;
-/// The status is no status code.
+/// The status is not a valid status code.
 pub const BAD_STATUS: u32 = 4;
 /// The class of the status does not fit the action.
 pub const STATUS_CLASS: u32 = 5;
-/// The remote system's name is neither empty nor a name.
+/// The remote system's name is neither empty nor a valid name.
 pub const BAD_MTA: u32 = 6;
 /// The diagnostic is too long.
 pub const LONG_DIAGNOSTIC: u32 = 7;
 /// The reason is too long.
 pub const LONG_REASON: u32 = 8;
-/// Memory was refused; for a crew that is [`CREW_REFUSED`].
+/// Memory was refused, except for a crew: see [`CREW_REFUSED`].
 pub const NO_MEMORY: u32 = 9;
-/// A recipient that is not delayed is not tried again.
+/// A recipient that isn't delayed has a time until which delivery is retried.
 pub const RETRY_UNTIL: u32 = 10;
 
-/// The type of the final recipient is neither empty nor the name of a type.
+/// The type of the final recipient is neither empty nor a valid type name.
 pub const RECIPIENT_TYPE: u32 = 15;
-/// The type of the original recipient is malformed, or there is no original recipient.
+/// The type of the original recipient is malformed, or is given without an original recipient.
 pub const ORIGINAL_TYPE: u32 = 16;
-/// The type of the diagnostic is malformed, or there is no diagnostic.
+/// The type of the diagnostic is malformed, or is given without a diagnostic.
 pub const DIAGNOSTIC_TYPE: u32 = 17;
-/// It is unknown whether the header field holds the header or the message.
+/// The byte that says what the header field holds means neither header nor message.
 pub const RETURNED: u32 = 18;
 /// The wording of a notice is unknown.
 pub const WORDING: u32 = 19;
-/// The extension fields are no text of them.
+/// The extension fields are malformed.
 pub const EXTENSION: u32 = 20;
 
-/// A frame is longer than a frame may be.
+/// A frame is longer than the limit.
 pub const FRAME_TOO_LONG: u32 = 11;
 /// A frame has the length 0.
 pub const FRAME_EMPTY: u32 = 12;
@@ -55,7 +57,7 @@ pub const READ_FAILED: u32 = 14;
 pub const VERSION: u32 = 21;
 /// The kind of a body, or of an answer's reply, is unknown.
 pub const KIND: u32 = 22;
-/// A body ends before its fields do.
+/// A body ends before its last field does.
 pub const SHORT: u32 = 23;
 /// Bytes follow a body's last field.
 pub const EXTRA: u32 = 24;
@@ -67,9 +69,9 @@ pub const QUEUE_ID: u32 = 26;
 pub const MOMENT: u32 = 27;
 /// The returned header is too long.
 pub const LONG_HEADER: u32 = 28;
-/// The return path is neither empty nor an address.
+/// The return path is neither empty nor a valid address.
 pub const RETURN_PATH: u32 = 29;
-/// The envelope id is neither empty nor one.
+/// The envelope id is neither empty nor valid.
 pub const ENVELOPE_ID: u32 = 30;
 
 /// The outbox could not be written.
@@ -78,27 +80,27 @@ pub const OUTBOX_WRITE: u32 = 31;
 pub const OUTBOX_FAILED: u32 = 32;
 /// A line of the notes could not be written.
 pub const NOTES_WRITE: u32 = 33;
-/// The value of an answer isn't a legal one.
+/// The value of an answer is malformed.
 pub const ANSWER_VALUE: u32 = 34;
 /// An answer or a frame could not be written to a connection.
 pub const CONNECTION_WRITE: u32 = 35;
 
-/// A lane's other half is gone: the daemon gave up.
+/// The other end of a lane is gone, since the daemon gave up.
 pub const LANE_LOST: u32 = 41;
 /// Memory or a thread of a crew was refused.
 pub const CREW_REFUSED: u32 = 42;
-/// There are not 1 to 16 agents.
+/// The number of agents is not 1 to 16.
 pub const AGENT_COUNT: u32 = 43;
 /// An agent's requests are used up.
 pub const USED_UP: u32 = 44;
-/// A request could not be kept: the daemon gave up.
+/// A request could not be kept, so the daemon gave up.
 pub const NOT_KEPT: u32 = 45;
 
-/// The number of a frame is out of turn.
+/// The number of a frame is not the next one.
 pub const OUT_OF_TURN: u32 = 46;
-/// A session has one frame more than it may have.
+/// A session has a frame over its limit.
 pub const TOO_MANY_FRAMES: u32 = 47;
-/// The daemon's bytes ended before an answer's first one.
+/// No answer came: the daemon's bytes ended before the first byte of an answer.
 pub const UNANSWERED: u32 = 48;
 
 /// The name of the host is malformed.
@@ -111,13 +113,13 @@ pub const SOCKET: u32 = 61;
 pub const JOURNAL_FULL: u32 = 71;
 /// A file of a journal could not be opened, read, written or synced.
 pub const JOURNAL_FAILED: u32 = 72;
-/// A file has no record, and is no new one.
+/// A file has no record, and it isn't a new file.
 pub const JOURNAL_FOREIGN: u32 = 73;
 /// A journal is of another version, or was kept under other limits.
 pub const JOURNAL_HEADER: u32 = 74;
 /// A record is damaged.
 pub const JOURNAL_DAMAGED: u32 = 75;
-/// A mark counts more letters than the journal sealed.
+/// A mark counts more letters than the journal has sealed.
 pub const MARK_AHEAD: u32 = 76;
 /// A mark counts fewer letters than the journal's base.
 pub const MARK_BEHIND: u32 = 77;

@@ -3,8 +3,8 @@
 use crate::queue_id::QueueId;
 use crate::service::Service;
 
-/// One log's key: each service has a log of its own for each message. Keys are in the order of
-/// their services, then of their queue ids as bytes.
+/// The key of a log. Each service has a log of its own for each message. Keys are ordered by
+/// service, and then by the bytes of the queue id.
 #[derive(Clone, Copy, Debug, PartialEq, Eq, PartialOrd, Ord)]
 pub struct Key {
     /// The service.

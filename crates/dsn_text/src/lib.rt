@@ -1,4 +1,4 @@
-//! What outcomes and requests of a bounce daemon are made of: texts, codes, keys and moments.
+//! The parts of a bounce daemon's outcomes and requests: texts, codes, keys and moments.
 #![tactic(auto)]
 
 mod action;

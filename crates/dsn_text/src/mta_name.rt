@@ -7,11 +7,11 @@ use crate::text::{Alphabet, TextFault, copied, has_form};
 use std::alloc::Global;
 use std::marker::Model;
 
-/// The longest name of a mail system, in bytes (RFC 5321 section 4.5.3.1.2).
+/// The length limit of a mail system's name, in bytes (RFC 5321 section 4.5.3.1.2).
 pub const LONGEST_MTA_NAME: usize = 255;
 
-/// The name of a remote mail system, as it is reported (RFC 3464 section 2.3.5): 1 to 255 bytes of
-/// printable ASCII without the space.
+/// The name of a remote mail system (RFC 3464 section 2.3.5): 1 to 255 bytes of printable ASCII
+/// without the space.
 #[derive(Debug, Drop)]
 pub struct MtaName {
     bytes: Vec<u8>,
@@ -29,15 +29,15 @@ impl Model for MtaName {
 }
 
 impl MtaName {
-    /// Whether a text can be a mail system's name. It takes no memory.
+    /// Whether a text is a valid name of a mail system. It takes no memory.
     pub fn is_valid(text: &[u8]) -> bool
         ensures { IsTrue result ↔ IsMtaName text.now }
     {
         has_form(text, 1, LONGEST_MTA_NAME, Alphabet::Visible)
     }
 
-    /// Keeps a text that can be a mail system's name. Returns `Bad` if it can't be one, and
-    /// `NoMemory` only if memory for it was refused.
+    /// Copies a text. Returns `Bad` if it isn't a valid name of a mail system, and `NoMemory` only
+    /// if memory for it was refused.
     pub fn new(alloc: Global, text: &[u8]) -> Result<MtaName, TextFault>
         ensures kept { IfOk result (λ kept. kept ≡ text.now) }
         ensures legal { IsOk result → IsMtaName text.now }

@@ -1,4 +1,4 @@
-//! Want of memory.
+//! The error of refused memory.
 ghost use Rattle.std.specs.Prelude.{◌≡◌};
 ghost use Rattle.dsn_text.specs.FaultCode.{no_memory_code};
 
@@ -11,7 +11,7 @@ use thiserror::Error;
 pub struct NoMemory;
 
 impl NoMemory {
-    /// The number of the refusal, 9.
+    /// The number of the fault: 9.
     pub fn code(&self) -> u32
         ensures { result ≡ no_memory_code }
     {

@@ -1,4 +1,4 @@
-//! Moments that may be missing, as they are kept.
+//! Moments that may be missing, packed into eight bytes.
 ghost use Rattle.std.specs.Prelude.{◌≡◌, IsTrue};
 ghost use Rattle.dsn_text.specs.Optional.{is_none_or};
 ghost use Rattle.dsn_text.specs.Stamp.{is_moment};
@@ -6,10 +6,11 @@ ghost use Rattle.dsn_text.specs.Stamp.{is_moment};
 use crate::stamp::Stamp;
 use std::marker::Model;
 
-/// A moment that may be missing, in eight bytes, where an `Option<Stamp>` has sixteen.
+/// A moment that may be missing, in eight bytes. An `Option<Stamp>` takes sixteen.
 #[derive(Debug, Drop)]
 pub struct PackedStamp {
-    // The seconds since 1970 began; a number after the last moment means that there is none.
+    // The seconds since 1970 began. A number after the last moment means that the moment is
+    // missing.
     seconds: u64,
 }
 
@@ -23,7 +24,7 @@ impl Model for PackedStamp {
 }
 
 impl PackedStamp {
-    /// Keeps a moment, or that there is none.
+    /// Packs a moment, or a missing one.
     pub fn new(stamp: Option<Stamp>) -> PackedStamp
         ensures same { result ≡ stamp }
         ensures dated { IsTrue (is_none_or is_moment result) }

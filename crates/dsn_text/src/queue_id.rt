@@ -1,4 +1,4 @@
-//! The name of a message's queue file, which names its log.
+//! The name of a message's queue file, which also identifies its log.
 //! Implements docs/FORMATS.md, "Requests".
 ghost use Rattle.std.specs.Prelude.{◌≡◌, ◌↔◌, ◌==◌, IsTrue, IsSome, IfSome};
 ghost use Rattle.std.proofs.Common.{rules};
@@ -13,10 +13,10 @@ use crate::text::{Alphabet, has_form};
 use std::cmp::Ordering;
 use std::marker::Model;
 
-/// The longest queue id, in bytes.
+/// The length limit of a queue id, in bytes.
 pub const LONGEST_QUEUE_ID: usize = 32;
 
-/// A queue id: 1 to 32 ASCII letters and digits, held in place and compared as bytes.
+/// A queue id: 1 to 32 ASCII letters and digits, stored in place and compared as bytes.
 #[derive(Clone, Copy, Debug)]
 pub struct QueueId {
     buffer: [u8; 32],
@@ -45,14 +45,14 @@ impl Model for QueueId {
 }
 
 impl QueueId {
-    /// Whether a text can be a queue id.
+    /// Whether a text is a valid queue id.
     pub fn is_valid(text: &[u8]) -> bool
         ensures { IsTrue result ↔ IsQueueId text.now }
     {
         has_form(text, 1, LONGEST_QUEUE_ID, Alphabet::LettersAndDigits)
     }
 
-    /// The queue id that a text is, if it is one. It takes no memory.
+    /// Returns the queue id with this text, or `None` if the text isn't valid. It takes no memory.
     pub fn new(text: &[u8]) -> Option<QueueId>
         ensures some { IsSome result ↔ IsQueueId text.now }
         ensures kept { IfSome result (λ id. id ≡ text.now) }

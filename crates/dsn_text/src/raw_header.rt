@@ -1,4 +1,4 @@
-//! Headers of messages that could not be delivered.
+//! The headers of messages, or whole messages, that a notice returns.
 //! Implements RFC 3461 section 4.3 and docs/FORMATS.md, "Flush: close the log and make its notice".
 ghost use Rattle.std.specs.Prelude.{◌≡◌, ◌↔◌, ◌<◌, ◌≤◌, length, IsTrue, IfOk, IsOk, IsErrOf};
 
@@ -7,10 +7,11 @@ use crate::text::{TextFault, copied};
 use std::alloc::Global;
 use std::marker::Model;
 
-/// The longest header, in bytes (this project's profile).
+/// The length limit of a header, in bytes (this project's profile).
 pub const LONGEST_HEADER: usize = 32768;
 
-/// A message's header as a request carries it: at most 32,768 bytes, whatever they are.
+/// A message's header, or the whole message, as a request carries it: at most 32,768 bytes of any
+/// value.
 #[derive(Debug, Drop)]
 pub struct RawHeader {
     bytes: Vec<u8>,
@@ -28,15 +29,15 @@ impl Model for RawHeader {
 }
 
 impl RawHeader {
-    /// Whether a text is short enough to be kept. It takes no memory.
+    /// Whether a text has at most 32,768 bytes. It takes no memory.
     pub fn is_valid(text: &[u8]) -> bool
         ensures { IsTrue result ↔ (length text.now ≤ LONGEST_HEADER) }
     {
         text.len() <= LONGEST_HEADER
     }
 
-    /// Keeps a text that is short enough, byte for byte. Returns `Bad` if it is too long, and
-    /// `NoMemory` only if memory for it was refused.
+    /// Copies a text. Returns `Bad` if it has over 32,768 bytes, and `NoMemory` only if memory for
+    /// it was refused.
     pub fn new(alloc: Global, text: &[u8]) -> Result<RawHeader, TextFault>
         ensures kept { IfOk result (λ kept. kept ≡ text.now) }
         ensures legal { IsOk result → length text.now ≤ LONGEST_HEADER }
@@ -48,8 +49,8 @@ impl RawHeader {
         Ok(RawHeader::kept(alloc, text)?)
     }
 
-    /// Keeps a text that is short enough, as [`RawHeader::is_valid`] found: it isn't tested again.
-    /// Returns `NoMemory` only if memory for it was refused.
+    /// Copies a text. Requires that it has at most 32,768 bytes ([`RawHeader::is_valid`]); it isn't
+    /// checked again. Returns `NoMemory` only if memory for it was refused.
     pub fn kept(alloc: Global, text: &[u8]) -> Result<RawHeader, NoMemory>
         requires { length text.now ≤ LONGEST_HEADER }
         ensures { IfOk result (λ kept. kept ≡ text.now) }

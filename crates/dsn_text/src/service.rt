@@ -1,4 +1,4 @@
-//! The three services of the daemon, as Postfix's bounce(8) has them.
+//! The three services of the daemon, which are those of Postfix's bounce(8).
 //! Implements docs/FORMATS.md, "Requests".
 ghost use Rattle.std.specs.Prelude.{◌≡◌};
 ghost use Rattle.dsn_text.specs.Service.{takes};
@@ -6,19 +6,20 @@ ghost use Rattle.dsn_text.specs.Service.{service_byte, service_letter, service_o
 
 use crate::action::Action;
 
-/// Which log an outcome belongs to.
+/// The service that an outcome is logged for.
 #[derive(Clone, Copy, Debug, PartialEq, Eq, PartialOrd, Ord, Hash)]
 pub enum Service {
     /// Mail that could not be delivered.
     Bounce,
     /// Mail that is still being retried.
     Defer,
-    /// A delivery report that the sender asked for.
+    /// Delivery reports that the sender requested.
     Trace,
 }
 
 impl Service {
-    /// The service that a request's byte means: 1 bounce, 2 defer, 3 trace.
+    /// The service of a request's byte: 1 bounce, 2 defer, 3 trace. Returns `None` for any other
+    /// byte.
     pub fn from_byte(byte: u8) -> Option<Service>
         ensures { result ≡ service_of_byte byte }
     {

@@ -5,10 +5,10 @@ ghost use Rattle.dsn_text.specs.Text.{most_digits};
 use itoa::Buffer;
 use std::marker::Model;
 
-/// The most bytes that a short text has.
+/// The length limit of a short text, in bytes.
 pub const SHORT_ROOM: usize = 64;
 
-/// A text of at most 64 bytes, held in place: a name, a boundary or a line of notes.
+/// A text of at most 64 bytes, stored in place: a name, a boundary or a line of notes.
 #[derive(Drop)]
 pub struct ShortText {
     buffer: [u8; SHORT_ROOM],
@@ -37,7 +37,7 @@ impl ShortText {
         }
     }
 
-    /// Adds a text at the end.
+    /// Appends a text. Requires that the result has at most 64 bytes.
     pub fn push(&mut self, text: &[u8])
         requires { length self.old + length text.now ≤ SHORT_ROOM }
         ensures { self.new ≡ self.old ++ text.now }
@@ -47,8 +47,8 @@ impl ShortText {
         self.len = past;
     }
 
-    /// Adds a number in decimal at the end; it takes at most 20 bytes. Most counts are one digit,
-    /// which is written as it is.
+    /// Appends a number in decimal, which takes at most 20 bytes. Requires that there is room for
+    /// 20 bytes. Most counts have one digit, which is written directly.
     #[tactic(auto, using(std::proofs::lemmas::Fmt::decimal_digit))]
     pub fn push_number(&mut self, number: u64)
         requires { length self.old + most_digits ≤ SHORT_ROOM }
@@ -58,7 +58,7 @@ impl ShortText {
         if number < 10 {
             self.push(&[b'0' + number as u8]);
         } else {
-            // `itoa` writes in place and its contract has the text: a line of notes takes no
+            // `itoa` writes in place, and its contract has the text. So a line of notes takes no
             // memory.
             self.push(Buffer::new().format(number).as_bytes());
         }

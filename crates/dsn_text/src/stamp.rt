@@ -32,7 +32,8 @@ impl Model for Stamp {
 }
 
 impl Stamp {
-    /// The moment this number of seconds after 1970 began, or `None` after [`LAST_MOMENT`].
+    /// Returns the moment this number of seconds after 1970 began, or `None` if it is after
+    /// [`LAST_MOMENT`].
     pub fn new(seconds: u64) -> Option<Stamp>
         ensures bound { IsSome result ↔ (seconds ≤ last_moment) }
         ensures value { IfSome result (λ stamp. stamp ≡ seconds) }
@@ -77,19 +78,19 @@ impl Stamp {
         ]
     }
 
-    // The day on which the moment falls.
+    // The date of the moment.
     fn civil_date(self) -> Date
         ensures date { IsCivil (civil_after (self / 86_400)) result }
         ensures weekday { weekday_of result ≡ weekday_after (self / 86_400) }
     {
-        // `jiff_core` has the date of a day number, and `jiff` its weekday, year, month and day.
-        // The text of RFC 5322 that `jiff` writes has a day of one digit without a zero, so `date`
-        // writes its own.
+        // `jiff_core` computes the date of a day number, and `jiff` the weekday, year, month and
+        // day of a date. In the RFC 5322 text that `jiff` writes, a day below 10 has no leading
+        // zero, so `date` writes its own text.
         let day = (self.seconds / 86_400) as i64;
         Date::from_plain(jiff_core::civil::Date::from_unix_epoch_day(day).unwrap())
     }
 
-    // The time of that day, as `23:59:59`.
+    // The time of day, as `23:59:59`.
     fn time(self) -> [u8; 8]
         ensures { result ≡ time_text (self % 86_400) }
     {
@@ -101,7 +102,7 @@ impl Stamp {
     }
 }
 
-// A number in two digits.
+// A number in two digits. Requires that it is below 100.
 fn digits(number: u8) -> [u8; 2]
     requires { number < 100 }
     ensures { result ≡ two_digits number }

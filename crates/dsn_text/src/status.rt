@@ -1,4 +1,4 @@
-//! Status codes, as `5.1.1`.
+//! Status codes, such as `5.1.1`.
 //! Implements RFC 3463 section 2 and RFC 3464 section 2.3.4.
 ghost use Rattle.std.specs.Prelude.{◌≡◌, ◌↔◌, ◌≤◌, length, IsTrue, IsSome, IfSome, Some, is_some};
 ghost use Rattle.std.specs.List.{before_first, after_first, position_or_len};
@@ -8,7 +8,7 @@ use crate::text::{Alphabet, has_form};
 use std::marker::Model;
 use std::{fmt, str};
 
-/// The longest status code, in bytes.
+/// The length limit of a status code, in bytes.
 pub const LONGEST_STATUS: usize = 9;
 
 /// A status code (RFC 3463 section 2): class `2`, `4` or `5`, subject and detail, joined by dots.
@@ -42,7 +42,7 @@ impl Model for Status {
 }
 
 impl Status {
-    /// Whether a text is a status code.
+    /// Whether a text is a valid status code.
     pub fn is_valid(text: &[u8]) -> bool
         ensures code { IsTrue result ↔ IsStatusCode text.now }
         ensures test { result ≡ is_status_code text.now }
@@ -51,7 +51,8 @@ impl Status {
         is_status_code(text)
     }
 
-    /// The status code that a text is, if it is one. It takes no memory.
+    /// Returns the status code with this text, or `None` if the text isn't valid. It takes no
+    /// memory.
     pub fn read(text: &[u8]) -> Option<Status>
         ensures some { IsSome result ↔ IsStatusCode text.now }
         ensures test { is_some result ≡ is_status_code text.now }
@@ -103,7 +104,7 @@ impl fmt::Display for Status {
     }
 }
 
-/// Whether a text is a status code.
+/// Whether a text is a valid status code.
 fn is_status_code(text: &[u8]) -> bool
     ensures { result ≡ is_status_code text.now }
 {
@@ -111,7 +112,7 @@ fn is_status_code(text: &[u8]) -> bool
     is_class_text(class) && is_number_pair(numbers)
 }
 
-/// Whether a text is a class alone.
+/// Whether a text is a class only.
 fn is_class_text(text: &[u8]) -> bool
     ensures { result ≡ is_class_text text.now }
 {
@@ -126,8 +127,8 @@ fn is_number_pair(text: &[u8]) -> bool
     is_number_text(subject) && is_number_text(detail)
 }
 
-/// Whether a text is a number of one to three digits without a leading zero. Most are one digit,
-/// which costs one test.
+/// Whether a text is a number of one to three digits without a leading zero. Most numbers have one
+/// digit, and cost one comparison.
 fn is_number_text(text: &[u8]) -> bool
     ensures { result ≡ is_number_text text.now }
 {
@@ -137,14 +138,15 @@ fn is_number_text(text: &[u8]) -> bool
     }
 }
 
-/// Whether a text goes on after a first `0`.
+/// Whether a text begins with `0` and has more bytes.
 fn has_leading_zero(text: &[u8]) -> bool
     ensures { result ≡ has_leading_zero text.now }
 {
     matches!(text, [b'0', _, ..])
 }
 
-/// What is before the first dot, and what is after it. Without a dot all of the text is before it.
+/// The text before the first dot, and the text after it. If there is no dot, the whole text is
+/// before it.
 fn split_at_dot(text: &[u8]) -> (&[u8], &[u8])
     ensures before { result.0.now ≡ before_first is_dot text.now }
     ensures after { result.1.now ≡ after_first is_dot text.now }
@@ -157,7 +159,7 @@ fn split_at_dot(text: &[u8]) -> (&[u8], &[u8])
     }
 }
 
-/// The place of the first dot, or the length of a text without one.
+/// The place of the first dot, or the length of a text without a dot.
 fn first_dot(text: &[u8]) -> usize
     ensures place { result ≡ position_or_len is_dot text.now }
     ensures within { result ≤ length text.now }

@@ -1,5 +1,4 @@
-//! What the kinds of text have in common: their fault, which bytes each may hold, and how a text
-//! is kept.
+//! The common part of all kinds of text: their fault, their allowed bytes, and how they are copied.
 ghost use Rattle.std.specs.Prelude.{◌≡◌, IfOk};
 ghost use Rattle.std.specs.List.{list_all};
 ghost use Rattle.dsn_text.specs.inner.Kept.{allows};
@@ -9,13 +8,13 @@ use crate::no_memory::NoMemory;
 use std::alloc::Global;
 use thiserror::Error;
 
-/// Why a text was not kept.
+/// Why a text was refused.
 #[derive(Clone, Copy, Debug, PartialEq, Eq, Error)]
 pub enum TextFault {
     /// The text is too short or too long, or has a byte that its kind doesn't allow.
     #[error("not a legal text")]
     Bad,
-    /// The memory to keep it was refused.
+    /// Memory for the text was refused.
     #[error("out of memory")]
     NoMemory,
 }
@@ -30,7 +29,7 @@ impl From<NoMemory> for TextFault {
     }
 }
 
-/// Which bytes a text may hold.
+/// A set of allowed bytes.
 #[derive(Clone, Copy)]
 pub(crate) enum Alphabet {
     /// ASCII digits.
@@ -39,7 +38,7 @@ pub(crate) enum Alphabet {
     LettersAndDigits,
     /// Printable ASCII without the space, `<` and `>`.
     AddressBytes,
-    /// What an atom holds: printable ASCII without the space and `()<>[]:;@\\,."`.
+    /// The bytes of an atom: printable ASCII without the space and `()<>[]:;@\\,."`.
     AtomBytes,
     /// Printable ASCII without the space.
     Visible,
@@ -48,7 +47,7 @@ pub(crate) enum Alphabet {
 }
 
 impl Alphabet {
-    /// Whether a text may hold this byte.
+    /// Whether the byte is allowed.
     pub(crate) fn allows(self, byte: u8) -> bool
         ensures { result ≡ allows self byte }
     {
@@ -62,8 +61,8 @@ impl Alphabet {
         }
     }
 
-    /// Whether a text may hold each of these bytes. It looks at all of them, also after one that a
-    /// text may not hold, so that several are tested at once.
+    /// Whether all bytes of a text are allowed. It doesn't stop at the first one that isn't, so
+    /// that several bytes are checked at once.
     fn allows_all(self, text: &[u8]) -> bool
         ensures { result ≡ list_all (allows self) text.now }
     {
@@ -74,22 +73,22 @@ impl Alphabet {
         all
     }
 
-    /// The same of a text that is mostly long. It is tested by eights: what is left over is tested
-    /// with others before it, which are tested twice.
+    /// Like `allows_all`, for texts that are mostly long. It checks all full groups of eight bytes,
+    /// and then the last eight bytes, of which some are checked twice.
     fn allows_by_eights(self, text: &[u8]) -> bool
         ensures { result ≡ list_all (allows self) text.now }
     {
         if text.len() < 8 {
             return self.allows_all(text);
         }
-        // A loop over eights is compiled to vector code, and the last seven bytes of a text alone
-        // would be tested one by one. A queue id of twelve bytes gains nothing by it.
+        // A loop over groups of eight is compiled to vector code. The last one to seven bytes alone
+        // would be checked one by one. A queue id of twelve bytes gains nothing by it.
         let whole = text.len() / 8 * 8;
         self.allows_all(&text[..whole]) & self.allows_all(&text[text.len() - 8..])
     }
 }
 
-/// Whether a byte is one of the specials, which no atom holds (RFC 5322 section 3.2.3).
+/// Whether a byte is a special, which no atom may have (RFC 5322 section 3.2.3).
 fn is_mail_special(byte: u8) -> bool
     ensures { result ≡ is_mail_special byte }
 {
@@ -99,22 +98,21 @@ fn is_mail_special(byte: u8) -> bool
     )
 }
 
-/// Whether a text's length is within these bounds, both included, and it has only bytes that it may
-/// hold.
+/// Whether a text's length is from `least` to `most`, and its bytes are allowed.
 pub(crate) fn has_form(text: &[u8], least: usize, most: usize, alphabet: Alphabet) -> bool
     ensures { result ≡ is_text (allows alphabet) least most text.now }
 {
     least <= text.len() && text.len() <= most && alphabet.allows_all(text)
 }
 
-/// The same of a text that is mostly long.
+/// Like `has_form`, for texts that are mostly long.
 pub(crate) fn has_long_form(text: &[u8], least: usize, most: usize, alphabet: Alphabet) -> bool
     ensures { result ≡ is_text (allows alphabet) least most text.now }
 {
     least <= text.len() && text.len() <= most && alphabet.allows_by_eights(text)
 }
 
-/// The text in memory of its own.
+/// A copy of the text. Returns `NoMemory` if memory for it was refused.
 pub(crate) fn copied(alloc: Global, text: &[u8]) -> Result<Vec<u8>, NoMemory>
     ensures { IfOk result (λ copy. copy.items ≡ text.now) }
 {

@@ -1,18 +1,18 @@
-//! The names of types: which kind of address or of diagnostic a text is.
+//! The names of types: the kind of an address or of a diagnostic.
 //! Implements RFC 3464 section 2.1.2 and docs/FORMATS.md, "Append: log one recipient's outcome".
 ghost use Rattle.std.specs.Prelude.{◌↔◌, IsTrue};
 ghost use Rattle.dsn_text.specs.Text.{IsTypeName};
 
 use crate::text::{Alphabet, has_form};
 
-/// The longest name of a type, in bytes (this project's profile).
+/// The length limit of a type name, in bytes (this project's profile).
 pub const LONGEST_TYPE_NAME: usize = 32;
 
-/// Whether a text can be the name of a type (RFC 3464 sections 2.1.2 and 2.3.6): an atom (RFC 5322
+/// Whether a text is a valid type name (RFC 3464 sections 2.1.2 and 2.3.6): an atom (RFC 5322
 /// section 3.2.3) of 1 to 32 bytes. It takes no memory.
 ///
-/// A mail system has reasons that no SMTP server replied (`X-Postfix`), and a sender may name a
-/// recipient by an address that isn't one of Internet mail.
+/// Types are needed because a mail system has reasons that no SMTP server replied (`X-Postfix`). A
+/// sender may also name a recipient by an address that isn't one of Internet mail.
 #[inline(never)]
 pub fn is_type_name(text: &[u8]) -> bool
     ensures { IsTrue result ↔ IsTypeName text.now }

@@ -1,4 +1,4 @@
--- A word that differs decides, and after one that doesn't the next words do.
+-- An unequal word decides the order, and after an equal one the next words do.
 use Rattle.std.proofs.Common.{◌≡◌, ◌+◌, ◌*◌, sym, ◌∙◌, rules, take, drop, arith}
 use Rattle.std.specs.Ordering.{nat_cmp}
 use Rattle.std.specs.Slice.Scan.{big_endian}

@@ -1,4 +1,4 @@
--- The words before this one are alike, so that the bytes from here on decide.
+-- The words before this one are equal, so the bytes from here on decide.
 use Rattle.std.proofs.Common.{◌≡◌, ◌*◌, drop}
 use Rattle.std.specs.Cmp.Lexicographic.{slice_cmp}
 use Rattle.std.specs.Ordering.{nat_cmp}

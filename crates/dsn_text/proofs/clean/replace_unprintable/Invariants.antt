@@ -1,4 +1,4 @@
--- The bytes so far are cleaned, and the rest are as they were.
+-- The bytes so far are cleaned, and the rest are unchanged.
 use Rattle.std.proofs.Common.{◌≡◌, ◌++◌, take, drop}
 use Rattle.dsn_text.specs.Text.{clean_text}
 use Rattle.dsn_text.proofs.clean.replace_unprintable.Given as goal

@@ -4,7 +4,7 @@ use Rattle.dsn_text.specs.Extension.{are_extension_lines, is_extension_line, is_
 use Rattle.dsn_text.proofs.ExtensionLemmas.{lines-go_on, lines-stop, lines-end, lines-none}
 use Rattle.dsn_text.proofs.extension.are_extension_lines.Goals as goal
 
--- one more line is left before this one than after it
+-- before a line, one more line may follow than after it
 one-more : (counter : ℕ) → counter < most_extensions → most_extensions - counter ≡ suc (most_extensions - (counter + 1))
 one-more counter more = omega arith
 

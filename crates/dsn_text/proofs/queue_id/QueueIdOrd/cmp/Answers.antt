@@ -1,4 +1,4 @@
--- The blocks are in the order of the queue ids that they hold.
+-- Queue ids have the order of the blocks that hold them.
 use Rattle.std.proofs.Common.{refl, ◌∙◌}
 use Rattle.dsn_text.proofs.BlockOrderLemmas.{block-order}
 use Rattle.dsn_text.proofs.queue_id.QueueIdOrd.cmp.Goals as goal

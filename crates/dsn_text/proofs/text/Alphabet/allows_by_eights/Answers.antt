@@ -1,4 +1,4 @@
--- A text is tested whole where its front is, and its last eight bytes.
+-- All of a text is checked if its full groups and its last eight bytes are.
 use Rattle.std.specs.Prelude.{◌≡◌, ℕ, ◌-◌, ◌*◌, ◌/◌, ◌≤◌, Bool, ◌&&◌, List, length, take, drop}
 use Rattle.std.specs.List.{list_all}
 use Rattle.std.proofs.Common.{arith}
@@ -9,7 +9,7 @@ use Rattle.std.proofs.lemmas.List.Folds.{list_all-append}
 use Rattle.dsn_text.specs.inner.Kept.{allows}
 use Rattle.dsn_text.proofs.text.Alphabet.allows_by_eights.Goals as goal
 
--- all elements do where those before one place and those from another, earlier one on do
+-- all elements pass if those before one place and those from an earlier place on do
 all_by_overlap : {X : Type 0} (p : X → Bool) (xs : List X) (from to : ℕ) → from ≤ to → (list_all p (take to xs) && list_all p (drop from xs)) ≡ list_all p xs
 all_by_overlap p xs from to order =
     grind (

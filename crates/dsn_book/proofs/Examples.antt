@@ -1,4 +1,4 @@
--- Worked examples of the order of keys, and of what an index makes of entries in order of first use.
+-- Worked examples of the order of keys, and of an index over entries in the order of first use.
 use Rattle.std.proofs.Common.{◌≡◌, ℕ, List, [], ◌∷◌, refl}
 use Rattle.std.specs.Prelude.{codes}
 use Rattle.std.specs.declared.cmp.Ordering.TheVariants.{Less, Greater}
@@ -15,7 +15,7 @@ use Rattle.dsn_book.specs.declared.open_line.OpenLine.{OpenLine}
 abbrev bounce_key : List ℕ → Key
 bounce_key id = record { service = Bounce; id = id }
 
--- by the bytes of the queue id: a front of another comes before it, and capitals before small letters
+-- ordered by the bytes of the queue id: a front of a text precedes the text, and capitals precede small letters
 shorter_first : key_cmp (bounce_key (codes "K1")) (bounce_key (codes "K10")) ≡ Less
 shorter_first = refl
 
@@ -25,14 +25,14 @@ bytes_first = refl
 capitals_first : key_cmp (bounce_key (codes "b")) (bounce_key (codes "K1")) ≡ Greater
 capitals_first = refl
 
--- by service before that
+-- the service decides before the queue id
 service_first : key_cmp (bounce_key (codes "b")) (record { service = Defer; id = codes "A" }) ≡ Less
 service_first = refl
 
 services_last : key_cmp (record { service = Trace; id = codes "A" }) (record { service = Defer; id = codes "A" }) ≡ Greater
 services_last = refl
 
--- logs of K2, K10, K1 and a closed K0, first used in this order
+-- logs of K2, K10 and K1, and a closed log of K0, first used in this order
 abbrev four_entries : List Entry
 four_entries =
     entry_with (bounce_key (codes "K2")) (Open []) ∷ entry_with (bounce_key (codes "K10")) (Open [])

@@ -20,7 +20,7 @@ get_or-insert_past xs i y d k past inside =
     let low : i ≤ k - 1 = omega arith in
     subst (λ (n : ℕ). get_or (insert xs i y) n d ≡ get_or xs (k - 1) d) next (get_or-insert_above xs i y d (k - 1) low inside)
 
--- an insert between elements that go with the new one
+-- an insert next to elements that are related to the new one
 pub AllPairs-insert : {X : Type 0} (R : X → X → Type 0) (xs : List X) (i : ℕ) (y : X) → i ≤ length xs → AllPairs R xs → ((k : ℕ) (d : X) → k < i → R (get_or xs k d) y) → ((k : ℕ) (d : X) → i ≤ k → k < length xs → R y (get_or xs k d)) → AllPairs R (insert xs i y)
 AllPairs-insert {X} R xs i y inside pairs before after =
     λ a b d apart within.
@@ -47,13 +47,13 @@ AllPairs-insert {X} R xs i y inside pairs before after =
 pub map-insert : {X Y : Type 0} (f : X → Y) (xs : List X) (i : ℕ) (y : X) → map f (insert xs i y) ≡ insert (map f xs) i (f y)
 map-insert f xs i y = map-append f (take i xs) (y ∷ drop i xs) ∙ rw (take-map f i xs, drop-map f i xs) refl
 
--- ---- the values of a function that may have none
+-- ---- the values of a partial function
 
 All-filter_map_step : {X Y : Type 0} (Q : Y → Type 0) (f : X → Option Y) (x : X) (rest : List X) (value : Option Y) → f x ≡ value → ((y : Y) → f x ≡ Some y → Q y) → All Q (filter_map f rest) → All Q (filter_map f (x ∷ rest))
 All-filter_map_step Q f x rest None is here all = rw is all
 All-filter_map_step Q f x rest (Some y) is here all = rw is (All-cons Q y (filter_map f rest) (here y is) all)
 
--- a fact of elements that goes over to the values
+-- a property of elements that carries over to the values
 pub All-filter_map : {X Y : Type 0} (P : X → Type 0) (Q : Y → Type 0) (f : X → Option Y) → ((x : X) (y : Y) → P x → f x ≡ Some y → Q y) → (xs : List X) → All P xs → All Q (filter_map f xs)
 All-filter_map P Q f over [] all = All-nil Q
 All-filter_map P Q f over (x ∷ rest) all =
@@ -63,7 +63,7 @@ AllPairs-filter_map_step : {X Y : Type 0} (S : Y → Y → Type 0) (f : X → Op
 AllPairs-filter_map_step S f x rest None is first pairs = rw is pairs
 AllPairs-filter_map_step S f x rest (Some u) is first pairs = rw is (AllPairs-cons S u (filter_map f rest) (first u is) pairs)
 
--- a relation of pairs that goes over to the values
+-- a relation of elements that carries over to the values
 pub AllPairs-filter_map : {X Y : Type 0} (R : X → X → Type 0) (S : Y → Y → Type 0) (f : X → Option Y) → ((a b : X) (u v : Y) → R a b → f a ≡ Some u → f b ≡ Some v → S u v) → (xs : List X) → AllPairs R xs → AllPairs S (filter_map f xs)
 AllPairs-filter_map R S f over [] pairs = λ i j d apart inside. absurd (omega arith)
 AllPairs-filter_map R S f over (x ∷ rest) pairs =
@@ -85,7 +85,7 @@ filter_map-places_from {X} {Y} f front (x ∷ rest) =
     (filter_map-places_from f (front ++ x ∷ []) rest)) in
     rw (slice_get_at front x rest, ← onward) refl
 
--- the values by place
+-- the values in terms of places
 pub filter_map-places : {X Y : Type 0} (f : X → Option Y) (xs : List X) → filter_map f xs ≡ filter_map (λ place. option_and_then f (slice_get xs place)) (range_with_len 0 (length xs))
 filter_map-places f xs = filter_map-places_from f [] xs
 
@@ -95,7 +95,7 @@ filter_map-map g f (x ∷ rest) = rw (filter_map-map g f rest) refl
 
 -- ---- permutations
 
--- the outer two of four parts in each other's place
+-- exchanging the outer two of four parts is a permutation
 IsPermutation-outer : {X : Type 0} (u b v c : List X) → IsPermutation (u ++ (b ++ (v ++ c))) (v ++ (b ++ (u ++ c)))
 IsPermutation-outer {X} u b v c =
     let turned : IsPermutation ((u ++ b) ++ v) (v ++ (u ++ b)) = IsPermutation-append_comm (u ++ b) v in
@@ -111,13 +111,13 @@ cons_option-append (Some y) rest = refl
 filter_map-cons : {X Y : Type 0} (f : X → Option Y) (x : X) (rest : List X) → filter_map f (x ∷ rest) ≡ option_to_list (f x) ++ filter_map f rest
 filter_map-cons f x rest = cons_option-append (f x) (filter_map f rest)
 
--- the values with two elements in each other's place
+-- the values after two elements are exchanged
 filter_map-apart : {X Y : Type 0} (f : X → Option Y) (a : List X) (x : X) (b : List X) (y : X) (c : List X) → IsPermutation (filter_map f (a ++ x ∷ (b ++ y ∷ c))) (filter_map f (a ++ y ∷ (b ++ x ∷ c)))
 filter_map-apart f a x b y c =
     simp (filter_map-append, filter_map-cons)
     (IsPermutation-append_right (filter_map f a) _ _ (IsPermutation-outer (option_to_list (f x)) (filter_map f b) (option_to_list (f y)) (filter_map f c)))
 
--- two elements put in, and what stands before, between and after them
+-- the list after two elements are replaced, in terms of the parts before, between and after them
 set-twice : {X : Type 0} (xs : List X) (i k : ℕ) (x y : X) → i < length xs → k < length (drop (suc i) xs) → set (set xs i x) (i + suc k) y ≡ take i xs ++ x ∷ (take k (drop (suc i) xs) ++ y ∷ drop (suc k) (drop (suc i) xs))
 set-twice {X} xs i k x y inside within =
     let long : length (take i xs) ≡ i = length-take-le i xs (omega arith) in
@@ -156,7 +156,7 @@ swap_same : {X : Type 0} (xs : List X) (i : ℕ) (d : X) → i < length xs → x
 swap_same xs i d inside =
     sym (set-set xs i (get_or xs i d) (get_or xs i d) ∙ set-get_or xs i d) ∙ swap_is xs i i d inside inside
 
--- the values after an exchange
+-- the values after an exchange of two places
 filter_map-swap : {X Y : Type 0} (f : X → Option Y) (xs : List X) (i j : ℕ) → i < length xs → j < length xs → IsPermutation (filter_map f xs) (filter_map f (swap xs i j))
 filter_map-swap f [] i j low high = absurd (omega arith)
 filter_map-swap {X} f (d ∷ rest) i j low high =

@@ -1,9 +1,9 @@
--- Limits: what they may be (this project's profile).
+-- Limits: their allowed values (this project's profile).
 use Rattle.std.specs.Prelude.{ℕ}
 use Rattle.std.specs.Int.{IsInRange}
 use Rattle.dsn_outcome.specs.History.{Limits}
 
--- at least one of each: at most 65,536 keys, 1,000 outcomes in a log, and 1,000,000 requests
+-- 1 to 65,536 keys, 1 to 1,000 outcomes in a log, and 1 to 1,000,000 requests of an agent
 pub record AreLimits (logs entries requests : ℕ) : Type 0 where
   pub logs_bounded : IsInRange 1 65536 logs
   pub entries_bounded : IsInRange 1 1000 entries

@@ -1,4 +1,4 @@
--- The numbers of why requests were not kept.
+-- The number of the fault that requests were not kept.
 use Rattle.std.specs.Prelude.{ℕ}
 use Rattle.dsn_text.specs.FaultCode.{not_kept_code}
 use Rattle.dsn_book.specs.declared.not_kept.NotKept.{NotKept}

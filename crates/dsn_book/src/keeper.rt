@@ -1,10 +1,9 @@
-//! What carries out the requests of a crew.
-//! A crew carries its requests out over this trait, so that the same collector serves a book alone
-//! and a book beside a journal. `keep` is apart from `apply`: requests that wait are kept by one
-//! write and one sync, and each is answered once it was carried out. Clauses speak of each history
-//! that a keeper may have: its caller knows which one a journal's book goes on with, and the
-//! collector doesn't. There is no disk in it, so what a crash leaves is proved of a crew without a
-//! word on files.
+//! The trait that carries out the requests of a crew. It lets the same collector serve a book alone
+//! and a book with a journal. It mentions no disk, so the proof of what a crash leaves of a crew
+//! doesn't mention files. `keep` is separate from `apply`, so one write and one sync keep all
+//! waiting requests, and each is answered once it was carried out. The clauses hold for every
+//! history that the keeper may model. Its caller knows which one a journal's book continues, and
+//! the collector doesn't.
 ghost use Rattle.std.specs.Prelude.{◌≡◌, ◌+◌, ◌-◌, ◌^◌, ◌<◌, ◌≤◌, List, [], ◌∷◌, ◌++◌, OnOk, IfErr};
 ghost use Rattle.dsn_device.specs.Throughout.{LeavesThroughout};
 ghost use Rattle.dsn_book.specs.Crash.{ReopensAfterSome};
@@ -18,50 +17,51 @@ use crate::not_kept::NotKept;
 use crate::step::Step;
 use dsn_outcome::Request;
 
-/// What carries requests out, each once it is kept: a book alone, for which nothing is to be kept,
-/// or one beside a journal. It models a history, as a book does, and carries a request out as that
+/// Carries out requests, each after it was kept: a book alone, for which nothing has to be kept, or
+/// a book with a journal. It models a history, as a book does, and carries out a request as that
 /// history says.
 ///
-/// It has a clock: its clauses say what a crash may leave at each moment, within a call and between
-/// two. What it models is among what a crash leaves, with each request that it has kept.
+/// It has a clock: its clauses say what a crash may leave at each moment, during a call or between
+/// two calls. From what a crash leaves between two calls, a later run models the history with every
+/// kept request.
 pub trait Keeper {
     ghost use Rattle.std.specs.Prelude.{ℕ, List};
     ghost use Rattle.dsn_outcome.specs.History.{Limits, Exchange};
     ghost use Rattle.dsn_outcome.specs.Request.{Request};
     ghost use Rattle.dsn_book.specs.declared.not_kept.NotKept.{NotKept};
 
-    // The limits by which requests are answered.
+    // The limits that decide the replies.
     ghost limits: { Self → Limits };
 
-    // That it models this history, and that these requests may be carried out next, in this order,
-    // as they are kept.
+    // It models this history, and these kept requests may be carried out next, in this order.
     ghost has: { Self → List Exchange → List Request → Type 0 };
 
-    // No fewer letters than have their serials by it.
+    // An upper bound of the number of letters that got their serials from it.
     ghost sealed: { Self → ℕ };
 
-    // That it may refuse to keep these requests, for this reason, and what it is after that.
-    // Not only whether it may refuse: else one that always does, or that keeps and refuses, would
-    // meet the same clauses.
+    // It may refuse to keep these requests for this reason, and is then in this state. If the state
+    // were left open, a keeper that always refuses, or that keeps requests and refuses them, would
+    // satisfy the same clauses.
     ghost refuses: { Self → List Request → NotKept → Self → Type 0 };
 
-    // The moment, as a number that doesn't fall.
+    // The moment, as a number that never decreases.
     ghost moment: { Self → ℕ };
 
-    // What a crash since this moment might have left, during a call or between two.
+    // The bytes that a crash since this moment may have left, during a call or between two calls.
     ghost left_since: { Self → ℕ → List ℕ → Type 0 };
 
-    // That a later run which finds these bytes, under these limits, models this history.
+    // A later run that finds these bytes, under these limits, models this history.
     ghost reopens: { Limits → List ℕ → List Exchange → Type 0 };
 
-    /// Its limits.
+    /// The limits of the keeper.
     fn limits(&self) -> Limits
         ensures { result ≡ limits self.now };
 
     /// Keeps requests, so that they may be carried out. Requires that it models some history and
-    /// that none is awaited. At an error none of them may be carried out, and `refuses` says what
-    /// the keeper is then: after `Failed` it isn't known whether some of them will be by a later
-    /// run.
+    /// that no kept request waits.
+    ///
+    /// On an error none of them may be carried out, and `refuses` specifies the state of the
+    /// keeper. After `Failed` it is unknown whether a later run will carry out some of them.
     fn keep(&mut self, requests: &[Request]) -> Result<(), NotKept>
         requires has { (t : List Exchange) × has self.old t [] }
         ensures has { OnOk result ((t : List Exchange) → has self.old t []
@@ -73,8 +73,8 @@ pub trait Keeper {
         ensures limits { limits self.new ≡ limits self.old }
         ensures sealed { sealed self.new ≡ sealed self.old };
 
-    /// Does what the next of the kept requests asks, and answers it. It takes no memory. Requires
-    /// that fewer than 18,446,744,073,709,551,615 letters were sealed.
+    /// Carries out the next of the kept requests, and answers it. It takes no memory. Requires that
+    /// fewer than 18,446,744,073,709,551,615 letters were sealed.
     fn apply(&mut self, request: Request) -> Step
         requires has { (t : List Exchange) × (rest : List Request)
             × has self.old t (request ∷ rest) }
@@ -95,14 +95,14 @@ pub trait Keeper {
             → left_since self.new t left → left_since self.old t left) }
         ensures sealed { sealed self.new ≤ sealed self.old + 1 };
 
-    // A crash now leaves what it models, with the requests that are kept. A law and no clause of a
-    // call, so that it also holds between two calls: an answer is sent there.
+    // A crash now leaves what it models, with the kept requests. This is a law instead of a clause
+    // of a call, so that it also holds between two calls, where answers are sent.
     ghost leaves_kept: { (keeper : Self) (t : List Exchange) (requests : List Request)
         (left : List ℕ) → has keeper t requests → left_since keeper (moment keeper) left
         → reopens (limits keeper) left (history_after (limits keeper) t requests) };
 }
 
-/// A book keeps nothing: what it is asked may be carried out at once, and a crash leaves nothing.
+/// A book keeps nothing: requests may be carried out at once, and a crash leaves nothing.
 impl Keeper for Book {
     ghost use Rattle.dsn_book.specs.Book.{Represents};
 

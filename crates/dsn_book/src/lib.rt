@@ -1,5 +1,4 @@
-//! The book of a bounce daemon: which logs are open, which are closed, and what each request does
-//! to them.
+//! The book of a bounce daemon: its open and closed logs, and the effect of each request on them.
 #![tactic(auto)]
 
 mod book;

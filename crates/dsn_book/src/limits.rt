@@ -4,17 +4,16 @@ ghost use Rattle.std.specs.Int.{IsInRange};
 
 use std::marker::Model;
 
-/// The most keys that a book can be made to hold.
+/// The upper bound of the limit of held keys.
 pub const MOST_LOGS: u32 = 65_536;
 
-/// The most outcomes that a log can be made to have.
+/// The upper bound of the limit of outcomes in a log.
 pub const MOST_ENTRIES: u32 = 1_000;
 
-/// The most requests that an agent can be allowed.
+/// The upper bound of the limit of an agent's requests.
 pub const MOST_REQUESTS: u32 = 1_000_000;
 
-/// How many keys a book may hold, how many outcomes a log may have, and how many requests an
-/// agent may make.
+/// The limits of a book: held keys, outcomes in a log, and requests of an agent.
 #[derive(Clone, Copy, Debug)]
 pub struct Limits {
     logs: u32,
@@ -40,7 +39,7 @@ impl Model for Limits {
 impl Limits {
     ghost use Rattle.dsn_book.specs.Limits.{AreLimits, limits_of};
 
-    /// The limits, or `None` where one of them is 0 or too large: at most [`MOST_LOGS`] keys,
+    /// Returns the limits, or `None` if one of them is 0 or over its bound: [`MOST_LOGS`] keys,
     /// [`MOST_ENTRIES`] outcomes and [`MOST_REQUESTS`] requests (this project's profile).
     pub fn new(logs: u32, entries: u32, requests: u32) -> Option<Limits>
         ensures some { IsSome result ↔ AreLimits logs entries requests }
@@ -74,7 +73,7 @@ impl Limits {
         }
     }
 
-    /// How many keys a book may hold; a closed log's key counts.
+    /// How many keys a book may hold, including those of closed logs.
     pub fn logs(self) -> u32
         ensures value { result ≡ self.logs }
         ensures range { IsInRange 1 MOST_LOGS result }

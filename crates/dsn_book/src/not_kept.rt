@@ -7,11 +7,11 @@ use dsn_text::fault_code;
 /// Why requests were not kept.
 #[derive(Clone, Copy, Debug, Drop, PartialEq, Eq)]
 pub enum NotKept {
-    /// No memory was left for them, and nothing was written.
+    /// There was no memory for them, and nothing was written.
     Memory,
     /// There is no room for them, and nothing was written.
     Full,
-    /// What was to keep them failed: which of them stand isn't known.
+    /// Keeping them failed, so it is unknown which of them are kept.
     Failed,
 }
 

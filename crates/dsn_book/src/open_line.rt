@@ -1,11 +1,11 @@
-//! What the notes say of a log that is still open.
+//! The line in the notes for a log that is still open.
 use dsn_outcome::Key;
 
-/// A key whose log is open, with how many outcomes the log has.
+/// A key whose log is open, with the number of its outcomes.
 #[derive(Clone, Copy, Debug, PartialEq, Eq)]
 pub struct OpenLine {
     /// The log's key.
     pub key: Key,
-    /// How many outcomes it has.
+    /// The number of its outcomes.
     pub count: u32,
 }

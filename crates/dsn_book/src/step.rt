@@ -1,11 +1,11 @@
-//! What comes of a request.
+//! The result of a request.
 use dsn_outcome::{Answer, Letter};
 
-/// What comes of a request.
+/// The result of a request.
 #[derive(Drop)]
 pub struct Step {
-    /// What the agent is answered.
+    /// The answer to the agent.
     pub answer: Answer,
-    /// The letter that the request sealed, if it did.
+    /// The letter that the request sealed, if it sealed one.
     pub letter: Option<Letter>,
 }

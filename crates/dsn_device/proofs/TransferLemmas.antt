@@ -1,4 +1,4 @@
--- How what became of several texts, sent or asked for in turn, is what became of them together.
+-- Several texts that are sent or read one after another have the effect of the joined text.
 use Rattle.std.proofs.Common.{◌≡◌, ℕ, ◌+◌, ◌-◌, ◌≤◌, List, [], ◌++◌, Option, length, take, drop, refl, sym, ap, subst, ◌∙◌, arith, append_assoc, append-nil, take-append-drop, length-take-le, length-append}
 use Rattle.std.proofs.lemmas.List.{take_rest, take-take}
 use Rattle.std.proofs.Math.Seq.{take-append-add}
@@ -8,13 +8,13 @@ use Rattle.std.specs.Io.KnownBytes.{Appends, Consumes, Keeps}
 use Rattle.std.proofs.KnownBytes.{Appends-nil, Appends-trans, Appends-kept, Consumes-trans}
 use Rattle.dsn_device.specs.Transfer.{AppendsFront, AppendsPart}
 
--- ---- what a drain took
+-- ---- the bytes that a drain took
 
 -- a whole text is a front of itself
 pub AppendsFront-all : (a b : Option (List ℕ)) (text : List ℕ) → Appends a b text → AppendsFront a b text
 AppendsFront-all a b text p = record { front = text; unsent = []; split = sym (append-nil text); appended = p }
 
--- what was taken of a text in part, was taken in part of each longer text
+-- a part of a text is a part of each longer text
 pub AppendsPart-longer : (a b : Option (List ℕ)) (text more : List ℕ) → AppendsPart a b text → AppendsPart a b (text ++ more)
 AppendsPart-longer a b text more p = record {
   front = p.front;
@@ -24,7 +24,7 @@ AppendsPart-longer a b text more p = record {
   appended = p.appended;
 }
 
--- a text and then a part of a second one are a part of both
+-- a text and then a part of another are a part of both
 pub Appends-part : (a b c : Option (List ℕ)) (text more : List ℕ) → Appends a b text → AppendsPart b c more → AppendsPart a c (text ++ more)
 Appends-part a b c text more p q = record {
   front = text ++ q.front;
@@ -34,7 +34,7 @@ Appends-part a b c text more p q = record {
   appended = Appends-trans a b c text q.front p q.appended;
 }
 
--- what keeps the bytes of a drain keeps what it took
+-- a call that keeps the bytes of a drain keeps what it took
 pub AppendsPart-kept : (a b c : Option (List ℕ)) (text : List ℕ) → AppendsPart a b text → Keeps b c → AppendsPart a c text
 AppendsPart-kept a b c text p q = record {
   front = p.front;
@@ -44,12 +44,12 @@ AppendsPart-kept a b c text p q = record {
   appended = Appends-kept a b c p.front p.appended q;
 }
 
--- the text's front moves from what is unsent to what is sent
+-- a front of the unsent text is moved to the sent text
 pub split-moved : (all done rest : List ℕ) (n : ℕ) → all ≡ done ++ rest → all ≡ (done ++ take n rest) ++ take (length rest - n) (drop n rest)
 split-moved all done rest n e =
     e ∙ ap (λ l. done ++ l) (sym (take-append-drop n rest)) ∙ sym (append_assoc done (take n rest) (drop n rest)) ∙ ap (λ l. (done ++ take n rest) ++ l) (sym (take_rest rest n))
 
--- ---- what a source gave
+-- ---- the bytes that a source returned
 
 -- a read into the rest of a buffer puts its bytes after the front
 take-put_mid_more : (a n : ℕ) (xs ys : List ℕ) → a ≤ length xs → length ys ≡ length xs - a → n ≤ length ys
@@ -63,7 +63,7 @@ take-put_mid_more a n xs ys within whole fits =
     ∙ ap (λ m. take (m + n) (take a xs ++ ys)) (sym long)
     ∙ take-append-add (take a xs) ys n
 
--- so what stands at the front then was consumed, if what stood there before was
+-- the front of the buffer was consumed after one more read, if it was before
 pub Consumes-more : (a b c : Option (List ℕ)) (filled n more : ℕ) (xs ys : List ℕ) → filled ≤ length xs → length ys ≡ length xs - filled → n ≤ length ys
     → more ≡ filled + n → Consumes a b (take filled xs) → Consumes b c (take n ys) → Consumes a c (take more (put_mid filled (length xs - filled) xs ys))
 Consumes-more a b c filled n more xs ys within whole fits is before read =

@@ -1,5 +1,4 @@
--- Texts that were written one after another until a drain's first failure: what became of them is what became of the one
--- text that they are together.
+-- Texts that are written one after another until a drain's first failure have the effect of the joined text.
 use Rattle.std.proofs.Common.{◌≡◌, ℕ, Bool, true, false, List, [], ◌++◌, Option, refl, sym, ap, subst, ◌∙◌}
 use Rattle.std.specs.Prelude.{not, None, Some}
 use Rattle.std.specs.Io.KnownBytes.{Appends, Keeps}
@@ -13,7 +12,7 @@ use Rattle.dsn_device.specs.declared.drain.Drain.{Ghosts as Drain}
 use Rattle.dsn_device.proofs.ThroughoutLemmas.{stands_still, stands_still_then, stood_still_first}
 use Rattle.dsn_device.proofs.TransferLemmas.{Appends-part, AppendsFront-all, AppendsPart-longer, AppendsPart-kept}
 
--- nothing was asked
+-- no text was written
 pub Sent-none : (a : Bool) (x : Option (List ℕ)) → Sent a a x x []
 Sent-none false x = Appends-nil x
 Sent-none true x = Keeps-refl x
@@ -28,7 +27,7 @@ Sent-then true false c x y z s t p q = absurd p
 Sent-then true true false x y z s t p q = absurd q
 Sent-then true true true x y z s t p q = Keeps-trans x y z p q
 
--- where nothing has failed the whole text was written
+-- if nothing has failed, the whole text was written
 pub Sent-whole : (a : Bool) (x y : Option (List ℕ)) (text : List ℕ) → Sent a false x y text → Appends x y text
 Sent-whole false x y text p = p
 Sent-whole true x y text p = absurd p
@@ -74,7 +73,7 @@ module _ {W : Type 0} {drain : Drain W} where
   pub writes-as : {a b : Bool} {x y : W} {s t : List ℕ} → s ≡ t → WritesUntilFailure drain a b x y s → WritesUntilFailure drain a b x y t
   writes-as {a} {b} {x} {y} same p = subst (WritesUntilFailure drain a b x y) same p
 
-  -- a text was written whole where the drain has not failed
+  -- if the drain has not failed, a text was written whole
   pub writes-whole : {a b : Bool} {x y : W} {text : List ℕ} → b ≡ false → WritesUntilFailure drain a b x y text → Appends (drain.contents x) (drain.contents y) text
   writes-whole {a} {b} {x} {y} {text} good p =
       Sent-whole a (drain.contents x) (drain.contents y) text
@@ -123,12 +122,12 @@ unmarked serial None = refl
 unmarked serial (Some n) = refl
 
 module _ {W : Type 0} (drain : Drain W) where
-  -- what takes no time leaves what a crash leaves
+  -- a call that takes no time doesn't change the marks that a crash leaves
   pub leaves_still : (x y : W) → TakesNoTime drain x y → drain.marked y ≡ drain.marked x → LeavesMarked drain x → LeavesMarked drain y
   leaves_still x y still same before left since =
       rw same (before left (still.1 (drain.moment x) left (subst (λ t. drain.left_since y t left) still.0 since)))
 
-  -- where the text was written and flushed, a crash leaves what it left before, until the letter is marked
+  -- if the text was written and flushed, the marks that a crash leaves don't change until the letter is marked
   then_marked : (x y z : W) (serial : ℕ) → TakesNoTime drain x y → drain.marked y ≡ drain.marked x
       → (LeavesMarked drain y → LeavesMarkedOrNext drain y z serial) → LeavesMarked drain x → LeavesMarkedOrNext drain x z serial
   then_marked x y z serial still same marking before =

@@ -1,9 +1,9 @@
--- Counts: what a call does to the counts that a device keeps of its failures and flushes.
+-- Counts: the effect of a call on a device's counts of failures and flushes.
 use Rattle.std.specs.Prelude.{◌≡◌, ℕ, Bool}
 use Rattle.dsn_device.specs.Failures.{counted}
 
--- a device that failed once, or not, and was not flushed; one that is steady stays so, and didn't
--- fail
+-- the device failed once if `failed` holds, otherwise not, and it was not flushed; if it was
+-- steady, it still is, and it didn't fail
 pub record Counts {D : Type 0} (failures flushes : D → ℕ) (steady : D → Type 0) (failed : Bool)
     (old new : D) : Type 0 where
   pub count : failures new ≡ counted failed (failures old)

@@ -1,14 +1,13 @@
--- The count that a device keeps of its flushes, and whether it has taken bytes since the last of
--- them.
+-- A device's count of its flushes, and whether a write took bytes.
 use Rattle.std.specs.Prelude.{ℕ, zero, suc, Bool, true, false, nat_lt, Result, Ok, Err}
 use Rattle.dsn_device.specs.Failures.{counted}
 
--- the count after one flush more, whether that failed or not; it stands still where a count of
--- failures does
+-- the count after one more flush, which failed or not; it has the same maximum as a count of
+-- failures
 abbrev pub flushed : ℕ → ℕ
 flushed count = counted true count
 
--- the count after so many flushes more
+-- the count after this number of further flushes
 abbrev pub flushed_times : ℕ → ℕ → ℕ
 flushed_times zero count = count
 flushed_times (suc times) count = flushed (flushed_times times count)

@@ -1,5 +1,5 @@
--- Drains into memory: the bytes that one took, the counts of its failures and of its flushes, and
--- whether it has taken bytes since the last flush.
+-- Drains into memory: the bytes that a drain took, its counts of failures and flushes, and whether
+-- it has taken bytes since its last flush.
 use Rattle.std.specs.Prelude.{ℕ, Bool, List}
 
 pub record MemoryDrain : Type 0 where

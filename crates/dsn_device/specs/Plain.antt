@@ -1,5 +1,5 @@
--- A plain device: one of std's readers or writers, with the counts of its failures and of its
--- flushes, and whether it has taken bytes since the last flush that went well.
+-- Plain devices: a std reader or writer, its counts of failures and flushes, and whether it has
+-- taken bytes since its last successful flush.
 use Rattle.std.specs.Prelude.{ℕ, Bool}
 
 pub record Plain (T : Type 0) : Type 0 where

@@ -1,17 +1,16 @@
--- What became of a text that was sent, and of bytes that were asked for, where the device failed on
--- the way. For a device that doesn't tell its bytes nothing is said, as with the words of std's
--- readers and writers.
+-- The result of sending a text or of reading bytes, if the device may fail on the way. If a device
+-- doesn't expose its bytes, nothing is claimed, as in the contracts of std's readers and writers.
 use Rattle.std.specs.Prelude.{◌≡◌, ℕ, ◌<◌, List, ◌++◌, length, Option}
 use Rattle.std.specs.Io.KnownBytes.{Appends, Consumes}
 
--- known bytes grow by a front of the text: by none of it, by some or by all
+-- known bytes grow by a front of the text: none of it, some or all
 pub record AppendsFront (old new : Option (List ℕ)) (text : List ℕ) : Type 0 where
   pub front : List ℕ
   pub unsent : List ℕ
   pub split : text ≡ front ++ unsent
   pub appended : Appends old new front
 
--- known bytes grow by a part of the text, and not by all of it
+-- known bytes grow by a front of the text, but not by all of it
 pub record AppendsPart (old new : Option (List ℕ)) (text : List ℕ) : Type 0 where
   pub front : List ℕ
   pub unsent : List ℕ
@@ -19,7 +18,7 @@ pub record AppendsPart (old new : Option (List ℕ)) (text : List ℕ) : Type 0 
   pub split : text ≡ front ++ unsent
   pub appended : Appends old new front
 
--- known bytes begin with some bytes, fewer than so many, and lose them
+-- known bytes lose a front of fewer bytes than the limit
 pub record ConsumesFewer (old new : Option (List ℕ)) (limit : ℕ) : Type 0 where
   pub taken : List ℕ
   pub few : length taken < limit

@@ -1,5 +1,5 @@
--- Texts that are written one after another until the drain's first failure, its flushes, and
--- letters that are marked: after it nothing is done.
+-- The effect of writing texts, flushing and marking letters until the drain's first failure, after
+-- which nothing is done.
 use Rattle.std.specs.Prelude.{◌≡◌, ℕ, Bool, true, false, not, List, Option, None}
 use Rattle.std.specs.Io.KnownBytes.{Appends, Keeps}
 use Rattle.dsn_device.specs.Failures.{counted}
@@ -9,36 +9,36 @@ use Rattle.dsn_device.specs.Throughout.{LeavesThroughout, StandsStill}
 use Rattle.dsn_device.specs.Transfer.{AppendsPart}
 use Rattle.dsn_device.specs.declared.drain.Drain
 
--- a call of a drain that takes no time: what a crash leaves of its marks stays
+-- the call takes no time: the marks that a crash may leave don't change
 abbrev pub TakesNoTime : {W : Type 0} → Drain.Ghosts W → W → W → Type 0
 TakesNoTime drain old new =
     StandsStill (drain.moment old) (drain.moment new) (drain.left_since old) (drain.left_since new)
 
--- a crash now leaves of a drain's marks what says its count, and nothing else
+-- a crash now leaves marks that encode the drain's count, and nothing else
 abbrev pub LeavesMarked : {W : Type 0} → Drain.Ghosts W → W → Type 0
 LeavesMarked drain now = LeavesItsCount drain.moment drain.left_since drain.say drain.marked now
 
--- at each moment a crash leaves what says the first one's count, or counts the letter with this serial
--- too
+-- at each moment a crash leaves marks that encode the first state's count, or that count with the
+-- letter with this serial
 abbrev pub LeavesMarkedOrNext : {W : Type 0} → Drain.Ghosts W → W → W → ℕ → Type 0
 LeavesMarkedOrNext drain old new serial =
     LeavesThroughout drain.moment drain.left_since old new
     (SayCountOrNext drain.say (drain.marked old) serial)
 
--- what became of a text, by whether the drain had failed before and whether it has failed now: all
--- of it is there, a part and not all, or nothing is done
+-- the result of writing a text, given whether the drain had failed before and whether it has failed
+-- now; it appends all of it, or a front but not all, or nothing
 abbrev pub Sent : Bool → Bool → Option (List ℕ) → Option (List ℕ) → List ℕ → Type 0
 Sent false false old new text = Appends old new text
 Sent false true old new text = AppendsPart old new text
 Sent true false old new text = ⊥
 Sent true true old new text = Keeps old new
 
--- the drain failed once where writing failed now, and else not
+-- the count after a write: one more failure if the drain fails now, otherwise unchanged
 abbrev pub counts_failure : Bool → Bool → ℕ → ℕ
 counts_failure false failed count = counted failed count
 counts_failure true failed count = count
 
--- a text was written to a drain, unless it had failed before
+-- a text was written to a drain, unless the drain had failed before
 pub record WritesUntilFailure {W : Type 0} (drain : Drain.Ghosts W) (before after : Bool) (old new : W)
     (text : List ℕ) : Type 0 where
   pub sent : Sent before after (drain.contents old) (drain.contents new) text
@@ -78,7 +78,7 @@ pub record MarksUntilFailure {W : Type 0} (drain : Drain.Ghosts W) (before after
   pub surely : drain.flushes_surely old → drain.flushes_surely new × (after ≡ before)
   pub stays_steady : drain.steady old → drain.steady new × (drain.failures new ≡ drain.failures old)
 
--- the whole text was taken, and one flush was made, after all of it
+-- the whole text was taken, and one flush was made after all of it
 pub record TakenAndFlushed {W : Type 0} (drain : Drain.Ghosts W) (old new : W)
     (text : List ℕ) : Type 0 where
   pub taken : Appends (drain.contents old) (drain.contents new) text
@@ -86,8 +86,8 @@ pub record TakenAndFlushed {W : Type 0} (drain : Drain.Ghosts W) (old new : W)
   pub passed_on : drain.unflushed new ≡ false
   pub surely : drain.flushes_surely old → drain.flushes_surely new
 
--- the drain failed: within the text, and then it was not flushed; or at the one flush after the
--- whole text, which it can't where it flushes surely
+-- the drain failed within the text, and was not flushed; or it failed at the one flush after the
+-- whole text, and doesn't flush surely
 pub data Lost {W : Type 0} (drain : Drain.Ghosts W) (old new : W) (text : List ℕ) : Type 0 where
   in_text : AppendsPart (drain.contents old) (drain.contents new) text
       → drain.flushes new ≡ drain.flushes old → Lost drain old new text
@@ -95,15 +95,15 @@ pub data Lost {W : Type 0} (drain : Drain.Ghosts W) (old new : W) (text : List �
       → drain.flushes new ≡ flushed (drain.flushes old) → ¬ drain.flushes_surely old
       → Lost drain old new text
 
--- what became of a text that was to be written and then flushed once, by whether the drain had
--- failed before and whether it has failed now
+-- the result of writing a text and flushing once, given whether the drain had failed before and
+-- whether it has failed now
 abbrev pub WrittenAndFlushed : {W : Type 0} → Drain.Ghosts W → Bool → Bool → W → W → List ℕ → Type 0
 WrittenAndFlushed drain false false old new text = TakenAndFlushed drain old new text
 WrittenAndFlushed drain false true old new text = Lost drain old new text
 WrittenAndFlushed drain true false old new text = ⊥
 WrittenAndFlushed drain true true old new text = new ≡ old
 
--- the whole text was taken, one flush was made, after all of it, and then the letter was marked
+-- the whole text was taken, one flush was made after all of it, and then the letter was marked
 pub record TakenAndMarked {W : Type 0} (drain : Drain.Ghosts W) (old new : W)
     (text : List ℕ) (serial : ℕ) : Type 0 where
   pub flushed : TakenAndFlushed drain old new text
@@ -111,9 +111,9 @@ pub record TakenAndMarked {W : Type 0} (drain : Drain.Ghosts W) (old new : W)
   pub any_moment : LeavesMarked drain old → LeavesMarkedOrNext drain old new serial
   pub leaves : LeavesMarked drain old → LeavesMarked drain new
 
--- the drain failed, and the letter is not marked: its text was lost, and no crash marks it; or the
--- mark failed after the flush, which it can't where the drain marks no letters, nor where it flushes
--- surely, and then what a crash leaves may count it
+-- the drain failed and the letter is not marked: its text was lost, and no crash leaves it marked;
+-- or the mark failed after the flush, the drain marks letters and doesn't flush surely, and a crash
+-- may leave the letter marked
 pub data Unmarked {W : Type 0} (drain : Drain.Ghosts W) (old new : W) (text : List ℕ) (serial : ℕ)
     : Type 0 where
   unflushed : Lost drain old new text → drain.marked new ≡ drain.marked old
@@ -124,7 +124,7 @@ pub data Unmarked {W : Type 0} (drain : Drain.Ghosts W) (old new : W) (text : Li
       → (LeavesMarked drain old → LeavesMarkedOrNext drain old new serial)
       → Unmarked drain old new text serial
 
--- what became of a text that was to be written, flushed once, and then marked by its serial, by
+-- the result of writing a text, flushing once and marking the letter with this serial, given
 -- whether the drain had failed before and whether it has failed now
 abbrev pub WrittenAndMarked :
     {W : Type 0} → Drain.Ghosts W → Bool → Bool → W → W → List ℕ → ℕ → Type 0

@@ -1,8 +1,8 @@
-//! The one way in which a device fails.
+//! The error of a device.
 use thiserror::Error;
 
-/// The device failed. It says nothing more: a signal that interrupted the call, a full disk and a
-/// peer that went away are one.
+/// The device failed. The error doesn't distinguish causes, such as an interrupting signal, a full
+/// disk or a peer that went away.
 #[derive(Clone, Copy, Debug, PartialEq, Eq, Error)]
 #[error("the device failed")]
 pub struct Broken;

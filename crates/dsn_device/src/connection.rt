@@ -1,17 +1,17 @@
-//! A connection whose calls go on where they are interrupted.
-//! Else a process that was stopped for a while, as by a debugger, would put off a notice that the
-//! mail server has. Its sender would get it twice.
+//! A connection that retries interrupted calls. Without that, a process that was stopped for a
+//! while, as by a debugger, would postpone a notice that the mail server already has. Its recipient
+//! would get it twice.
 ghost use Rattle.std.specs.Prelude.{refl};
 
 use crate::opaque_stream::OpaqueStream;
 use std::io;
 use std::io::{Error, ErrorKind, Read, Write};
 
-/// How often a call is tried that is interrupted each time.
+/// How often an interrupted call is tried.
 const TRIES: u32 = 1_000;
 
-/// A connection over a socket. A call that is interrupted is made again: one that has a time limit is
-/// interrupted where the process is stopped for a while.
+/// A connection over a socket that retries interrupted calls. A call with a time limit is
+/// interrupted if the process is stopped for a while.
 #[derive(Drop)]
 pub struct Connection<T> {
     stream: T,

@@ -1,4 +1,4 @@
-//! What the daemon writes to.
+//! The trait of devices that the daemon writes to.
 ghost use Rattle.std.specs.Prelude.{◌≡◌, ℕ, Bool, ◌&&◌, ◌||◌, false, List, Option, None, IsOk, OnOk, is_err, is_ok};
 ghost use Rattle.std.specs.Io.{WritesAtMost};
 ghost use Rattle.std.specs.Io.KnownBytes.{WriteAppends, Keeps};
@@ -9,51 +9,50 @@ ghost use Rattle.dsn_device.specs.Throughout.{LeavesThroughout, StandsStill};
 
 use crate::broken::Broken;
 
-/// A writer that counts its failures and its flushes. A write that takes no byte of a text that has
-/// some is one, as is an interrupted call.
+/// A writer that counts its failures and its flushes. An interrupted call is a failure, and also a
+/// write that takes no byte of a text that isn't empty.
 pub trait Drain {
     // The bytes that the device holds, if they are known.
     ghost contents: { Self → Option (List ℕ) };
 
-    // The bytes that reads of a device which is read from as well will give, if they are known.
+    // The bytes that reads will return, if the device is read from as well and they are known.
     ghost left: { Self → Option (List ℕ) } = { λ _. None };
 
     // How many calls have failed; the count stops at `u64::MAX`.
     ghost failures: { Self → ℕ };
 
-    // How many times it was flushed, also where that failed; the count stops at `u64::MAX`.
+    // How many times the device was flushed, including failed flushes; the count stops at
+    // `u64::MAX`.
     ghost flushes: { Self → ℕ };
 
-    // Whether it has taken bytes since the last flush that went well.
-    // The count alone would allow a flush before a letter's last line. Both together say that a
-    // letter is flushed once, after its whole text; nothing else shows it, since a flush changes no
-    // bytes.
+    // Whether the device has taken bytes since its last successful flush. The count alone would
+    // allow a flush before a letter's last line. Both together specify that a letter is flushed
+    // once, after its whole text. No other clause shows it, since a flush changes no bytes.
     ghost unflushed: { Self → Bool };
 
-    // How many letters are marked, if it marks them: those whose text was flushed, so that no later
-    // run writes it again.
+    // How many letters are marked, if the device marks letters: those whose text was flushed, so
+    // that no later run writes it again.
     ghost marked: { Self → Option ℕ } = { λ _. None };
 
-    // The moment, as a number that doesn't fall.
+    // The moment, as a number that never decreases.
     ghost moment: { Self → ℕ } = { λ _. 0 };
 
-    // What a crash since this moment might have left of its marks, during a call or between two;
-    // nothing, if it marks no letters.
+    // The marks that a crash since this moment may have left, during a call or between two calls.
+    // If the device marks no letters, there are no such bytes.
     ghost left_since: { Self → ℕ → List ℕ → Type 0 } = { λ _ _ _. ⊥ };
 
-    // That a later run which finds these bytes of marks takes this number of letters for marked.
+    // A later run that finds these bytes of marks takes this number of letters as marked.
     ghost say: { List ℕ → ℕ → Type 0 } = { λ _ _. ⊥ };
 
-    // While this holds the count doesn't change, and the device keeps it: no call fails.
+    // No call fails. While this holds, calls keep it, and the count of failures doesn't change.
     ghost steady: { Self → Type 0 };
 
-    // While this holds no flush fails, and writes and flushes keep it.
-    // Memory can be refused to a write, and never to a flush. `Plain` can't promise it of the
-    // writer inside, since std's writers have no word for it: so memory is a device of its own,
-    // `MemoryDrain`.
+    // No flush fails. While this holds, writes and flushes keep it. A write to memory can be
+    // refused, a flush can't. `Plain` can't promise this of the writer inside, since std's
+    // contracts of writers don't express it. So memory is a device of its own, `MemoryDrain`.
     ghost flushes_surely: { Self → Type 0 } = { λ _. ⊥ };
 
-    /// Writes a front of the text and says how many bytes it took.
+    /// Writes a front of the text, and returns how many bytes it took.
     fn write(&mut self, text: &[u8]) -> Result<usize, Broken>
         ensures bound { WritesAtMost result text.now }
         ensures bytes { WriteAppends (contents self.old) (contents self.new) result text.now }
@@ -83,9 +82,9 @@ pub trait Drain {
         ensures steady { steady self.old
             → steady self.new × (failures self.new ≡ failures self.old) };
 
-    /// Marks the letter with this serial, and all before it: their text was flushed, so that no
-    /// later run writes it again. A device that marks no letters does nothing. A letter whose mark
-    /// failed may be marked by what a crash leaves.
+    /// Marks the letter with this serial, and all before it. Their text was flushed, so no later
+    /// run writes it again. A device that marks no letters does nothing. After a failure, a crash
+    /// may leave the letter marked or not.
     ///
     /// Requires that the device has taken no byte since its last flush.
     fn mark_letter(&mut self, serial: u64) -> Result<(), Broken>

@@ -1,6 +1,6 @@
-//! The devices that the daemon reads from and writes to: what a device is, std's readers and
-//! writers as devices, memory as one, whole texts over them, and a writer that is quiet after the
-//! first failure.
+//! The devices that the daemon reads from and writes to: their traits, and std's readers and
+//! writers and memory as devices. Whole texts over devices, and a writer that stops at the first
+//! failure.
 #![tactic(auto)]
 
 mod broken;

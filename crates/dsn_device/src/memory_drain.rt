@@ -1,19 +1,18 @@
-//! Memory as a device that is written to.
+//! Memory as a device to write to.
 ghost use Rattle.std.specs.Prelude.{◌≡◌, Some, false};
 
 use crate::broken::Broken;
 use crate::drain::Drain;
 use std::marker::Model;
 
-/// Bytes in memory that texts are written to, with a count of the writes that failed and one of the
-/// flushes, which stand still at `u64::MAX`. A write fails where memory is refused, and takes
-/// nothing then. No flush fails.
+/// A buffer in memory as a device, with counts of its failed writes and its flushes, which stop at
+/// `u64::MAX`. A write fails if memory is refused, and then takes no byte. No flush fails.
 #[derive(Drop)]
 pub struct MemoryDrain {
     bytes: Vec<u8>,
     failures: u64,
     flushes: u64,
-    /// Whether it has taken bytes since the last flush.
+    /// Whether bytes were taken since the last flush.
     unflushed: bool,
 }
 
@@ -31,7 +30,7 @@ impl Model for MemoryDrain {
 }
 
 impl MemoryDrain {
-    /// The device that writes behind these bytes, and has not failed and was not flushed so far.
+    /// A device that appends to these bytes. It has no failures and no flushes yet.
     pub fn new(bytes: Vec<u8>) -> MemoryDrain
         ensures { result ≡ record {
           bytes = bytes.items;
@@ -48,7 +47,7 @@ impl MemoryDrain {
         }
     }
 
-    /// The bytes, with what was written behind them.
+    /// The bytes, followed by those that were written.
     pub fn into_bytes(self) -> Vec<u8>
         ensures { result.items ≡ self.bytes }
     {

@@ -1,10 +1,10 @@
-//! Readers and writers whose bytes no contract tells.
+//! Readers and writers whose bytes no contract exposes.
 ghost use Rattle.std.specs.Prelude.{◌≡◌, None, refl};
 
 use std::io::{Read, Write};
 use std::os::unix::net::UnixStream;
 
-/// A reader and writer of std's whose bytes no contract tells, as a socket.
+/// A std reader and writer whose bytes no contract exposes, such as a socket.
 pub trait OpaqueStream: Read + Write {
     ghost untold_input: { (s : Self) → Self.remaining s ≡ None };
 

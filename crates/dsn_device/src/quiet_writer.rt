@@ -1,4 +1,4 @@
-//! A drain with a note of whether it has failed, after which nothing is written to it.
+//! A drain with a record of whether it has failed, after which nothing is written to it.
 ghost use Rattle.std.specs.Prelude.{◌≡◌, false};
 ghost use Rattle.dsn_device.specs.QuietWriter.{Writes, Flushes, MarksLetter};
 
@@ -6,8 +6,8 @@ use crate::drain::Drain;
 use crate::until_failure::UntilFailure;
 use std::marker::Model;
 
-/// Writes texts to a drain, and neither writes nor flushes after the drain's first failure. So its
-/// callers need not look at each text; `has_failed` says it to the last of them.
+/// Writes texts to a drain, and neither writes nor flushes after the drain's first failure. So
+/// callers need not check each text: `has_failed` reports a failure after the last one.
 #[derive(Drop)]
 pub struct QuietWriter<D> {
     drain: D,
@@ -58,15 +58,15 @@ impl<D: Drain> QuietWriter<D> {
         self.writing.write(&mut self.drain, text);
     }
 
-    /// Has the drain pass on what it holds, unless it has failed.
+    /// Flushes the drain, unless it has failed.
     pub fn flush(&mut self)
         ensures { Flushes D.Drain self.old self.new }
     {
         self.writing.flush(&mut self.drain);
     }
 
-    /// Has the drain mark the letter with this serial, unless it has failed. Requires that the
-    /// drain has taken no byte since its last flush, where it has not failed.
+    /// Has the drain mark the letter with this serial, unless the drain has failed. Requires that
+    /// the drain has failed, or has taken no byte since its last flush.
     pub fn mark_letter(&mut self, serial: u64)
         requires { self.old.failed ≡ false → D.unflushed self.old.drain ≡ false }
         ensures { MarksLetter D.Drain self.old self.new serial }

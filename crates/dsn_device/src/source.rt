@@ -1,4 +1,4 @@
-//! What the daemon reads from.
+//! The trait of devices that the daemon reads from.
 ghost use Rattle.std.specs.Prelude.{◌≡◌, ℕ, Bool, false, List, Option, None, is_err};
 ghost use Rattle.std.specs.Io.{ReadsAtMost};
 ghost use Rattle.std.specs.Io.KnownBytes.{ReadConsumes, Keeps};
@@ -6,29 +6,29 @@ ghost use Rattle.dsn_device.specs.Failures.{counted};
 
 use crate::broken::Broken;
 
-/// A reader that counts its failures. It is never asked again after an interrupted call: that is
-/// a failure like any.
+/// A reader that counts its failures. An interrupted call is a failure like any other.
 pub trait Source {
-    // The bytes that reads will give from here on, where they are known.
+    // The bytes that reads will return from now on, if they are known.
     ghost remaining: { Self → Option (List ℕ) };
 
-    // The bytes that a device which is written to as well holds, where they are known.
+    // The bytes that the device holds, if it is written to as well and they are known.
     ghost holds: { Self → Option (List ℕ) } = { λ _. None };
 
-    // How many times a device that is written to as well was flushed.
+    // How many times the device was flushed, if it is written to as well.
     ghost flushes: { Self → ℕ } = { λ _. 0 };
 
-    // Whether such a device has taken bytes since the last flush that went well.
+    // Whether such a device has taken bytes since its last successful flush.
     ghost unflushed: { Self → Bool } = { λ _. false };
 
-    // How many calls have failed; the count stands still at `u64::MAX`.
+    // How many calls have failed; the count stops at `u64::MAX`.
     ghost failures: { Self → ℕ };
 
-    // While this holds the count stands still, and the device keeps it: no call fails.
+    // No call fails. While this holds, calls keep it, and the count of failures doesn't change.
     ghost steady: { Self → Type 0 };
 
-    /// Reads into the front of the buffer and says how many bytes it read: none at the end of the
-    /// input alone, where the buffer has room. What stands behind them in the buffer is not known.
+    /// Reads into the front of the buffer, and returns how many bytes it read. If the buffer has
+    /// room, it returns 0 only at the end of the input. The bytes after them in the buffer are
+    /// unspecified.
     fn read(&mut self, buffer: &mut [u8]) -> Result<usize, Broken>
         ensures bound { ReadsAtMost result buffer.new }
         ensures bytes { ReadConsumes (remaining self.old) (remaining self.new) result buffer.new }

@@ -10,14 +10,14 @@ use crate::stream::Stream;
 use std::io::{Read, Write};
 use std::marker::Model;
 
-/// A reader or a writer of std's with a count of its failures and one of its flushes, which stand
-/// still at `u64::MAX`. Every error is a failure, `Interrupted` too, and no call is tried again.
+/// A std reader or writer with counts of its failures and its flushes, which stop at `u64::MAX`.
+/// Every error is a failure, including `Interrupted`, and no call is retried.
 #[derive(Drop)]
 pub struct Plain<T> {
     inner: T,
     failures: u64,
     flushes: u64,
-    /// Whether it has taken bytes since the last flush that went well.
+    /// Whether bytes were taken since the last successful flush.
     unflushed: bool,
 }
 
@@ -35,8 +35,7 @@ impl<T> Model for Plain<T> {
 }
 
 impl<T> Plain<T> {
-    /// The device that reads from or writes to `inner`, and has not failed and was not flushed so
-    /// far.
+    /// A device that reads from or writes to `inner`. It has no failures and no flushes yet.
     pub fn new(inner: T) -> Plain<T>
         ensures { result ≡ record { inner = inner; failures = 0; flushes = 0; unflushed = false } }
     {

@@ -1,11 +1,12 @@
-//! Devices that are both read from and written to, as a connection is.
+//! Devices that are both read from and written to, such as connections.
 ghost use Rattle.std.specs.Prelude.{◌≡◌, ◌↔◌};
 
 use crate::drain::Drain;
 use crate::source::Source;
 
-/// A source and a drain in one device: its failures are counted together, reading keeps what was
-/// written and is no flush, and writing keeps what is still to be read.
+/// A source and a drain in one device. Failures of reads and of writes have one count. A read
+/// changes no written bytes and is no flush, and a write changes no bytes that are still to be
+/// read.
 pub trait Stream: Source + Drain {
     ghost one_count: { (s : Self) → Self.Drain.failures s ≡ Self.Source.failures s };
 

@@ -1,4 +1,4 @@
-//! Whole texts over devices that take and give them in pieces.
+//! Whole texts over devices that write and read them in pieces.
 ghost use Rattle.std.specs.Prelude.{◌≡◌, ◌<◌, length, take, IfOk, OnOk, OnErr, is_err};
 ghost use Rattle.std.specs.Io.{ReadsAtMost};
 ghost use Rattle.std.specs.Io.KnownBytes.{Appends, Consumes, IsAtEnd, Keeps};
@@ -10,8 +10,8 @@ use crate::broken::Broken;
 use crate::drain::Drain;
 use crate::source::Source;
 
-/// Writes the whole text, and stops at the drain's first failure: a prefix of the text is then
-/// written, and not all of it. An empty text makes no write.
+/// Writes the whole text. Stops at the drain's first failure and returns it: then a front of the
+/// text is written, but not all of it. An empty text makes no write.
 pub fn send<D: Drain>(drain: &mut D, text: &[u8]) -> Result<(), Broken>
     ensures sent { OnOk result (Appends (D.contents drain.old) (D.contents drain.new) text.now) }
     ensures front { OnErr result
@@ -31,8 +31,8 @@ pub fn send<D: Drain>(drain: &mut D, text: &[u8]) -> Result<(), Broken>
     let mut unsent = text;
     while !unsent.is_empty() {
         let taken = drain.write(unsent)?;
-        // Else a drain that takes nothing would be asked for ever. std's `write_all` isn't used,
-        // since it tries again after an interrupted call.
+        // Without this check, a drain that takes no byte would be called for ever. std's
+        // `write_all` isn't used, since it retries an interrupted call.
         if taken == 0 {
             return Err(Broken);
         }
@@ -41,9 +41,9 @@ pub fn send<D: Drain>(drain: &mut D, text: &[u8]) -> Result<(), Broken>
     Ok(())
 }
 
-/// Reads until the buffer is full or the input ends, and says how many bytes it read, which are
-/// then at the buffer's front. It stops at the source's first failure: what it read before that is
-/// lost. An empty buffer makes no read.
+/// Reads until the buffer is full or the input ends. Returns how many bytes it read, which are at
+/// the buffer's front. Stops at the source's first failure and returns it: then the bytes read
+/// before are lost. An empty buffer makes no read.
 pub fn fill<S: Source>(source: &mut S, buffer: &mut [u8]) -> Result<usize, Broken>
     ensures bound { ReadsAtMost result buffer.new }
     ensures bytes { IfOk result (λ n.
@@ -61,7 +61,7 @@ pub fn fill<S: Source>(source: &mut S, buffer: &mut [u8]) -> Result<usize, Broke
 {
     let mut filled = 0;
     while filled < buffer.len() {
-        // std's `read_exact` isn't used, since it tries again after an interrupted call.
+        // std's `read_exact` isn't used, since it retries an interrupted call.
         let count = source.read(&mut buffer[filled..])?;
         if count == 0 {
             return Ok(filled);

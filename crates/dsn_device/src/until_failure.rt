@@ -5,12 +5,12 @@ ghost use Rattle.dsn_device.specs.UntilFailure.{WritesUntilFailure, FlushesUntil
 use crate::drain::Drain;
 use crate::transfer::send;
 
-/// Whether a drain has failed so far. Texts that are written through it reach the drain up to the
-/// first failure, and nothing reaches it after that, so that a caller need not look at each text:
-/// `failed` says it to the last of them.
+/// Whether a drain has failed so far. Texts that are written through it reach the drain until its
+/// first failure, and nothing does after that. So callers need not check each text: `failed`
+/// reports a failure after the last one.
 ///
-/// It doesn't hold the drain. A writer that is generic in what it holds can't know that a drain it
-/// was lent is still the same one. So its caller would know nothing of the drain afterwards.
+/// It doesn't own the drain. A writer that is generic in its field can't know that a borrowed drain
+/// is still the same one, so its caller would know nothing of the drain afterwards.
 #[derive(Clone, Copy, Debug, PartialEq, Eq)]
 pub struct UntilFailure {
     /// Whether the drain has failed.
@@ -33,15 +33,15 @@ impl UntilFailure {
         self.failed = self.failed || send(drain, text).is_err();
     }
 
-    /// Has the drain pass on what it holds, unless it has failed.
+    /// Flushes the drain, unless it has failed.
     pub fn flush<D: Drain>(&mut self, drain: &mut D)
         ensures { FlushesUntilFailure D.Drain self.old.failed self.new.failed drain.old drain.new }
     {
         self.failed = self.failed || drain.flush().is_err();
     }
 
-    /// Has the drain mark the letter with this serial, unless it has failed. Requires that the
-    /// drain has taken no byte since its last flush, if it has not failed.
+    /// Has the drain mark the letter with this serial, unless the drain has failed. Requires that
+    /// the drain has failed, or has taken no byte since its last flush.
     pub fn mark_letter<D: Drain>(&mut self, drain: &mut D, serial: u64)
         requires { self.old.failed ≡ false → D.unflushed drain.old ≡ false }
         ensures { MarksUntilFailure D.Drain self.old.failed self.new.failed drain.old drain.new

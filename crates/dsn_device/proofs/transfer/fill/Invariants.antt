@@ -1,4 +1,4 @@
--- What stands at the front of the buffer was consumed, and the source did not fail.
+-- The bytes at the front of the buffer were consumed, and the source did not fail.
 use Rattle.std.proofs.Common.{◌≡◌, ◌≤◌, ◌-◌, length, take}
 use Rattle.std.specs.Io.KnownBytes.{Consumes, Keeps}
 use Rattle.dsn_device.proofs.transfer.fill.Given as goal

@@ -1,4 +1,4 @@
--- What is gone from `unsent` was appended, and the drain did not fail and was not flushed.
+-- The text before `unsent` was appended, and the drain did not fail and was not flushed.
 use Rattle.std.proofs.Common.{◌≡◌, List, ◌++◌, length, ℕ}
 use Rattle.std.specs.Io.KnownBytes.{Appends, Keeps}
 use Rattle.dsn_device.specs.Throughout.{StandsStill}

@@ -1,4 +1,4 @@
--- Each line that was written of a record says a field.
+-- Each line of a written record has a field.
 use Rattle.std.proofs.Common.{◌≡◌, ℕ, ◌<◌, ◌^◌, Bool, true, false, codes, List, [], ◌∷◌, ◌++◌, map, Option, Some, None, refl, ◌∙◌, ap, arith, if◌then◌else◌}
 use Rattle.std.specs.Prelude.{◌==◌, ◌&&◌, ◌||◌, decimal}
 use Rattle.std.specs.List.{list_all}
@@ -30,7 +30,7 @@ or-right : (a b : Bool) → b ≡ true → (a || b) ≡ true
 or-right true b says = refl
 or-right false b says = says
 
--- a line that says one field says any
+-- a line with one field has some field
 says-any : (field : LogField) (line : List ℕ) → says_field field line ≡ true → (says_of_recipient line || says_of_delivery line) ≡ true
 says-any Recipient line says = or-left (says_of_recipient line) (says_of_delivery line) (or-left (says_field Recipient line) (says_field OriginalRecipient line || (says_field Offset line || (says_field DsnOriginal line || says_field NotifyFlags line))) says)
 says-any OriginalRecipient line says = or-left (says_of_recipient line) (says_of_delivery line) (or-right (says_field Recipient line) (says_field OriginalRecipient line || (says_field Offset line || (says_field DsnOriginal line || says_field NotifyFlags line))) (or-left (says_field OriginalRecipient line) (says_field Offset line || (says_field DsnOriginal line || says_field NotifyFlags line)) says))
@@ -105,12 +105,12 @@ old-older f stands = ap (λ (l : List ℕ). is_some (old_parts l)) (whole-line (
 pub old-said : (f : LoggedFields) → list_all can_stand_in_line (old_line f) ≡ true → is_said_line (old_line f) ≡ true
 old-said f stands = said-if Recipient (old_line f) stands (old-says_recipient f)
 
--- the last line says the reason
+-- the last line has the reason
 pub reason-last : (reason : List ℕ) (before : Bool) → says_something reason ≡ true → is_loggable reason ≡ true → last_says_reason before (map said_line (said_text Reason reason)) ≡ true
 reason-last [] before full loggable = grind (arith, full)
 reason-last (byte ∷ reason) before full loggable = ap is_some (line-says Reason Reason (byte ∷ reason) loggable)
 
--- whatever stands before it
+-- the last line has the reason, whatever precedes it
 abbrev EndsWell : List (LogField × List ℕ) → Type 0
 EndsWell said = (before : Bool) → last_says_reason before (map said_line said) ≡ true
 

@@ -1,4 +1,4 @@
--- A text without the spaces at an end is the text where it is as long.
+-- A text without the spaces at one end equals the text if it has the same length.
 use Rattle.std.proofs.Common.{◌≡◌, ℕ, ◌-◌, List, length, arith, length-drop, length-take}
 use Rattle.std.specs.Prelude.{◌==◌}
 use Rattle.std.specs.List.{prefix_len, suffix_len}

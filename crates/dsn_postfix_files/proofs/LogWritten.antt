@@ -1,4 +1,4 @@
--- A record that was written is read back.
+-- A written record is read back.
 use Rattle.std.proofs.Common.{◌≡◌, ℕ, ◌+◌, ◌-◌, Bool, true, false, List, [], ◌∷◌, ◌++◌, length, length-append, take, drop, map, Option, Some, None, refl, ◌∙◌, ap, arith, append_assoc, if◌then◌else◌}
 use Rattle.std.specs.Prelude.{◌==◌, ◌&&◌, ◌||◌, not}
 use Rattle.std.specs.Option.{is_some}
@@ -18,7 +18,7 @@ use Rattle.dsn_postfix_files.specs.LogParts.{with_its_feed}
 abbrev Said : Type 0
 Said = LogField × List ℕ
 
--- ---- a line that was written
+-- ---- a written line
 
 no-feed : (byte : ℕ) → can_stand_in_line byte ≡ true → is_line_feed byte ≡ false
 no-feed byte stands = grind arith
@@ -26,14 +26,14 @@ no-feed byte stands = grind arith
 no-nul : (byte : ℕ) → can_stand_in_line byte ≡ true → is_nul byte ≡ false
 no-nul byte stands = grind arith
 
--- no line feed stands in it
+-- a written line has no line feed
 pub split-line : (text rest : List ℕ) → list_all can_stand_in_line text ≡ true → all_lines (text ++ 10 ∷ rest) ≡ text ∷ all_lines rest
 split-line [] rest _ = refl
 split-line (byte ∷ text) rest stand =
     let parts = and_parts (can_stand_in_line byte) (list_all can_stand_in_line text) stand in
     rw (no-feed byte parts.0, split-line text rest parts.1)
 
--- nor a NUL
+-- a written line has no NUL
 nul-place : (text : List ℕ) → list_all can_stand_in_line text ≡ true → position_or_len is_nul text ≡ length text
 nul-place [] _ = refl
 nul-place (byte ∷ text) stand =
@@ -43,7 +43,7 @@ nul-place (byte ∷ text) stand =
 pub whole-line : (text : List ℕ) → list_all can_stand_in_line text ≡ true → before_nul text ≡ text
 whole-line text stand = ap (λ n. take n text) (nul-place text stand) ∙ take-length text
 
--- ---- what it says
+-- ---- its field
 
 spaces-none : (text : List ℕ) → is_loggable text ≡ true → without_outer_spaces text ≡ text
 spaces-none text loggable =
@@ -203,7 +203,7 @@ same_field Reason MtaType = false
 same_field Reason MtaName = false
 same_field Reason Reason = true
 
--- what a line says of a field that was written for one
+-- the text of a field in a line that was written for some field
 abbrev pub said_of : LogField → Said → Option (List ℕ)
 said_of field said = if same_field field said.0 then Some said.1 else None
 
@@ -236,7 +236,7 @@ name-stands MtaType = refl
 name-stands MtaName = refl
 name-stands Reason = refl
 
--- ---- the lines of all that was said
+-- ---- the lines of all fields
 
 abbrev pub are_loggable : List Said → Bool
 are_loggable said = list_all (λ one. is_loggable one.1) said
@@ -254,7 +254,7 @@ lines-split (one ∷ said) rest loggable =
     ∙ split-line (said_line one) (flat_map said_bytes said ++ rest) (said-stands one parts.0)
     ∙ ap (λ (l : List (List ℕ)). said_line one ∷ l) (lines-split said rest parts.1)
 
--- all of them counts
+-- all bytes of these lines count
 pub lines-count : (said : List Said) → are_loggable said ≡ true → map before_nul (map said_line said) ≡ map said_line said
 lines-count [] _ = refl
 lines-count (one ∷ said) loggable =
@@ -267,7 +267,7 @@ texts-said field (one ∷ said) loggable =
     let parts = and_parts (is_loggable one.1) (are_loggable said) loggable in
     λ i. cons_option (line-says field one.0 one.1 parts.0 i) (texts-said field said parts.1 i)
 
--- a said line is never empty
+-- a written line is never empty
 full-line : (field : LogField) (text : List ℕ) → is_blank (said_line (field, text)) ≡ false
 full-line Recipient text = refl
 full-line OriginalRecipient text = refl
@@ -282,7 +282,7 @@ full-line MtaType text = refl
 full-line MtaName text = refl
 full-line Reason text = refl
 
--- nor of the older form
+-- a written line is never of the older form
 not-old : (field : LogField) (text : List ℕ) → old_parts (said_line (field, text)) ≡ None
 not-old Recipient text = refl
 not-old OriginalRecipient text = refl
@@ -297,13 +297,13 @@ not-old MtaType text = refl
 not-old MtaName text = refl
 not-old Reason text = refl
 
--- so it goes on with a line of the older form
+-- so it continues the part of a line of the older form
 pub said-after_older : (before : List ℕ) (one : Said) → is_older before ≡ true → is_loggable one.1 ≡ true → goes_on before (said_line one) ≡ true
 said-after_older before one older loggable =
     let none = ap old_parts (whole-line (said_line one) (said-stands one loggable)) ∙ not-old one.0 one.1 in
     λ i. not (full-line one.0 one.1 i || (is_some (none i) || (not (older i) && names_recipient (said_line one))))
 
--- of another field it goes on with any line
+-- a field other than the recipient, whose line continues the part of any line
 abbrev pub is_no_recipient : Said → Bool
 is_no_recipient one = not (same_field Recipient one.0)
 
@@ -332,7 +332,7 @@ said-goes_on before one other loggable =
     let unnamed = ap (value_named (field_name Recipient)) whole ∙ not-named one.0 one.1 other in
     (λ i. not (full-line one.0 one.1 i || (is_some (none i) || (not (is_older before) && is_some (unnamed i))))) ∙ never (not (is_older before))
 
--- each line goes on with the one before it
+-- each line continues the part of the line before it
 abbrev pub all_go_on : List ℕ → List Said → Bool
 all_go_on before [] = true
 all_go_on before (one ∷ said) = goes_on before (said_line one) && all_go_on (said_line one) said
@@ -374,7 +374,7 @@ said-after before (one ∷ said) more on =
     let lines = map said_line said ++ [] ∷ more in
     ap (λ (on : Bool). if on then more_after (said_line one) lines else said_line one ∷ lines) parts.0 ∙ said-after (said_line one) said more parts.1
 
--- ---- of each field
+-- ---- each field
 
 -- a text, unless it is empty
 abbrev pub shown : List ℕ → List (List ℕ)

@@ -1,6 +1,6 @@
--- Worked examples of what a queue file says of its message, each computed. The records and their places are
--- those of queue files that Postfix 3.7.11 wrote (tests/postfix/queue-mixed and queue-null-sender), but for
--- the last ones.
+-- Worked examples of the facts of a message in its queue file, computed by the definitions. Except for the last ones,
+-- the records and their places are from queue files that Postfix 3.7.11 wrote (tests/postfix/queue-mixed and
+-- queue-null-sender).
 use Rattle.std.proofs.Common.{◌≡◌, ℕ, List, [], ◌∷◌, codes, refl, Some, None}
 use Rattle.dsn_postfix_files.specs.MessageFacts.{arrival_in, return_flags_in, said_of_message}
 use Rattle.dsn_postfix_files.specs.QueueRecord.{PlacedBytes}
@@ -23,12 +23,12 @@ mixed : said_of_message (
     ≡ record { arrival = Some 1795671363; sender = Some (codes "ann@example.com"); envelope_id = Some (codes "QQ314159"); return_flags = Some 2 }
 mixed = refl
 
--- a notice has a sender without bytes, and nothing else was said of it
+-- a notice has an empty sender, and no further facts
 null_sender : said_of_message (at 97 84 (codes "1795671363 224406") ∷ at 186 83 [] ∷ at 729 77 [] ∷ [])
     ≡ record { arrival = Some 1795671363; sender = Some []; envelope_id = None; return_flags = None }
 null_sender = refl
 
--- time and sender that come first count, and id and flags that come last, in either form
+-- the first time and sender count, and the last id and flags, in either form
 again : said_of_message (
     at 0 84 (codes "0 5")
     ∷ at 9 84 (codes "7 5")

@@ -1,4 +1,4 @@
--- What a queue file says of its message, read off its records one after another.
+-- The facts of a message in its queue file, read from one record after another.
 use Rattle.std.proofs.Common.{◌≡◌, ℕ, List, [], ◌∷◌, Option, Some, None, refl, ◌∙◌, ap}
 use Rattle.std.specs.List.{cons_option, filter_map, last_or}
 use Rattle.dsn_postfix_files.specs.inner.QueueReading.{MessageLeft, said_with, with_record}
@@ -16,7 +16,7 @@ last-by : {X : Type 0} (before here : Option X) (more : List X) → last_or befo
 last-by before None more = refl
 last-by before (Some x) more = refl
 
--- with what a record says before the others
+-- the facts with those of a record before the others
 step-said : (before : SaidOfMessage) (found : PlacedBytes) (records : List PlacedBytes) → said_with before (found ∷ records) ≡ said_with (with_record before found) records
 unfolding with_record
 step-said before found records = λ i. record {
@@ -37,7 +37,7 @@ more_said file start next before said found ending step left =
       are = left.are ∙ ap (said_with before) begins.first ∙ step-said before found begins.others;
     }
 
--- no record
+-- no more records
 nothing-more : {X : Type 0} (before : Option X) → first_or before None ≡ before
 nothing-more (Some x) = refl
 nothing-more None = refl

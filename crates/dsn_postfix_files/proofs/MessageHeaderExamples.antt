@@ -1,23 +1,23 @@
--- Worked examples of the header of a message, each computed.
+-- Worked examples of the header of a message, computed by the definitions.
 use Rattle.std.proofs.Common.{◌≡◌, ℕ, true, false, List, [], ◌∷◌, ◌++◌, codes, refl}
 use Rattle.dsn_postfix_files.specs.MessageHeader.{is_header_line, message_header}
 
--- up to the empty line; a field may go on in lines of its own, and have blanks before its colon
+-- up to the empty line; a field may continue on further lines, and may have blanks before its colon
 fields : message_header (codes "Subject: hello\n\tand more\nX-Old : form\n\nTo: nobody\n") ≡ codes "Subject: hello\n\tand more\nX-Old : form\n"
 fields = refl
 
--- of a message that Postfix 3.7.11 kept, of which it gave back these lines as its header
+-- a message that Postfix 3.7.11 held, and of which it returned these lines as the header
 abbrev kept : List ℕ
 kept = codes "Subject: then a body\nMessage-Id: <20261126234815.D8CA2A85C29@mx.example.net>\nDate: Thu, 26 Nov 2026 23:48:15 +0000 (UTC)\nFrom: ann@example.com\n"
 
 given_back : message_header (kept ++ codes "\nno colon stands in this line\nX-Never: a field\n\nMore.\n") ≡ kept
 given_back = refl
 
--- where no empty line comes, up to the first line that is none of a header
+-- without an empty line, up to the first line that isn't of a header
 no_empty_line : message_header (codes "Subject: hello\nno field\nTo: nobody\n") ≡ codes "Subject: hello\n"
 no_empty_line = refl
 
--- the whole text, also where no line feed ends it; or nothing of it
+-- the whole text, even without a final line feed; or nothing of it
 header_alone : message_header (codes "Subject: hello\n") ≡ codes "Subject: hello\n"
 header_alone = refl
 
@@ -27,7 +27,7 @@ half_a_line = refl
 no_header : message_header (codes "\nSubject: hello\n") ≡ []
 no_header = refl
 
--- no name, a name with a byte that isn't ASCII, a name with a NUL, words before the colon
+-- without a name, with a name that has a byte outside ASCII or a NUL, and with words before the colon
 no_names : is_header_line (codes ": x") ≡ false
 no_names = refl
 
@@ -40,6 +40,6 @@ nul = refl
 words : is_header_line (codes "From ann@example.com Thu Nov 26 05:36:03 2026") ≡ false
 words = refl
 
--- a line of blanks goes on
+-- a line of blanks continues a field
 blanks : is_header_line (codes " ") ≡ true
 blanks = refl

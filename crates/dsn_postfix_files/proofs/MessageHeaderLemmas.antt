@@ -1,4 +1,4 @@
--- The header of a text is known by its front, or is longer than that.
+-- The header of a text is determined by the text's front, or is longer than the limit.
 use Rattle.std.proofs.Common.{◌≡◌, ℕ, ◌+◌, ◌<◌, ◌≤◌, Bool, true, false, cond, List, [], ◌∷◌, ◌++◌, length, take, drop, refl, sym, subst, ◌∙◌, ap, arith, length-append, length-take, take_all, take-append-drop, if◌then◌else◌}
 use Rattle.std.specs.Prelude.{◌||◌, nat_lt}
 use Rattle.std.specs.List.{onto_first, slice_split}
@@ -8,9 +8,9 @@ use Rattle.dsn_postfix_files.specs.LogLine.{all_lines, is_line_feed}
 use Rattle.dsn_postfix_files.specs.LogParts.{with_its_feed}
 use Rattle.dsn_postfix_files.specs.MessageHeader.{AreSameUpTo, begins_with, front_size, header_size, is_blank_byte, is_header_line, longer, longest_field_name, message_header, names_field, same}
 
--- ---- the lines of two texts, one after the other
+-- ---- the lines of two texts, one after another
 
--- the last line of the first goes on with the first one of the second.
+-- the last line of the first text and the first line of the second are one line
 abbrev joined : List (List ℕ) → List (List ℕ) → List (List ℕ)
 joined [] more = more
 joined (line ∷ []) [] = line ∷ []
@@ -38,7 +38,7 @@ lines-append (byte ∷ front) more =
     ap (λ (lines : List (List ℕ)). cond (is_line_feed byte) ([] ∷ lines) (onto_first byte lines)) (lines-append front more)
     ∙ joined-byte (is_line_feed byte) byte (all_lines front) (all_lines more) (some-lines front)
 
--- how many bytes lines have, with their line feeds.
+-- the size of lines in bytes, with their line feeds
 abbrev size_of_lines : List (List ℕ) → ℕ
 size_of_lines [] = 0
 size_of_lines (line ∷ lines) = with_its_feed line lines + size_of_lines lines
@@ -57,7 +57,7 @@ size-of-text (byte ∷ text) =
 
 -- ---- the headers of both
 
--- the lines of a header have the same size, or both reach beyond what the front shows.
+-- the lines of a header have the same size, or both reach beyond the front
 data Agree (mine whole total : ℕ) : Type 0 where
   equal : whole ≡ mine → Agree mine whole total
   beyond : total ≤ mine + longest_field_name → total ≤ whole + longest_field_name → Agree mine whole total
@@ -117,7 +117,7 @@ agree-texts front more =
 
 -- ---- a text and its front
 
--- the front of the header ends within the front of the text, or both headers are longer.
+-- the header ends within the front of the text, or both headers are longer than the limit
 same-size : (limit : ℕ) (text front more : List ℕ) (inside : Bool) → text ≡ front ++ more → limit < length front
     → header_size (all_lines text) ≡ header_size (all_lines front)
     → nat_lt (length front) (header_size (all_lines front)) ≡ inside

@@ -1,4 +1,4 @@
--- The text of a queue file's message, read off its records one after another.
+-- The text of a queue file's message, read from one record after another.
 use Rattle.std.proofs.Common.{◌≡◌, ◌<◌, ◌≤◌, ◌-◌, ◌+◌, Bool, true, false, ℕ, List, [], ◌++◌, ◌∙◌, ap, append_assoc, arith, length, length-append, length-take, refl, sym, take, take_all}
 use Rattle.std.specs.Prelude.{◌==◌, nat_lt, if◌then◌else◌}
 use Rattle.std.proofs.Math.Seq.{take-append-add}
@@ -10,7 +10,7 @@ use Rattle.dsn_postfix_files.specs.QueueRecord.{PlacedBytes}
 use Rattle.dsn_postfix_files.specs.QueueWalk.{QueuePlace, RecordThere, StepsTo}
 use Rattle.dsn_postfix_files.proofs.QueueListingLemmas.{begins_listing, ends_listing}
 
--- a record before the text.
+-- a record before the text
 pub no_text_yet : (file : List ℕ) (start next : QueuePlace) (before text : List ℕ) (found : PlacedBytes) (ending : QueueEnding)
     → StepsTo file start (RecordThere found next)
     → TextLeft (record { file = file; place = start }) before false text ending
@@ -27,7 +27,7 @@ of-text : (of_it : Bool) (more later : List ℕ) → of_it ≡ true → (if of_i
 of-text true more later is = refl
 of-text false more later is = absurd cc
 
--- one of the text.
+-- a record of the text
 pub more_text : (file : List ℕ) (start next : QueuePlace) (before text : List ℕ) (found : PlacedBytes) (ending : QueueEnding)
     → StepsTo file start (RecordThere found next)
     → is_of_text found.kind ≡ true
@@ -48,7 +48,7 @@ not-of-text : (of_it : Bool) (more : List ℕ) → of_it ≡ false → (if of_it
 not-of-text true more is = absurd cc
 not-of-text false more is = refl
 
--- the first after it.
+-- the first record after the text
 pub text_ends : (file : List ℕ) (start next : QueuePlace) (before text : List ℕ) (found : PlacedBytes) (ending : QueueEnding)
     → StepsTo file start (RecordThere found next)
     → is_of_text found.kind ≡ false
@@ -65,7 +65,7 @@ no-more : (within : Bool) → text_from within [] ≡ []
 no-more true = refl
 no-more false = refl
 
--- no record.
+-- no more records
 pub no_more_text : (file : List ℕ) (start : QueuePlace) (here : QueueEnding) (before text : List ℕ) (within : Bool) (ending : QueueEnding)
     → StepsTo file start (ending_step here)
     → TextLeft (record { file = file; place = start }) before within text ending
@@ -74,9 +74,9 @@ no_more_text file start here before text within ending step left =
     let ends = ends_listing file start here left.records ending step left.come in
     left.are ∙ ap (λ (rs : List PlacedBytes). before ++ text_from within rs) ends.0 ∙ ap (λ (more : List ℕ). before ++ more) (no-more within) ∙ append-nil before
 
--- ---- as much of it as there is room for
+-- ---- the front of it for which there is room
 
--- the front of two texts, one after the other.
+-- the front of two texts, one after another
 both-by : (room : ℕ) (one other : List ℕ) (less : Bool) → nat_lt room (length one) ≡ less → take room (one ++ other) ≡ take room one ++ take (room - length one) other
 both-by room one other true is =
     let below : room < length one = grind (arith, is) in
@@ -92,7 +92,7 @@ both-by room one other false is =
 take-both : (room : ℕ) (one other : List ℕ) → take room (one ++ other) ≡ take room one ++ take (room - length one) other
 take-both room one other = both-by room one other (nat_lt room (length one)) refl
 
--- a line and its line feed, added one after the other.
+-- a line and its line feed, appended one after another
 pub line_within : (limit : ℕ) (before line end added whole : List ℕ)
     → added ≡ before ++ take (limit - length before) line
     → whole ≡ added ++ take (limit - length added) end
@@ -105,7 +105,7 @@ line_within limit before line end added whole one other =
     ∙ append_assoc before (take (limit - length before) line) (take ((limit - length before) - length line) end)
     ∙ ap (λ (more : List ℕ). before ++ more) (sym (take-both (limit - length before) line end))
 
--- a record that had room.
+-- a record for which there was room
 pub had_room : (limit : ℕ) (before more added : List ℕ) → added ≡ before ++ take (limit - length before) more → length added < limit → added ≡ before ++ more
 had_room limit before more added is below =
     let size : length added ≡ length before + length (take (limit - length before) more) = ap length is ∙ length-append before (take (limit - length before) more) in
@@ -121,7 +121,7 @@ front-full limit before more later added fits is full =
     ∙ sym (take-both limit before (more ++ later))
     ∙ ap (take limit) (sym (append_assoc before more later))
 
--- a record after which there is no room.
+-- a record after which there is no room
 pub no_room_left : (file : List ℕ) (start next : QueuePlace) (limit : ℕ) (before added text : List ℕ) (found : PlacedBytes) (ending : QueueEnding)
     → StepsTo file start (RecordThere found next)
     → is_of_text found.kind ≡ true
@@ -134,6 +134,6 @@ no_room_left file start next limit before added text found ending step of_text f
     let after = more_text file start next before text found ending step of_text left in
     front-full limit before (text_of_record found) (text_from true after.records) added fits is full ∙ ap (take limit) (sym after.are)
 
--- a text that fits.
+-- a text that is within the limit
 pub all_fits : (limit : ℕ) (before text : List ℕ) → length before ≤ limit → text ≡ before → before ≡ take limit text
 all_fits limit before text fits is = sym (take_all limit before fits) ∙ ap (take limit) (sym is)

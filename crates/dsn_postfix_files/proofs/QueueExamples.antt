@@ -1,5 +1,4 @@
--- Worked examples of a queue file's definitions, each computed. The bytes are of files that Postfix
--- 3.7 wrote.
+-- Worked examples of a queue file's definitions, computed by them. The bytes are from files that Postfix 3.7 wrote.
 use Rattle.std.proofs.Common.{◌≡◌, ℕ, List, [], ◌∷◌, ◌++◌, codes, drop, take, refl, Some, None}
 use Rattle.dsn_postfix_files.specs.QueueListing.{BrokenOff, RecordsFrom, WholeFile}
 use Rattle.dsn_postfix_files.specs.QueueRecord.{PlacedBytes, length_at, queue_record_at}
@@ -13,7 +12,7 @@ recipient = refl
 pub end : queue_record_at (69 ∷ 0 ∷ []) ≡ Some (record { kind = 69; bytes = [] }, [])
 end = refl
 
--- cut short: no length, and a byte too few
+-- cut short: without a length, and with one byte less than its length
 pub no_length : queue_record_at (82 ∷ []) ≡ None
 no_length = refl
 
@@ -30,8 +29,7 @@ five_bytes = refl
 pub six_bytes : length_at 5 (128 ∷ 128 ∷ 128 ∷ 128 ∷ 128 ∷ 0 ∷ []) ≡ None
 six_bytes = refl
 
--- a file of a recipient, a pointer to 25, a record that nothing leads to, and, at 25, the end; its
--- first place
+-- the first place of a file with a recipient, a pointer to 25, a record that nothing leads to, and, at 25, the end
 abbrev file : List ℕ
 file = (82 ∷ 1 ∷ codes "a") ++ ((112 ∷ 15 ∷ codes "             25") ++ ((82 ∷ 3 ∷ codes "bcd") ++ (69 ∷ 0 ∷ [])))
 
@@ -54,7 +52,7 @@ pub nothing_there : step_at file (from 27 1) ≡ BrokenThere
 unfolding step_at
 nothing_there = refl
 
--- a pointer back takes one of the jumps that are left, and with none left it leads nowhere
+-- a pointer back uses one of the remaining jumps, and without one it is a break
 pub pointer_back : step_at (codes "N" ++ (0 ∷ 112 ∷ 1 ∷ codes "1")) (record { rest = 112 ∷ 1 ∷ codes "1"; jumps = 1 })
     ≡ PointerTo (record { rest = 0 ∷ 112 ∷ 1 ∷ codes "1"; jumps = 0 })
 unfolding step_at
@@ -64,7 +62,7 @@ pub no_jump_left : step_at (codes "N" ++ (0 ∷ 112 ∷ 1 ∷ codes "1")) (recor
 unfolding step_at
 no_jump_left = refl
 
--- a pointer to 0 leads on, and one whose place isn't digits nowhere
+-- a pointer to 0 leads to the next record, and one whose place isn't digits is a break
 pub pointer_to_0 : step_at [] (record { rest = 112 ∷ 2 ∷ codes " 0E"; jumps = 0 }) ≡ PointerTo (record { rest = codes "E"; jumps = 0 })
 unfolding step_at
 pointer_to_0 = refl
@@ -85,7 +83,7 @@ whole_list = record {
   later = record { here = from 25 1; pointers = record { count = 1; lead = refl }; is = refl };
 }
 
--- the same file without its last two bytes: after the pointer nothing can be read
+-- the same file without its last two bytes: it can't be read further after the pointer
 pub broken_list : RecordsFrom (take 25 file) (record { rest = take 25 file; jumps = 1 }) (placed_recipient ∷ []) BrokenOff
 unfolding step_at
 broken_list = record {

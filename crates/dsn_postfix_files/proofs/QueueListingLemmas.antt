@@ -7,7 +7,7 @@ use Rattle.dsn_postfix_files.proofs.QueueWalkLemmas.{GoesOn, step-goes_on}
 
 -- ---- pointers, counted from the first one
 
--- the place after so many pointers more, if there is a first one
+-- the place after this number of further pointers, if there is a first one
 abbrev after_next : ℕ → List ℕ → Option QueuePlace → Option QueuePlace
 after_next count file None = None
 after_next count file (Some next) = after_pointers count file next
@@ -24,7 +24,7 @@ from-first : (count : ℕ) (file : List ℕ) (start : QueuePlace) → after_poin
 from-first zero file start = after-none file (pointed_at (step_at file start))
 from-first (suc count) file start = ap (pointed_from file) (from-first count file start) ∙ after-more count file (pointed_at (step_at file start))
 
--- a place at which no pointer stands is the only one to which pointers lead
+-- pointers lead to only one place without a pointer
 abbrev Stops : List ℕ → QueuePlace → Type 0
 Stops file place = pointed_at (step_at file place) ≡ None
 
@@ -52,13 +52,13 @@ one-place (suc a) (suc b) file start here there lead other stops stops_too =
     (λ place l o. one-place a b file place here there l o stops stops_too)
     (sym (from-first a file start) ∙ lead) (sym (from-first b file start) ∙ other)
 
--- so one step comes next that is no pointer
+-- only one step that isn't a pointer is next
 one-step : (file : List ℕ) (start : QueuePlace) (a b : WalkStep) → StepsTo file start a → StepsTo file start b → pointed_at a ≡ None → pointed_at b ≡ None → a ≡ b
 one-step file start a b to_a to_b stops stops_too =
     let same = one-place to_a.pointers.count to_b.pointers.count file start to_a.here to_b.here to_a.pointers.lead to_b.pointers.lead (ap pointed_at to_a.is ∙ stops) (ap pointed_at to_b.is ∙ stops_too) in
     sym to_a.is ∙ ap (step_at file) same ∙ to_b.is
 
--- ---- what a reading finds is the front of the list
+-- ---- a reading finds the front of the list
 
 ends-alone : (ending : QueueEnding) → pointed_at (ending_step ending) ≡ None
 ends-alone WholeFile = refl
@@ -101,7 +101,7 @@ begins_listing file start next found (other ∷ records) ending step lists =
 no-pointer : (file : List ℕ) (place : QueuePlace) → PointersLead file place place
 no-pointer file place = record { count = 0; lead = refl }
 
--- one pointer more in front
+-- one more pointer in front
 pointer-first : (file : List ℕ) (place next : QueuePlace) (step : WalkStep) → step_at file place ≡ PointerTo next → StepsTo file next step → StepsTo file place step
 pointer-first file place next step is to =
     record {
@@ -157,7 +157,7 @@ listing zero file place enough within = absurd (omega (arith, enough))
 listing (suc fuel) file place enough within =
     listing-by fuel file place (step_at file place) (λ next fewer inside. listing fuel file next fewer inside) refl (step-goes_on file place within) enough
 
--- and no other
+-- it is the only one
 one-listing : (file : List ℕ) (place : QueuePlace) (records others : List PlacedBytes) (ending other : QueueEnding) → RecordsFrom file place records ending → RecordsFrom file place others other → (others ≡ records) × (other ≡ ending)
 one-listing file place [] others ending other lists too = ends_listing file place ending others other lists too
 one-listing file place (found ∷ records) others ending other lists too =

@@ -1,4 +1,4 @@
--- The recipients of a queue file, read off its records one after another.
+-- The recipients of a queue file, read from one record after another.
 use Rattle.std.proofs.Common.{◌≡◌, ℕ, List, [], Option, Some, None, refl, ◌∙◌, ap}
 use Rattle.dsn_postfix_files.specs.QueueListing.{QueueEnding, ending_step}
 use Rattle.dsn_postfix_files.specs.QueueRecipients.{BeginsRecipients, RecipientFacts, RecipientsLeft, SaidBefore, after_record, recipient_or_more, recipient_with, recipients_after, recipients_of, state_of_kind}
@@ -35,7 +35,7 @@ more_recipients file start next before found recipients ending step is left =
       are = left.are ∙ ap (recipients_after before) begins.first ∙ ap (by_state before found begins.others) is;
     }
 
--- no record
+-- no more records
 pub no_recipients : (file : List ℕ) (start : QueuePlace) (before : SaidBefore) (here : QueueEnding) (recipients : List RecipientFacts) (ending : QueueEnding)
     → StepsTo file start (ending_step here) → RecipientsLeft (record { file = file; place = start }) before recipients ending → (recipients ≡ []) × (ending ≡ here)
 no_recipients file start before here recipients ending step left =

@@ -1,4 +1,4 @@
--- A walk through a queue file ends: each pointer goes forward, or one jump back fewer is left.
+-- A walk through a queue file ends: each pointer leads forward, or uses one of the remaining jumps back.
 use Rattle.std.proofs.Common.{◌≡◌, ℕ, zero, suc, ◌+◌, ◌-◌, ◌<◌, ◌≤◌, Bool, true, false, List, [], ◌∷◌, length, take, drop, Option, Some, None, refl, sym, ◌∙◌, ap, subst, arith, length-drop, if◌then◌else◌}
 use Rattle.std.specs.Prelude.{◌==◌, nat_le, nat_lt}
 use Rattle.dsn_postfix_files.specs.QueueRecord.{PlacedBytes, QueuedBytes, placed_at, with_low_bits, length_at, longest_length, bytes_of_kind, queue_record_at}
@@ -8,7 +8,7 @@ use Rattle.dsn_postfix_files.specs.declared.queue_step.QueueStep.TheVariants as 
 use Rattle.dsn_postfix_files.specs.inner.QueueReading.{IsNextStep, step_in}
 use Rattle.dsn_postfix_files.specs.QueueWalk.{QueuePlace, WalkStep, RecordThere, PointerTo, EndThere, BrokenThere, back_step, pointer_step, pointer_target, step_of_record, step_at, pointed_at, pointed_from, PointersLead, steps_left}
 
--- what is left after some bytes were read is shorter
+-- the bytes that are left after a read are fewer
 abbrev ShorterRest : {X : Type 0} → List ℕ → Option (X × List ℕ) → Type 0
 ShorterRest bytes None = Unit {0}
 ShorterRest bytes (Some read) = length read.1 < length bytes
@@ -39,7 +39,7 @@ record-shorter : (bytes : List ℕ) → ShorterRest bytes (queue_record_at bytes
 record-shorter [] = tt
 record-shorter (kind ∷ bytes) = shorter-kind kind bytes (length_at longest_length bytes) (length-shorter longest_length bytes)
 
--- a pointer and a record lead to a place within the file, from which fewer steps are left
+-- a pointer and a record lead to a place within the file, with fewer steps left from there
 abbrev pub GoesOn : List ℕ → QueuePlace → WalkStep → Type 0
 GoesOn file place (PointerTo next) = (steps_left (length file) next < steps_left (length file) place) × (length next.rest ≤ length file)
 GoesOn file place (RecordThere bytes next) = (steps_left (length file) next < steps_left (length file) place) × (length next.rest ≤ length file)
@@ -78,7 +78,7 @@ pub step-goes_on : (file : List ℕ) (place : QueuePlace) → length place.rest 
 unfolding step_at
 step-goes_on file place within = read-goes_on file place (queue_record_at place.rest) (record-shorter place.rest) within
 
--- one pointer more
+-- one more pointer
 pub pointer_more : (file : List ℕ) (start here next : QueuePlace) → PointersLead file start here → step_at file here ≡ PointerTo next → PointersLead file start next
 pointer_more file start here next led is = record { count = suc led.count; lead = ap (pointed_from file) led.lead ∙ ap pointed_at is }
 
@@ -87,7 +87,7 @@ pub pointer_less : (file : List ℕ) (place next : QueuePlace) → step_at file 
     → (steps_left (length file) next < steps_left (length file) place) × (length next.rest ≤ length file)
 pointer_less file place next is within = subst (GoesOn file place) is (step-goes_on file place within)
 
--- a step that is no pointer leads to a place within the file, if it leads on, and fewer steps are left there
+-- a step that isn't a pointer leads to a place within the file with fewer steps left, if it leads to a place
 next-after : (file : List ℕ) (start place : QueuePlace) (step : QueueStep) → GoesOn file place (step_in step) → steps_left (length file) place ≤ steps_left (length file) start
     → ((there : Bor (List ℕ)) (fewer : ℕ) → step ≡ steps.Pointer there fewer → ⊥) → IsNextStep file start (step_in step)
 next-after file start place (steps.Record found rest jumps) goes before other = (omega (arith, goes.0, before), goes.1)

@@ -1,5 +1,5 @@
--- Worked examples of what a queue file says of its recipients, each computed. The records and their places are those of
--- queue files that Postfix 3.7.11 wrote (tests/postfix/queue-mixed and queue-milter), but for the last ones.
+-- Worked examples of the recipients of a queue file, computed by the definitions. Except for the last ones, the records
+-- and their places are from queue files that Postfix 3.7.11 wrote (tests/postfix/queue-mixed and queue-milter).
 use Rattle.std.proofs.Common.{◌≡◌, ℕ, List, [], ◌∷◌, codes, refl}
 use Rattle.dsn_postfix_files.specs.QueueRecipients.{after_record, recipients_of}
 use Rattle.dsn_postfix_files.specs.QueueRecord.{PlacedBytes}
@@ -8,7 +8,7 @@ use Rattle.dsn_postfix_files.specs.declared.recipient_state.RecipientState.TheVa
 abbrev at : ℕ → ℕ → List ℕ → PlacedBytes
 at place kind bytes = record { place = place; kind = kind; bytes = bytes }
 
--- some are done, and one isn't; each has its own flags
+-- some are done, and one is not; each has its own flags
 mixed : recipients_of (
     at 635 65 (codes "notify_flags=12")
     ∷ at 652 65 (codes "dsn_orig_rcpt=rfc822;Hans.No@example.org")
@@ -25,7 +25,7 @@ mixed : recipients_of (
 unfolding after_record
 mixed = refl
 
--- one was taken out, and one that a milter added has no name that the sender gave
+-- one was removed, and one was added by a milter, so the sender gave no name for it
 milter : recipients_of (
     at 755 65 (codes "dsn_orig_rcpt=rfc822;gone@example.org")
     ∷ at 794 79 (codes "gone@example.org")
@@ -44,8 +44,8 @@ milter : recipients_of (
 unfolding after_record
 milter = refl
 
--- the last that is said before a recipient counts, flags that aren't known say nothing, and a type says what an attribute
--- says; two recipients of one address stay apart
+-- the last fact before a recipient counts, unknown flags are missing, and a type is equivalent to an attribute; two
+-- recipients with one address are separate
 again : recipients_of (
     at 1 110 (codes "4")
     ∷ at 4 110 (codes "3")

@@ -1,5 +1,5 @@
--- What the records of a queue file say of its message: when it came, who sent it, by which id the sender
--- knows it, and what of it the sender wants back.
+-- The facts of a message in the records of its queue file: its arrival, its sender, its envelope
+-- id, and the part that the sender wants returned.
 use Rattle.std.specs.Prelude.{◌≡◌, ◌||◌, ℕ, List, [], ◌∷◌, Option, Some, None, Result, MatchResult, ◌==◌, codes, if◌then◌else◌}
 use Rattle.std.specs.List.{before_first, filter_map, last_or}
 use Rattle.std.specs.Option.{option_map}
@@ -10,15 +10,15 @@ use Rattle.dsn_postfix_files.specs.QueueRecord.{PlacedBytes}
 use Rattle.dsn_postfix_files.specs.declared.broken_message.BrokenMessage.{BrokenMessage}
 use Rattle.dsn_postfix_files.specs.declared.message_facts.MessageFacts.{MessageFacts}
 
--- ---- what one record says
+-- ---- the facts in one record
 
--- a type of its own, or `A`, an attribute with a name
+-- the text of a record with a type of its own, or `A`, an attribute with a name
 abbrev pub said_as : ℕ → List ℕ → PlacedBytes → Option (List ℕ)
 said_as kind name placed =
     if placed.kind == kind then Some placed.bytes
     else (if placed.kind == 65 then value_named name placed.bytes else None)
 
--- `T`: the seconds since 1970, a space, and a part of a second; 0 says nothing
+-- `T`: the seconds since 1970, a space, and a part of a second; 0 means a missing time
 abbrev pub time_if_some : Option ℕ → Option ℕ
 time_if_some None = None
 time_if_some (Some seconds) = if seconds == 0 then None else Some seconds
@@ -27,15 +27,15 @@ abbrev pub arrival_in : PlacedBytes → Option ℕ
 arrival_in placed =
     if placed.kind == 84 then time_if_some (written_number (before_first is_space placed.bytes)) else None
 
--- `S`
+-- `S`: the sender
 abbrev pub sender_in : PlacedBytes → Option (List ℕ)
 sender_in placed = if placed.kind == 83 then Some placed.bytes else None
 
--- `i`
+-- `i`: the envelope id
 abbrev pub envelope_id_in : PlacedBytes → Option (List ℕ)
 envelope_id_in placed = said_as 105 (codes "envelope_id") placed
 
--- `<`: 1 for the whole message, 2 for its header; other numbers say nothing
+-- `<`: 1 for the whole message, 2 for its header; other numbers are ignored
 abbrev pub known_return : Option ℕ → Option ℕ
 known_return None = None
 known_return (Some number) = if number == 1 || number == 2 then Some number else None
@@ -47,13 +47,13 @@ return_written (Some text) = known_return (written_number text)
 abbrev pub return_flags_in : PlacedBytes → Option ℕ
 return_flags_in placed = return_written (said_as 60 (codes "ret_flags") placed)
 
--- ---- what all of them say
+-- ---- the facts in all records
 
 abbrev pub first_or : {X : Type 0} → Option X → Option X → Option X
 first_or (Some x) later = Some x
 first_or None later = later
 
--- the first that a record says, and the last
+-- the first fact that the records have, and the last
 abbrev pub earliest : {X : Type 0} → (PlacedBytes → Option X) → List PlacedBytes → Option X
 earliest says [] = None
 earliest says (placed ∷ records) = first_or (says placed) (earliest says records)
@@ -67,8 +67,8 @@ pub record SaidOfMessage : Type 0 where
   pub envelope_id : Option (List ℕ)
   pub return_flags : Option ℕ
 
--- time and sender are those that come first; id and what is wanted back those that come last, since a
--- milter may change them
+-- the first arrival and sender count, and the last id and return flags, since a milter may change
+-- these
 abbrev pub said_of_message : List PlacedBytes → SaidOfMessage
 said_of_message records = record {
   arrival = earliest arrival_in records;
@@ -86,7 +86,8 @@ message_facts_in facts = record {
   return_flags = facts.return_flags;
 }
 
--- a file has what its records say: all of them, or those before it can't be read on
+-- the result has the facts in the records: all of them, or those before the break if the file can't
+-- be read to its end
 abbrev pub ReadsMessage : Result MessageFacts BrokenMessage → List PlacedBytes → QueueEnding → Type 0
 ReadsMessage result records ending =
     MatchResult result

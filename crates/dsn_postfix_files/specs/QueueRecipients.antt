@@ -1,4 +1,5 @@
--- What a queue file says of its recipients: a record of each, and before it records that say more of that one.
+-- The recipients of a queue file: each has a record, and the records before it may have further
+-- facts of it.
 use Rattle.std.specs.Prelude.{◌≡◌, ℕ, List, [], ◌∷◌, Option, Some, None, Result, MatchOption, MatchResult, ◌==◌, codes, if◌then◌else◌}
 use Rattle.dsn_postfix_files.specs.LogLine.{value_named}
 use Rattle.dsn_postfix_files.specs.LogRecord.{number_if_said, number_or_0, written_number}
@@ -11,14 +12,14 @@ use Rattle.dsn_postfix_files.specs.declared.queued_recipient.QueuedRecipient.{Qu
 use Rattle.dsn_postfix_files.specs.declared.recipient_state.RecipientState.{RecipientState}
 use Rattle.dsn_postfix_files.specs.declared.recipient_state.RecipientState.TheVariants.{Waiting, Done, Removed}
 
--- the state of a recipient is the type of its record: `R`, `D`, `/`
+-- the state of a recipient, by the type of its record: `R`, `D` or `/`
 abbrev pub state_of_kind : ℕ → Option RecipientState
 state_of_kind kind =
     if kind == 82 then Some Waiting
     else (if kind == 68 then Some Done
     else (if kind == 47 then Some Removed else None))
 
--- what was said before a recipient's record
+-- the facts before a recipient's record
 pub record SaidBefore : Type 0 where
   pub original : List ℕ
   pub dsn_original : List ℕ
@@ -33,11 +34,11 @@ with_original before text = record { original = text; dsn_original = before.dsn_
 abbrev pub with_dsn_original : SaidBefore → List ℕ → SaidBefore
 with_dsn_original before text = record { original = before.original; dsn_original = text; notify_flags = before.notify_flags }
 
--- flags that aren't known say nothing
+-- unknown flags are a missing fact
 abbrev pub with_notify : SaidBefore → List ℕ → SaidBefore
 with_notify before text = record { original = before.original; dsn_original = before.dsn_original; notify_flags = number_or_0 (number_if_said NotifyFlags (written_number text)) }
 
--- an attribute says what a record of a type of its own says too
+-- an attribute is equivalent to a record with a type of its own
 abbrev pub with_named : SaidBefore → Option (List ℕ) → Option (List ℕ) → SaidBefore
 with_named before (Some text) flags = with_dsn_original before text
 with_named before None (Some text) = with_notify before text
@@ -47,7 +48,7 @@ abbrev pub with_attribute : SaidBefore → List ℕ → SaidBefore
 with_attribute before bytes = with_named before (value_named (codes "dsn_orig_rcpt") bytes) (value_named (codes "notify_flags") bytes)
 
 -- the types: `O` the original recipient, `o` the one that the sender named, `n` the flags, `A` an
--- attribute; others say nothing of a recipient
+-- attribute; other records have no facts of a recipient
 unfoldable pub after_record : SaidBefore → PlacedBytes → SaidBefore
 after_record before placed =
     if placed.kind == 79 then with_original before placed.bytes
@@ -55,7 +56,7 @@ after_record before placed =
     else (if placed.kind == 110 then with_notify before placed.bytes
     else (if placed.kind == 65 then with_attribute before placed.bytes else before)))
 
--- a recipient, by the place of its record
+-- a recipient, with the place of its record
 pub record RecipientFacts : Type 0 where
   pub place : ℕ
   pub address : List ℕ
@@ -84,7 +85,7 @@ recipient_with before placed state = record {
   state = state;
 }
 
--- the recipients of some records, all of them, in order: what was said counts for the next one alone
+-- all recipients of these records, in order; facts belong to the next recipient only
 abbrev pub recipient_or_more : Option RecipientState → SaidBefore → PlacedBytes → List RecipientFacts → List RecipientFacts → List RecipientFacts
 recipient_or_more (Some state) before placed others more = recipient_with before placed state ∷ others
 recipient_or_more None before placed others more = more
@@ -97,15 +98,15 @@ recipients_after before (placed ∷ records) =
 abbrev pub recipients_of : List PlacedBytes → List RecipientFacts
 recipients_of records = recipients_after nothing_before records
 
--- ---- a reading of them
+-- ---- a reading of the recipients
 
--- records come from here on, and these are their recipients
+-- these records follow from here on, and these are their recipients
 pub record RecipientsLeft (reading : QueueReading) (before : SaidBefore) (recipients : List RecipientFacts) (ending : QueueEnding) : Type 0 where
   pub records : List PlacedBytes
   pub come : RecordsFrom reading.file reading.place records ending
   pub are : recipients ≡ recipients_after before records
 
--- a recipient is the first, and the others come from here on
+-- the recipient is the first one, and the others follow from here on
 pub record BeginsRecipients (found : RecipientFacts) (recipients : List RecipientFacts) (ending : QueueEnding) (later : QueueReading) : Type 0 where
   pub others : List RecipientFacts
   pub first : recipients ≡ found ∷ others

@@ -1,24 +1,25 @@
--- The records of a queue file in the order in which they count: one after another, but for pointers,
--- which lead to another place.
+-- The records of a queue file in logical order: one after another, except that a pointer leads to
+-- another place.
 use Rattle.std.specs.Prelude.{◌≡◌, ℕ, zero, suc, ◌+◌, ◌-◌, ◌*◌, List, length, drop, Option, Some, None, ◌==◌, nat_le, if◌then◌else◌}
 use Rattle.dsn_postfix_files.specs.LogLine.{without_leading_spaces}
 use Rattle.dsn_postfix_files.specs.LogRecord.{written_number}
 use Rattle.dsn_postfix_files.specs.QueueRecord.{PlacedBytes, QueuedBytes, placed_at, queue_record_at}
 
--- a place in a file: the bytes from there on, and how many jumps back may still come
+-- a place in a file: the bytes from there on, and how many pointers may still lead back
 pub record QueuePlace : Type 0 where
   pub rest : List ℕ
   pub jumps : ℕ
 
--- what stands at a place: a record and the place after it, a pointer to another place, the end, or
--- nothing that can be read
+-- the step at a place: a record and the next place, a pointer to another place, the end, or a
+-- break, at which the file can't be read further
 pub data WalkStep : Type 0 where
   RecordThere : PlacedBytes → QueuePlace → WalkStep
   PointerTo : QueuePlace → WalkStep
   EndThere : WalkStep
   BrokenThere : WalkStep
 
--- a pointer to 0 leads on; one forward leads there; one back leads there and is counted
+-- the step of a pointer: to 0 it leads to the next record; otherwise it leads to its place, and is
+-- counted if that is back
 abbrev pub back_step : List ℕ → ℕ → WalkStep
 back_step rest zero = BrokenThere
 back_step rest (suc jumps) = PointerTo (record { rest = rest; jumps = jumps })
@@ -31,11 +32,11 @@ pointer_step file after jumps (Some target) =
     then PointerTo (record { rest = drop target file; jumps = jumps })
     else back_step (drop target file) jumps)
 
--- the place that a pointer's bytes name: spaces and digits
+-- the place in a pointer's bytes, which are spaces and digits
 abbrev pub pointer_target : List ℕ → Option ℕ
 pointer_target bytes = written_number (without_leading_spaces bytes)
 
--- a record begins so many bytes before the file's end as there are from its place on
+-- the step of a record; its place in the file follows from the number of bytes from there on
 abbrev pub step_of_record : List ℕ → QueuePlace → Option (QueuedBytes × List ℕ) → WalkStep
 step_of_record file place None = BrokenThere
 step_of_record file place (Some read) =
@@ -46,7 +47,7 @@ step_of_record file place (Some read) =
 unfoldable pub step_at : List ℕ → QueuePlace → WalkStep
 step_at file place = step_of_record file place (queue_record_at place.rest)
 
--- the place after so many pointers, if so many stand one after another
+-- the place after this number of pointers, if there are as many one after another
 abbrev pub pointed_at : WalkStep → Option QueuePlace
 pointed_at (PointerTo place) = Some place
 pointed_at (RecordThere bytes place) = None
@@ -61,27 +62,27 @@ abbrev pub after_pointers : ℕ → List ℕ → QueuePlace → Option QueuePlac
 after_pointers zero file place = Some place
 after_pointers (suc count) file place = pointed_from file (after_pointers count file place)
 
--- the place at which some pointers end
+-- the place where some pointers end
 pub record PointersLead (file : List ℕ) (start here : QueuePlace) : Type 0 where
   pub count : ℕ
   pub lead : after_pointers count file start ≡ Some here
 
--- after some pointers this step comes
+-- this step follows after some pointers
 pub record StepsTo (file : List ℕ) (start : QueuePlace) (step : WalkStep) : Type 0 where
   pub here : QueuePlace
   pub pointers : PointersLead file start here
   pub is : step_at file here ≡ step
 
--- how many records and pointers may still come in a file of this size
+-- a bound of the number of records and pointers that may still follow in a file of this size
 abbrev pub steps_left : ℕ → QueuePlace → ℕ
 steps_left size place = place.jumps * (size + 1) + length place.rest
 
--- a file that is being read, and the place that comes next
+-- a file that is being read, and the next place in it
 pub record QueueReading : Type 0 where
   pub file : List ℕ
   pub place : QueuePlace
 
--- how many jumps back a file may have
+-- how many pointers of a file may lead back
 abbrev pub most_jumps : ℕ
 most_jumps = 10000
 

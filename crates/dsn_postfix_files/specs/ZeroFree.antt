@@ -1,8 +1,8 @@
--- Texts without a zero.
+-- Texts without a zero byte.
 use Rattle.std.specs.Prelude.{ℕ, ◌==◌, Bool, not, List, IsTrue}
 use Rattle.std.specs.List.{list_all}
 
--- no byte of a text is 0
+-- whether no byte of a text is zero
 abbrev pub is_not_zero : ℕ → Bool
 is_not_zero byte = not (byte == 0)
 

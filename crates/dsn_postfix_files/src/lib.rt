@@ -1,4 +1,4 @@
-//! What Postfix keeps of a message: the log of its recipients, and its queue file.
+//! Postfix's files of a message: the log of its recipients, and its queue file.
 #![tactic(auto)]
 
 mod broken_message;

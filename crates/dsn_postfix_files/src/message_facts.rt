@@ -1,4 +1,4 @@
-//! What a queue file says of its message, but for its recipients.
+//! The facts of a message in its queue file, except those of its recipients.
 //! Implements docs/FORMATS.md, "Postfix's queue files".
 ghost use Rattle.std.specs.Prelude.{◌≡◌, List};
 ghost use Rattle.std.specs.List.{before_first};
@@ -17,16 +17,17 @@ use crate::placed_record::PlacedRecord;
 use crate::queue_reader::{MOST_JUMPS, next_step};
 use crate::queue_step::QueueStep;
 
-/// What the records of a queue file say of its message. No text is judged or changed.
+/// The facts of a message in the records of its queue file. No text is checked or changed.
 #[derive(Clone, Copy, Debug)]
 pub struct MessageFacts<'a> {
-    /// When the message came, in seconds since 1970.
+    /// When the message arrived, in seconds since 1970.
     pub arrival: Option<u64>,
-    /// Who sent it, without quotes; empty for a notice, which has no sender.
+    /// The sender, without quotes; empty for a notice, which has no sender.
     pub sender: Option<&'a [u8]>,
-    /// The id by which the sender knows it (RFC 3461 section 4.4).
+    /// The sender's envelope id (RFC 3461 section 4.4).
     pub envelope_id: Option<&'a [u8]>,
-    /// What of it the sender wants back: 1 the whole message, 2 its header (RFC 3461 section 4.3).
+    /// The part of the message that the sender wants returned: 1 the whole message, 2 its header
+    /// (RFC 3461 section 4.3).
     pub return_flags: Option<u8>,
 }
 
@@ -37,7 +38,7 @@ fn before_space(text: &[u8]) -> &[u8]
     &text[..first_byte(text, b' ')]
 }
 
-/// What a record says that has a type of its own, or is an attribute with a name.
+/// The text of a record that has a type of its own, or is an attribute with a name.
 fn said_as<'a>(kind: u8, name: &[u8], found: PlacedRecord<'a>) -> Option<&'a [u8]>
     ensures { option_map (λ text. text.now) result
         ≡ said_as kind name.now (placed_bytes_in found.entry) }
@@ -51,7 +52,7 @@ fn said_as<'a>(kind: u8, name: &[u8], found: PlacedRecord<'a>) -> Option<&'a [u8
     None
 }
 
-/// The time that a record says.
+/// The arrival in a record, in seconds since 1970.
 fn arrival_in(found: PlacedRecord<'_>) -> Option<u64>
     ensures { result ≡ arrival_in (placed_bytes_in found.entry) }
 {
@@ -64,7 +65,7 @@ fn arrival_in(found: PlacedRecord<'_>) -> Option<u64>
     }
 }
 
-/// The sender that a record says.
+/// The sender in a record.
 fn sender_in<'a>(found: PlacedRecord<'a>) -> Option<&'a [u8]>
     ensures { option_map (λ text. text.now) result ≡ sender_in (placed_bytes_in found.entry) }
 {
@@ -75,7 +76,7 @@ fn sender_in<'a>(found: PlacedRecord<'a>) -> Option<&'a [u8]>
     }
 }
 
-/// What a record says that the sender wants back.
+/// The part to be returned in a record.
 fn return_flags_in(found: PlacedRecord<'_>) -> Option<u8>
     ensures { result ≡ return_flags_in (placed_bytes_in found.entry) }
 {
@@ -86,7 +87,7 @@ fn return_flags_in(found: PlacedRecord<'_>) -> Option<u8>
 }
 
 impl<'a> MessageFacts<'a> {
-    /// With what a record says.
+    /// These facts and those of one more record.
     #[tactic(auto, unfolding(crate::specs::inner::QueueReading::with_record))]
     fn with_record(self, found: PlacedRecord<'a>) -> MessageFacts<'a>
         ensures { message_facts_in result
@@ -101,8 +102,9 @@ impl<'a> MessageFacts<'a> {
         }
     }
 
-    /// What all records of a queue file say of its message, from all bytes of it. Returns what those
-    /// before the break say if the file can't be read to its last record.
+    /// Returns the facts of a message in all records of its queue file. `file` is the whole file.
+    /// If the file can't be read to its last record, returns [`BrokenMessage`] with the facts
+    /// before the break.
     pub fn read(file: &'a [u8]) -> Result<MessageFacts<'a>, BrokenMessage<'a>>
         ensures { (records : List PlacedBytes) (ending : QueueEnding)
             → RecordsFrom file.now (first_place file.now) records ending

@@ -5,7 +5,7 @@ ghost use Rattle.dsn_postfix_files.specs.MessageHeader.{after_all, begins_with, 
 
 use crate::log_line::whole_line;
 
-/// How many bytes at the front of a line the name of a field has at most, with its colon.
+/// The number of bytes at the front of a line that must contain a field's name and its colon.
 pub const LONGEST_FIELD_NAME: usize = 2_048;
 
 /// Whether a byte is a space or a tab.
@@ -22,7 +22,7 @@ fn is_name_byte(byte: u8) -> bool
     byte > 32 && byte < 127 && byte != b':'
 }
 
-/// A text without the name that it begins with.
+/// A text without the name at its front.
 fn after_name(text: &[u8]) -> &[u8]
     ensures { result.now ≡ after_all is_name_byte text.now }
 {
@@ -36,7 +36,7 @@ fn after_name(text: &[u8]) -> &[u8]
     rest
 }
 
-/// A text without the spaces and tabs that it begins with.
+/// A text without its leading spaces and tabs.
 fn after_blanks(text: &[u8]) -> &[u8]
     ensures { result.now ≡ after_all is_blank_byte text.now }
 {
@@ -50,7 +50,7 @@ fn after_blanks(text: &[u8]) -> &[u8]
     rest
 }
 
-/// Whether a line has the name of a field and a colon.
+/// Whether a line begins with the name of a field and a colon.
 fn names_field(line: &[u8]) -> bool
     ensures { result ≡ names_field line.now }
 {
@@ -70,7 +70,7 @@ fn begins_with_colon(text: &[u8]) -> bool
     }
 }
 
-/// The front of a line that has the name of a field, if the line begins one.
+/// The front of a line, which contains the name of a field if the line begins a field.
 fn front_of_line(line: &[u8]) -> &[u8]
     ensures { result.now ≡ take longest_field_name line.now }
 {
@@ -81,21 +81,22 @@ fn front_of_line(line: &[u8]) -> &[u8]
     }
 }
 
-/// Whether a line is one of a header: it begins a field, or goes on with one.
+/// Whether a line belongs to a header: it begins a field or continues one.
 fn is_header_line(line: &[u8]) -> bool
     ensures { result ≡ is_header_line line.now }
 {
     match line {
-        // Not up to the empty line alone: a message without one has its body right after its
-        // fields. A line counts by its front, so the front of a text shows its header. bounce(8)
-        // asks each record instead, and loses what follows a field of more than 2,048 bytes.
+        // The empty line isn't the only end: in a message without one, the body directly follows
+        // the fields. A line is judged by its front, so the front of a text shows its header.
+        // bounce(8) judges each record instead, and loses the text after a field of more than 2,048
+        // bytes.
         [byte, ..] => is_blank_byte(*byte) || names_field(front_of_line(line)),
         [] => false,
     }
 }
 
-/// The header of a message's text: its lines before the first one that neither begins a field nor goes on
-/// with one, as the empty line before a body.
+/// The header of a message's text: the lines before the first one that neither begins a field nor
+/// continues one, such as the empty line before a body.
 pub fn header_of_message(text: &[u8]) -> &[u8]
     ensures { result.now ≡ message_header text.now }
 {

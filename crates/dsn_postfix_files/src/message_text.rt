@@ -1,4 +1,4 @@
-//! The text of a queue file's message: its header, an empty line, its body.
+//! The text of a queue file's message: its header, an empty line and its body.
 //! Implements docs/FORMATS.md, "Postfix's queue files".
 ghost use Rattle.std.specs.Prelude.{◌≡◌, ◌++◌, ◌-◌, List, IfOk, OnOk, length, take};
 ghost use Rattle.dsn_postfix_files.specs.MessageText.{is_of_text, message_text, text_of_record};
@@ -11,14 +11,15 @@ use crate::queue_reader::{MOST_JUMPS, next_step};
 use crate::queue_step::QueueStep;
 use std::alloc::{AllocError, Global};
 
-/// Whether a type is one of the message's text.
+/// Whether the type of a record is one of the message's text.
 fn is_of_text(kind: u8) -> bool
     ensures { result ≡ is_of_text kind }
 {
     kind == b'N' || kind == b'L' || kind == b'w'
 }
 
-/// Adds as much of some bytes as a text has room for, up to a limit.
+/// Appends the bytes, cut so that the text has at most `limit` bytes. Returns `AllocError` if
+/// memory was refused.
 fn push_within(text: &mut Vec<u8>, bytes: &[u8], limit: usize) -> Result<(), AllocError>
     ensures { OnOk result (text.new.items
         ≡ text.old.items ++ take (limit - length text.old.items) bytes.now) }
@@ -31,7 +32,8 @@ fn push_within(text: &mut Vec<u8>, bytes: &[u8], limit: usize) -> Result<(), All
     }
 }
 
-/// Adds as much of a record as a text has room for, up to a limit.
+/// Appends the text of a record, cut so that the text has at most `limit` bytes. Returns
+/// `AllocError` if memory was refused.
 #[tactic(auto, using(crate::proofs::MessageTextLemmas::line_within))]
 fn push_text(text: &mut Vec<u8>, found: PlacedRecord<'_>, limit: usize) -> Result<(), AllocError>
     ensures { OnOk result (text.new.items ≡ text.old.items
@@ -46,10 +48,12 @@ fn push_text(text: &mut Vec<u8>, found: PlacedRecord<'_>, limit: usize) -> Resul
     Ok(())
 }
 
-/// The front of the text of a queue file's message, up to a limit, from all bytes of the file: each
-/// line with a line feed. The text begins after the first record of type `M`, and ends before the first
-/// one after it that has no text, or where the file can't be read on. No record is read once the limit
-/// is reached. There is an error only where memory was refused.
+/// Returns the front of the text of a queue file's message, at most `limit` bytes. Each line ends
+/// with a line feed. `file` is the whole file.
+///
+/// The text begins after the first record of type `M`. It ends before the first later record that
+/// isn't of the text, or where the file can't be read further. No record is read after the limit is
+/// reached. Returns `AllocError` only if memory was refused.
 pub fn text_of_message(alloc: Global, file: &[u8], limit: usize) -> Result<Vec<u8>, AllocError>
     ensures { (records : List PlacedBytes) (ending : QueueEnding)
         → RecordsFrom file.now (first_place file.now) records ending

@@ -1,11 +1,11 @@
 //! A record of a queue file, with its place.
 
-/// A record of a queue file, with the place at which it begins there.
+/// A record of a queue file, with the place where it begins.
 #[derive(Clone, Copy, Debug)]
 pub struct PlacedRecord<'a> {
-    /// Where the record begins in the file, in bytes: the place of the letter of its type.
+    /// The place of the record's first byte, the letter of its type, in the file.
     pub place: u64,
-    /// The letter of its type, as `R` for a recipient.
+    /// The letter of its type, such as `R` for a recipient.
     pub kind: u8,
     /// Its bytes.
     pub bytes: &'a [u8],

@@ -1,7 +1,7 @@
-//! Reads a queue file, a record at a time.
+//! Reads a queue file, one record at a time.
 //! Implements docs/FORMATS.md, "Postfix's queue files".
-//! Stricter than Postfix on damaged files alone: a pointer needs a digit, and a length has five
-//! bytes at most. Records of type `w`, which Postfix passes over, are returned.
+//! It is stricter than Postfix on damaged files only: a pointer needs a digit, and a length has at
+//! most five bytes. It returns records of type `w`, which Postfix skips.
 ghost use Rattle.std.specs.Prelude.{◌≡◌, ◌<◌, ◌≤◌, List, length, IfOk, IfSome, MatchOption, MatchResult};
 ghost use Rattle.dsn_postfix_files.specs.QueueListing.{RecordsFrom, QueueEnding, ReadsListing};
 ghost use Rattle.dsn_postfix_files.specs.QueueRecipients.{ReadsRecipients, RecipientFacts, RecipientsLeft, nothing_before};
@@ -15,11 +15,11 @@ use crate::queue_step::{QueueStep, step_at};
 use crate::queued_recipient::{QueuedRecipient, RecipientStep, next_recipient};
 use std::marker::Model;
 
-/// How many pointers back a file may have, as Postfix has it.
+/// How many pointers of a file may lead back, as in Postfix.
 pub(super) const MOST_JUMPS: u32 = 10_000;
 
-/// Reads the records of a queue file in the order in which they count. Pointers are followed and
-/// not given: each goes forward, or is one of at most 10,000 that go back, so that the reading ends.
+/// Reads the records of a queue file in logical order. It follows pointers and doesn't return them.
+/// A pointer leads forward, or is one of at most 10,000 that lead back, so reading ends.
 #[derive(Drop)]
 pub struct QueueReader<'a> {
     file: &'a [u8],
@@ -42,7 +42,7 @@ impl<'a> Model for QueueReader<'a> {
 }
 
 impl<'a> QueueReader<'a> {
-    /// A reader of a queue file, from all bytes of it.
+    /// A reader of a queue file. `file` is the whole file.
     pub fn new(file: &'a [u8]) -> QueueReader<'a>
         ensures { result ≡ record {
           file = file.now;
@@ -56,8 +56,8 @@ impl<'a> QueueReader<'a> {
         }
     }
 
-    /// The next record, or none where the file's last record comes; then, and after a fault, another
-    /// call answers the same.
+    /// Returns the next record, or `None` at the file's last record. Returns `QueueBroken` if the
+    /// file can't be read further. After `None` and after an error, another call returns the same.
     pub fn next_record(&mut self) -> Result<Option<PlacedRecord<'a>>, QueueBroken>
         ensures file { self.new.file ≡ self.old.file }
         ensures found { MatchResult result
@@ -85,9 +85,12 @@ impl<'a> QueueReader<'a> {
         }
     }
 
-    /// The next recipient, done or not, or none where the file's last record comes; then, and after a
-    /// fault, another call answers the same. Records that say nothing of a recipient are passed over,
-    /// and what is said before a recipient counts for that one alone.
+    /// Returns the next recipient in any state, or `None` at the file's last record. Returns
+    /// `QueueBroken` if the file can't be read further. After `None` and after an error, another
+    /// call returns the same.
+    ///
+    /// Records without facts of a recipient are skipped. The facts before a recipient's record
+    /// belong to that recipient only.
     pub fn next_recipient(&mut self) -> Result<Option<QueuedRecipient<'a>>, QueueBroken>
         ensures file { self.new.file ≡ self.old.file }
         ensures stays { MatchResult result
@@ -112,7 +115,7 @@ impl<'a> QueueReader<'a> {
     }
 }
 
-/// The next step that is no pointer.
+/// The next step that isn't a pointer.
 pub(super) fn next_step<'a>(file: &'a [u8], rest: &'a [u8], jumps: u32) -> QueueStep<'a>
     requires { length rest.now ≤ length file.now }
     ensures steps { StepsTo file.now (record { rest = rest.now; jumps = jumps }) (step_in result) }

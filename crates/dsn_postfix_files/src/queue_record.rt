@@ -7,13 +7,14 @@ ghost use Rattle.dsn_postfix_files.specs.QueueRecord.{length_at, longest_length,
 /// A record of a queue file.
 #[derive(Clone, Copy, Debug)]
 pub struct QueueRecord<'a> {
-    /// The letter of its type, as `R` for a recipient.
+    /// The letter of its type, such as `R` for a recipient.
     pub kind: u8,
     /// Its bytes.
     pub bytes: &'a [u8],
 }
 
-/// The seven bits of a byte of a length that goes on.
+/// The seven bits of a byte of a length that isn't its last one. Requires that the byte is at least
+/// 128.
 fn low_bits(byte: u8) -> u64
     requires { 128 ≤ byte }
     ensures { result ≡ byte - 128 }
@@ -21,8 +22,8 @@ fn low_bits(byte: u8) -> u64
     u64::from(byte - 128)
 }
 
-/// The length at the front of some bytes, with the bytes after it, or none where it is cut short or
-/// has more than five bytes.
+/// Returns the length at the front of some bytes, and the bytes after it. Returns `None` if it is
+/// cut short or has more than five bytes.
 fn length_at(bytes: &[u8]) -> Option<(u64, &[u8])>
     ensures { option_map (λ read. (read.0, read.1.now)) result ≡ length_at longest_length bytes.now }
 {
@@ -46,7 +47,8 @@ fn length_at(bytes: &[u8]) -> Option<(u64, &[u8])>
 }
 
 impl<'a> QueueRecord<'a> {
-    /// The record at the front of some bytes, with the bytes after it, or none where it is cut short.
+    /// Returns the record at the front of some bytes, and the bytes after it. Returns `None` if the
+    /// record is cut short or its length has more than five bytes.
     pub fn read(bytes: &'a [u8]) -> Option<(QueueRecord<'a>, &'a [u8])>
         ensures { option_map (λ read. (queued_bytes_in read.0, read.1.now)) result
             ≡ queue_record_at bytes.now }

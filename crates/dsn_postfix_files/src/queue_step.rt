@@ -1,4 +1,4 @@
-//! What stands at a place of a queue file.
+//! The step at a place of a queue file.
 //! Implements docs/FORMATS.md, "Postfix's queue files".
 ghost use Rattle.std.specs.Prelude.{◌≡◌, ◌≤◌, drop, length};
 ghost use Rattle.dsn_postfix_files.specs.QueueWalk.{pointer_step, step_at};
@@ -14,21 +14,21 @@ const POINTER: u8 = b'p';
 /// The type of the last record.
 const END: u8 = b'E';
 
-/// What stands at a place, each with the bytes of the place that comes next and with how many jumps
-/// back may still come.
+/// The step at a place. A record and a pointer have the bytes from the next place on, and the
+/// number of pointers that may still lead back.
 #[derive(Clone, Copy)]
 pub(super) enum QueueStep<'a> {
     /// A record.
     Record(PlacedRecord<'a>, &'a [u8], u32),
     /// A pointer.
     Pointer(&'a [u8], u32),
-    /// The record that ends the file.
+    /// The last record of the file.
     End,
-    /// Nothing that can be read.
+    /// The file can't be read further.
     Broken,
 }
 
-/// Where a pointer leads.
+/// The step of a pointer.
 fn pointer_step<'a>(
     file: &'a [u8],
     after: &'a [u8],
@@ -53,7 +53,7 @@ fn pointer_step<'a>(
     }
 }
 
-/// The bytes from a place on; none after the end.
+/// The bytes from a place on, or no bytes if it is after the end.
 fn from_place(file: &[u8], place: u64) -> &[u8]
     ensures { result.now ≡ drop place file.now }
 {
@@ -64,7 +64,7 @@ fn from_place(file: &[u8], place: u64) -> &[u8]
     }
 }
 
-/// What stands at a place of a file.
+/// The step at a place of a file.
 #[tactic(auto, unfolding(crate::specs::QueueWalk::step_at))]
 pub(super) fn step_at<'a>(file: &'a [u8], rest: &'a [u8], jumps: u32) -> QueueStep<'a>
     requires { length rest.now ≤ length file.now }

@@ -10,34 +10,35 @@ use crate::queue_step::QueueStep;
 use crate::recipient_state::RecipientState;
 use crate::said_before::SaidBefore;
 
-/// A recipient of a queue file. An empty text says nothing. No text is judged or changed.
+/// A recipient of a queue file. An empty text is a missing one. No text is checked or changed.
 #[derive(Clone, Copy, Debug)]
 pub struct QueuedRecipient<'a> {
-    /// Where the recipient's record begins in the file, in bytes: what an append calls its offset. No two recipients of a
-    /// file that was read in order have the same, and two may have the same address.
+    /// The place of the recipient's record in the file, in bytes; an append calls it the offset. No
+    /// two recipients of a file that was read in order have the same place, but two may have the
+    /// same address.
     pub place: u64,
-    /// The recipient, as the mail system rewrote it, without quotes.
+    /// The recipient as the mail system rewrote it, without quotes.
     pub address: &'a [u8],
-    /// The recipient before that.
+    /// The recipient before it was rewritten.
     pub original: &'a [u8],
     /// The recipient as the sender named it (RFC 3461 section 4.2).
     pub dsn_original: &'a [u8],
-    /// For which outcomes the sender asked for notices: 1 for none, 2 for success, 4 for failure, 8 for delay, and sums
-    /// of the last three; 0 says nothing.
+    /// The outcomes for which the sender requested notices: 1 for never, 2 for success, 4 for
+    /// failure, 8 for delay, or a sum of the last three. 0 if they are missing.
     pub notify_flags: u8,
-    /// Whether the recipient is done.
+    /// Whether delivery to the recipient is done.
     pub state: RecipientState,
 }
 
-/// What comes next of a queue file's recipients, each with the bytes of the place after it and with how many jumps back
-/// may still come.
+/// The next step of a search for recipients. A recipient has the bytes from the next place on, and
+/// the number of pointers that may still lead back.
 #[derive(Clone, Copy)]
 pub(super) enum RecipientStep<'a> {
     /// A recipient.
     Recipient(QueuedRecipient<'a>, &'a [u8], u32),
-    /// The record that ends the file.
+    /// The last record of the file.
     End,
-    /// Nothing that can be read.
+    /// The file can't be read further.
     Broken,
 }
 

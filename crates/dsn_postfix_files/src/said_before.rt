@@ -1,4 +1,4 @@
-//! What the records before a recipient's say of it.
+//! The facts of a recipient in the records before its own.
 //! Implements docs/FORMATS.md, "Postfix's queue files".
 ghost use Rattle.std.specs.Prelude.{◌≡◌};
 ghost use Rattle.dsn_postfix_files.specs.LogRecord.{number_if_said, number_or_0, written_number};
@@ -14,7 +14,7 @@ use crate::placed_record::PlacedRecord;
 use crate::queued_recipient::QueuedRecipient;
 use crate::recipient_state::RecipientState;
 
-/// What was said since the recipient before; an empty text and the number 0 say nothing.
+/// The facts since the last recipient. An empty text and the number 0 mean a missing fact.
 #[derive(Clone, Copy)]
 pub(super) struct SaidBefore<'a> {
     pub(super) original: &'a [u8],
@@ -22,7 +22,7 @@ pub(super) struct SaidBefore<'a> {
     pub(super) notify_flags: u8,
 }
 
-/// The flags that a text says, or 0.
+/// The flags in a text, or 0 if they aren't valid.
 fn notify_flags(text: &[u8]) -> u8
     ensures { result ≡ number_or_0 (number_if_said NotifyFlags (written_number text.now)) }
 {
@@ -33,7 +33,7 @@ fn notify_flags(text: &[u8]) -> u8
 }
 
 impl<'a> SaidBefore<'a> {
-    /// Nothing.
+    /// No facts.
     pub(super) fn nothing() -> SaidBefore<'a>
         ensures { said_before_in result ≡ nothing_before }
     {
@@ -44,7 +44,7 @@ impl<'a> SaidBefore<'a> {
         }
     }
 
-    /// With what an attribute says.
+    /// These facts and that of an attribute.
     fn with_attribute(self, bytes: &'a [u8]) -> SaidBefore<'a>
         ensures { said_before_in result ≡ with_attribute (said_before_in self.entry) bytes.now }
     {
@@ -63,7 +63,7 @@ impl<'a> SaidBefore<'a> {
         }
     }
 
-    /// With what a record says.
+    /// These facts and that of a record.
     #[tactic(auto, unfolding(crate::specs::QueueRecipients::after_record))]
     pub(super) fn after_record(self, found: PlacedRecord<'a>) -> SaidBefore<'a>
         ensures { said_before_in result
@@ -87,7 +87,7 @@ impl<'a> SaidBefore<'a> {
         }
     }
 
-    /// The recipient of a record.
+    /// The recipient of a record, with these facts.
     pub(super) fn recipient(
         self,
         found: PlacedRecord<'a>,

@@ -32,13 +32,13 @@ said_with before records = record {
   return_flags = last_or before.return_flags (filter_map return_flags_in records);
 }
 
--- records come from here on, and with what was said before they say this
+-- records follow from here on, and together with the facts before they have these facts
 pub record MessageLeft (reading : QueueReading) (before said : SaidOfMessage) (ending : QueueEnding) : Type 0 where
   pub records : List PlacedBytes
   pub come : RecordsFrom reading.file reading.place records ending
   pub are : said ≡ said_with before records
 
--- records come from here on, and with what was read before they have this text
+-- records follow from here on, and together with the text before they have this text
 pub record TextLeft (reading : QueueReading) (before : List ℕ) (within : Bool) (text : List ℕ) (ending : QueueEnding) : Type 0 where
   pub records : List PlacedBytes
   pub come : RecordsFrom reading.file reading.place records ending
@@ -48,21 +48,21 @@ pub record TextLeft (reading : QueueReading) (before : List ℕ) (within : Bool)
 abbrev pub said_before_in : WhatWasSaid → SaidBefore
 said_before_in before = record { original = before.original.now; dsn_original = before.dsn_original.now; notify_flags = before.notify_flags }
 
--- a step, as the program has it
+-- a step, as the program represents it
 abbrev pub StepsRecipients : List ℕ → RecipientStep → List RecipientFacts → QueueEnding → Type 0
 StepsRecipients file (recipient_steps.Recipient found rest jumps) recipients ending =
     BeginsRecipients (recipient_facts_in found) recipients ending (record { file = file; place = record { rest = rest.now; jumps = jumps } })
 StepsRecipients file recipient_steps.End recipients ending = (recipients ≡ []) × (ending ≡ WholeFile)
 StepsRecipients file recipient_steps.Broken recipients ending = (recipients ≡ []) × (ending ≡ BrokenOff)
 
--- the place after it is within the file, and fewer steps are left from there
+-- the place after a step is within the file, and fewer steps are left from there
 abbrev pub IsLaterPlace : List ℕ → QueuePlace → RecipientStep → Type 0
 IsLaterPlace file start (recipient_steps.Recipient found rest jumps) =
     (steps_left (length file) (record { rest = rest.now; jumps = jumps }) < steps_left (length file) start) × (length rest.now ≤ length file)
 IsLaterPlace file start recipient_steps.End = Unit {0}
 IsLaterPlace file start recipient_steps.Broken = Unit {0}
 
--- a step, as the program has it
+-- a step, as the program represents it
 abbrev pub step_in : QueueStep → WalkStep
 step_in (steps.Record queue_record rest jumps) =
     RecordThere (placed_bytes_in queue_record) (record { rest = rest.now; jumps = jumps })
@@ -70,7 +70,8 @@ step_in (steps.Pointer rest jumps) = PointerTo (record { rest = rest.now; jumps 
 step_in steps.End = EndThere
 step_in steps.Broken = BrokenThere
 
--- no pointer, and after a record a place within the file, from which fewer steps are left
+-- the step isn't a pointer, and after a record the place is within the file, with fewer steps left
+-- from there
 abbrev pub IsNextStep : List ℕ → QueuePlace → WalkStep → Type 0
 IsNextStep file start (PointerTo place) = ⊥
 IsNextStep file start (RecordThere bytes place) =

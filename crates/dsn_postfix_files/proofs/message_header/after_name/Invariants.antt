@@ -1,4 +1,4 @@
--- The bytes so far are of the name.
+-- The bytes so far belong to the name.
 use Rattle.std.proofs.Common.{◌≡◌, length}
 use Rattle.dsn_postfix_files.specs.MessageHeader.{after_all, is_name_byte}
 use Rattle.dsn_postfix_files.proofs.message_header.after_name.Given as goal

@@ -1,4 +1,4 @@
--- The lines so far are of the header.
+-- The lines so far belong to the header.
 use Rattle.std.proofs.Common.{◌≡◌, ◌+◌, ◌≤◌, length}
 use Rattle.dsn_postfix_files.specs.LogLine.{all_lines}
 use Rattle.dsn_postfix_files.specs.MessageHeader.{header_size}

@@ -1,4 +1,4 @@
--- Whatever the text is, it is what was read so far with what later records have; and that is no more than the limit.
+-- The text is the one so far with that of the later records, and the one so far is within the limit.
 use Rattle.std.proofs.Common.{◌≤◌, length, List, ℕ, [], false}
 use Rattle.dsn_postfix_files.specs.inner.QueueReading.{TextLeft}
 use Rattle.dsn_postfix_files.specs.QueueListing.{QueueEnding}

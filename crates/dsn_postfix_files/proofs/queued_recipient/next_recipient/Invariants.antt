@@ -1,4 +1,4 @@
--- Whatever recipients there are, those are left after what was said so far.
+-- The recipients are those of the remaining records, with the facts so far.
 use Rattle.std.proofs.Common.{◌≤◌, List, length}
 use Rattle.dsn_postfix_files.specs.QueueListing.{QueueEnding}
 use Rattle.dsn_postfix_files.specs.QueueRecipients.{RecipientFacts, RecipientsLeft, nothing_before}

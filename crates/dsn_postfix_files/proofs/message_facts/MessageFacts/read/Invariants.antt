@@ -1,4 +1,4 @@
--- Whatever is said of the message, it is what was said so far with what later records say.
+-- The facts of the message are those so far with those of the later records.
 use Rattle.std.proofs.Common.{◌≤◌, length, List, ℕ}
 use Rattle.std.specs.Borrow.{Bor}
 use Rattle.std.specs.Option.{option_map}

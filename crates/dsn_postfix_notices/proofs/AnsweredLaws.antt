@@ -1,4 +1,4 @@
--- The laws of answered requests: the bounce log is told first, and what is true of one request is true of each of the two.
+-- The laws of answered requests: the bounce log is flushed first, and the laws of one request hold for each of the two.
 use Rattle.std.proofs.Common.{◌≡◌, ℕ, Bool, true, false, List, [], ◌∷◌, ◌++◌, Option, Some, None, Result, Ok, Err, refl, sym, ap, subst, ◌∙◌, append-nil, inl, inr}
 use Rattle.std.specs.Option.{option_map}
 use Rattle.std.specs.Prelude.{◌⊎◌, MatchOption, is_err}
@@ -68,7 +68,7 @@ first_asks Bounce request first notice e asked = absurd (none_is_some first e)
 first_asks Defer request first notice e asked = flush_asks request first notice e asked
 first_asks TraceLog request first notice e asked = absurd (none_is_some first e)
 
--- the deeds of a bounce log that there is, and what follows them
+-- the deeds of a bounce log that was found, and what follows them
 pub record FoundAndTold (terms : Terms) (first : PostfixRequest) (rest deeds : List Deed) : Type 0 where
   pub own : List Deed
   pub deeds_are : deeds ≡ own ++ rest
@@ -114,7 +114,7 @@ told_in_turn task first bytes answer gained deeds named asked (answered.in_turn 
       defer_log = subst (λ (a : RequestAnswer). IsCarriedOut task.terms task.request bytes a rest) zero out;
     }
 
--- what is answered where a flush comes first
+-- the answer to a request that a flush precedes
 in_turn_if : (terms : Terms) (first request : PostfixRequest) (bytes : List ℕ) (answer : RequestAnswer) (gained : List Deed)
     → first_flush terms.service request ≡ Some first → IsAnswered terms request bytes answer gained → IsFlushedInTurn terms first request bytes answer gained
 in_turn_if terms first request bytes answer gained e is =
@@ -129,7 +129,7 @@ told_first task first bytes answer gained deeds named flushes asked is zero e =
 
 -- ---- logs that are removed
 
--- a deed of one of two parts
+-- a deed is in one of two parts
 pub data InPart (first rest before after : List Deed) (deed : Deed) : Type 0 where
   in_first : (more : List Deed) → first ≡ before ++ deed ∷ more → after ≡ more ++ rest → InPart first rest before after deed
   in_rest : (more : List Deed) → before ≡ first ++ more → rest ≡ more ++ deed ∷ after → InPart first rest before after deed
@@ -157,7 +157,7 @@ removed_by_one task own_task bytes answer gained earlier own before after log id
   removed = removed_only_after own_task bytes answer gained own after log id given done e;
 }
 
--- a request that is answered 0 removes nothing for CLEAN, so what is done after a removal is free
+-- a request that is answered 0 removes nothing for CLEAN, so anything may be done after a removal
 told_before : (task : Task) (before after : List Deed)
     → AreAllTold task before ⊎ ((must_clean task.request (Ok carried_out) ≡ true) × (after ≡ [])) → AreAllTold task before
 told_before task before after (inl told) = told
@@ -178,7 +178,7 @@ later_too task answer before more after log id in_turn = record {
   };
 }
 
--- nothing is removed by looking for the bounce log alone
+-- looking for the bounce log removes nothing
 removed_by_looking : (task : Task) (answer : RequestAnswer) (id named : List ℕ) (found : Result Bool DeedFault) (gained before after : List Deed) (log : Service) (given : Answer)
     → gained ≡ LogSought Bounce named found ∷ [] → gained ≡ before ++ LogRemoved log id given ∷ after → IsRemovedInTurn task answer before after log id
 removed_by_looking task answer id named found gained before after log given is e =
@@ -241,7 +241,7 @@ pub answered_removal : (task : Task) (bytes : List ℕ) (answer : RequestAnswer)
 answered_removal task bytes answer gained before after log id given asked is e =
     removed_if (first_flush task.terms.service task.request) task bytes answer gained before after log id given refl asked is e
 
--- ---- what is handed in
+-- ---- what is submitted
 
 hands_in_own : (task : Task) (bytes : List ℕ) (answer : RequestAnswer) (gained : List Deed)
     → notice_asked task.request ≡ Some task.notice → IsCarriedOut task.terms task.request bytes answer gained → (hand_ins gained ≡ []) ⊎ HandsInOnce task gained

@@ -148,7 +148,7 @@ cleaned_last service other request named false cleaned more after given cleans e
 
 -- ---- a removal
 
--- after the telling only CLEAN removes
+-- after the sender was notified, only CLEAN removes a log
 after_tail : (task : Task) (other : Service) (answer : RequestAnswer) (tail cleaned before more after : List Deed) (named : List ℕ) (given : Answer)
     → notice_asked task.request ≡ Some task.notice → Block tail [] → Cleans task.terms.service task.request (must_clean task.request answer) cleaned
     → tail ++ cleaned ≡ more ++ LogRemoved other named given ∷ after → IsRemovedAfter task answer before after other named
@@ -174,7 +174,7 @@ at_removal task other answer front removal tail cleaned before (deed ∷ more) a
     after_tail task other answer tail cleaned before more after named given asked tail_block cleans
     (ap later (ap (λ (deeds : List Deed). deeds ++ (tail ++ cleaned)) (sym is) ∙ e))
 
--- the deeds of a telling, in one row
+-- the deeds of a request for notices, in one list
 one_row : (front removal tail cleaned told done gained : List Deed) → gained ≡ done ++ cleaned → done ≡ told ++ tail → told ≡ front ++ removal → gained ≡ front ++ (removal ++ (tail ++ cleaned))
 one_row front removal tail cleaned told done gained g d t =
     g ∙ ap (λ (deeds : List Deed). deeds ++ cleaned) d ∙ append_assoc told tail cleaned
@@ -191,7 +191,7 @@ removed_only_after task bytes answer gained before after other named given done 
     at_removal task other answer parts.telling.front parts.telling.removal parts.tail out.cleaned before past.more after named given done.asked
     parts.telling.removal_is parts.tail_block out.clean past.before_is past.rest_is
 
--- ---- what is handed in
+-- ---- what is submitted
 
 removal_hands_in_none : (task : Task) (front removal : List Deed) → IsRemovalPart task front removal → hand_ins removal ≡ []
 removal_hands_in_none task front removal (nothing_removed is) = ap hand_ins is
@@ -207,7 +207,7 @@ none_of_both one two first second = hand_ins-append one two ∙ (λ i. first i +
 none_after : (one two : List Deed) → hand_ins two ≡ [] → hand_ins (one ++ two) ≡ hand_ins one
 none_after one two none = hand_ins-append one two ∙ ap (λ (deeds : List Deed). hand_ins one ++ deeds) none ∙ append-nil (hand_ins one)
 
--- the deeds of a request: those that tell, and others that hand in nothing
+-- the deeds of a request: those that notify the sender, and others that submit nothing
 pub record RequestRow (task : Task) (bytes : List ℕ) (answer : RequestAnswer) (done gained : List Deed) : Type 0 where
   pub parts : NotifiedParts task bytes answer done
   pub others : List Deed
@@ -229,7 +229,7 @@ row_of task bytes answer gained telling_done =
           (none_of_both parts.tail out.cleaned parts.tail_block.handed_are (cleaning_hands_in_none task.terms.service task.request (must_clean task.request answer) out.cleaned out.clean));
     }
 
--- others after them hand in nothing
+-- other deeds after them submit nothing
 once_longer : (task : Task) (front others : List Deed) → hand_ins others ≡ []
     → HandsInOnce task front → HandsInOnce task (front ++ others)
 once_longer task front others none once = record {
@@ -256,7 +256,7 @@ handed_in_once task bytes answer gained done =
     subst (λ (deeds : List Deed). (hand_ins deeds ≡ []) ⊎ HandsInOnce task deeds) (sym row.gained_are)
     (once_or_none task row.parts.telling.front row.others row.none_handed row.parts.telling.once)
 
--- ---- nobody to be told
+-- ---- nobody to be notified
 
 no_sender_plan : (task : Task) (queued : List RecipientFacts) (log : Option (List ℕ))
     → notice_asked task.request ≡ Some task.notice → is_no_sender task.terms.settings.double_bounce task.notice.sender ≡ true
@@ -312,7 +312,7 @@ stands_if_tried : (service : Service) (request : AppendRequest) (bytes : List �
 stands_if_tried service request bytes gained (Ok done) is zero = inl is
 stands_if_tried service request bytes gained (Err why) is zero = absurd (not_zero zero)
 
--- what Postfix's own service answered 0 to
+-- Postfix's own service answered 0
 pub passed_with_zero : (service : Service) (bytes : List ℕ) (gained : List Deed) (given : Result ℕ DeedFault) → gained ≡ PassedOn service bytes given ∷ [] → status_passed_on given ≡ 0 → gained ≡ PassedOn service bytes (Ok 0) ∷ []
 passed_with_zero service bytes gained (Ok status) is zero = is ∙ ap (λ (n : ℕ). PassedOn service bytes (Ok n) ∷ []) zero
 passed_with_zero service bytes gained (Err why) is zero = absurd (not_zero zero)

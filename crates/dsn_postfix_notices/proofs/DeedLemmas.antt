@@ -1,4 +1,4 @@
--- The deeds of a request, put together from those of its steps.
+-- The deeds of a request, composed of those of its steps.
 use Rattle.std.proofs.Common.{◌≡◌, ℕ, Bool, true, false, List, [], ◌∷◌, ◌++◌, Option, Some, None, Result, Ok, Err, refl, sym, ap, subst, ◌∙◌, append_assoc, append-nil, map, drop, drop-cons, get_or, length, suc, ◌<◌, ◌+◌, ◌≤◌, arith}
 use Rattle.std.proofs.lemmas.List.{drop_all}
 use Rattle.std.specs.Prelude.{◌==◌, unwrap_or}
@@ -66,7 +66,7 @@ gains_more deeds old between new P Q R first second both = record {
 path_is : (letter : Letter) (path : List ℕ) → letter.draft.return_path ≡ Some path → return_path_of letter ≡ path
 path_is letter path e = ap (λ (p : Option (List ℕ)). unwrap_or p []) e
 
--- what is left of a list from a place on
+-- the part of a list from an index on
 pub left_from : {X : Type 0} → (xs : List X) (i : ℕ) (x : X) → i < length xs → x ≡ get_or xs i x → drop i xs ≡ x ∷ drop (i + 1) xs
 left_from xs i x within is =
     let next : suc i ≡ i + 1 = omega arith in

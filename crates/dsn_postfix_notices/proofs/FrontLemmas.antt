@@ -1,4 +1,4 @@
--- The letters of a message of whose text only the front is known: they are those of the whole text.
+-- Letters made of the front of a message's text are those made of its whole text.
 use Rattle.std.proofs.Common.{◌≡◌, ◌<◌, ◌≤◌, ◌∙◌, ℕ, Bool, true, false, List, [], ◌∷◌, Option, Some, None, ap, arith, length, length-take, refl, subst, sym, take, take_all, if◌then◌else◌}
 use Rattle.std.specs.List.{list_any}
 use Rattle.std.specs.Option.{is_some, option_map, option_map_or}
@@ -24,7 +24,7 @@ use Rattle.dsn_postfix_notices.specs.letters.NoticeLetter.{first_fault_of_told, 
 use Rattle.dsn_postfix_notices.specs.letters.ReportedMessage.{MessageSaid}
 use Rattle.dsn_postfix_notices.specs.requests.RequestLetters.{AreLettersOf, IsSaidLetter, has_fault, next_serial}
 
--- the front of a text that shows whether it is returned whole, and its header if that is returned.
+-- the front of a text that shows whether it is returned whole, and its header if that is returned
 abbrev front_of : List ℕ → List ℕ
 front_of text = take (front_size longest_header) text
 
@@ -39,11 +39,11 @@ with_front message = record {
   size_limit = message.size_limit;
 }
 
--- what is true of the header of each front.
+-- each front has the header of its text, or both headers are too long
 abbrev FrontsShow : Type 0
 FrontsShow = (limit : ℕ) (text : List ℕ) → AreSameUpTo limit (message_header (take (front_size limit) text)) (message_header text)
 
--- ---- what goes back
+-- ---- what is returned
 
 never : (one other : Bool) → (one && false) ≡ (other && false)
 never true true = refl
@@ -51,7 +51,7 @@ never true false = refl
 never false true = refl
 never false false = refl
 
--- a text is its front, or both are too long.
+-- a text is its front, or both are too long
 front-by : (text : List ℕ) (long : Bool) → nat_lt (front_size longest_header) (length text) ≡ long → AreSameUpTo longest_header (front_of text) text
 front-by text true is =
     let over : front_size longest_header < length text = grind (arith, is) in
@@ -95,7 +95,7 @@ fits-same : (one other : List ℕ) → AreSameUpTo longest_header one other → 
 fits-same one other (same is) = ap (λ (text : List ℕ). nat_le (length text) longest_header) is
 fits-same one other (longer first second) = too-long one first ∙ sym (too-long other second)
 
--- the first fault of a draft whose header fits or not.
+-- the first fault of a draft whose header fits or doesn't
 abbrev fault_by : DraftFields → Bool → Option DraftFault
 fault_by fields fits = if fits then first_draft_fault (record {
   return_path = fields.return_path;
@@ -128,7 +128,7 @@ told-fault-same shows message notice =
     ap (λ (fault : Option DraftFault). if needs_no_quotes (notice_address notice) then option_map of_draft fault else Some Quotes)
     (draft-fault-same shows message notice)
 
--- the first fault of a letter whose draft has this one.
+-- the first fault of a letter whose draft has this fault
 abbrev fault_with : MessageSaid → NoticeFacts → Option LetterFault → Option LetterFault
 fault_with message notice found =
     if has_a_count notice.outcomes

@@ -1,5 +1,5 @@
--- Worked examples of what a notice says of a log's record and of its message, each computed. The records and the notices are those
--- of Postfix 3.7.11.
+-- Worked examples of what a notice reports for a log's record and says of its message, each computed. The records and
+-- the notices are those of Postfix 3.7.11.
 use Rattle.std.proofs.Common.{◌≡◌, ℕ, true, false, List, [], ◌∷◌, ◌++◌, Some, None, codes, refl}
 use Rattle.dsn_outcome.specs.Outcome.{Fields, first_outcome_fault}
 use Rattle.dsn_outcome.specs.declared.outcome_fault.OutcomeFault.TheVariants.{BadStatus, OriginalType}
@@ -115,7 +115,8 @@ original_without_type = refl
 original_of_x400 : original_said (codes "x400;/C=US/O=Acme/") [] ≡ record { kind = codes "x400"; text = codes "/C=US/O=Acme/" }
 original_of_x400 = refl
 
--- smtpd(8) writes the address of RCPT down as if it had come with ORCPT: a notice says it of a recipient that was rewritten
+-- smtpd(8) logs the address of RCPT as if it had come with ORCPT: a notice reports it for a recipient that was
+-- rewritten
 said_as_final : fields_told None (record {
   recipient = codes "bob@example.org";
   original_recipient = [];
@@ -155,7 +156,7 @@ before_rewriting = refl
 not_rewritten : unless_final (codes "bob@example.org") (original_said [] (codes "bob@example.org")) ≡ record { kind = []; text = [] }
 not_rewritten = refl
 
--- a sender is told its own spelling, and another type of the same bytes
+-- the sender's own spelling is reported, and another type with the same address
 other_spelling : unless_final (codes "bob@example.org") (original_said (codes "rfc822;Bob@example.org") []) ≡ record { kind = codes "rfc822"; text = codes "Bob@example.org" }
 other_spelling = refl
 
@@ -195,7 +196,7 @@ whole_at_the_limit = refl
 header_beyond_the_limit : returned_text (is_returned_whole Whole 7 (codes "A: b\n\nc\n")) (codes "A: b\n\nc\n") ≡ codes "A: b\n"
 header_beyond_the_limit = refl
 
--- as Postfix has it, the limit cuts no header
+-- as with Postfix, the limit cuts no header
 header_over_the_limit : returned_text (is_returned_whole Whole 1 (codes "A: b\n\nc\n")) (codes "A: b\n\nc\n") ≡ codes "A: b\n"
 header_over_the_limit = refl
 

@@ -24,7 +24,7 @@ use Rattle.dsn_postfix_notices.specs.letters.ReportedMessage.{MessageSaid}
 use Rattle.dsn_postfix_notices.specs.letters.LetterFault.{IsLetterFault, of_draft, of_outcome}
 use Rattle.dsn_postfix_notices.specs.letters.ToldOutcome.{outcome_told, outcome_with}
 
--- an outcome is what its fields say
+-- an outcome has the values of its fields
 pub outcome_is : {service : Service} {fields : Fields} {outcome : Outcome} → IsOutcomeOf service fields outcome → outcome ≡ outcome_with service fields
 outcome_is it =
     rw (it.action_is, sym it.service_is, sym it.recipient_is, sym it.recipient_type_is, sym it.original_is, sym it.original_type_is, sym it.status_is, sym it.mta_is, sym it.diagnostic_is, sym it.diagnostic_type_is, sym it.reason_is, sym it.last_attempt_is, sym it.retry_until_is, sym it.extensions_is)
@@ -36,7 +36,7 @@ unfolding needs_no_quotes
 some_address [] plain = absurd (false≢true plain)
 some_address (byte ∷ rest) plain = search
 
--- why a draft, or an outcome, is refused is why there is no letter
+-- the fault of a refused draft, or of a refused outcome, is the fault of the letter
 pub draft_fault_is : (found : Option DraftFault) (fault : DraftFault) → fault ≡ unwrap_or found draft.NoMemory → IsLetterFault (option_map of_draft found) (of_draft fault)
 draft_fault_is None fault is = inl (ap of_draft is)
 draft_fault_is (Some found) fault is = inr (ap (λ it. Some (of_draft it)) (sym is))
@@ -61,7 +61,7 @@ pub fields_are : (path path2 id header header2 extensions extensions2 : List ℕ
     → fields_with path id header extensions returned wording ≡ fields_with path2 id header2 extensions2 returned2 wording2
 fields_are path path2 id header header2 extensions extensions2 returned returned2 wording wording2 p h e r w = rw (p, h, e, r, w) refl
 
--- the same of the draft that a notice is told by
+-- the fault of a refused draft is the fault of the letter, for the draft of a notice
 pub draft_fault_told_is : (message : MessageSaid) (notice : NoticeFacts) (refused : DraftFault) (fault : LetterFault)
     → needs_no_quotes (notice_address notice) ≡ true
     → refused ≡ unwrap_or (first_draft_fault (draft_fields_told message notice)) draft.NoMemory
@@ -71,7 +71,7 @@ draft_fault_told_is message notice refused fault unquoted is from =
     subst (IsLetterFault (first_draft_fault_told message notice)) (sym from)
     (rw unquoted (draft_fault_is (first_draft_fault (draft_fields_told message notice)) refused is))
 
--- what a notice tells is of its service
+-- the outcomes of a notice are of its service
 pub told_of_service : (service : Service) (until : Option ℕ) (told : List LoggedFields) (outcomes : List Outcome)
     → outcomes ≡ map (outcome_told service until) told → All (λ (outcome : Outcome). outcome.service ≡ service) outcomes
 told_of_service service until told outcomes are = subst (All (λ (outcome : Outcome). outcome.service ≡ service)) (sym are) (each told)

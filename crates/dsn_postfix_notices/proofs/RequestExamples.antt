@@ -102,7 +102,7 @@ sayable = refl
 no_deed : (deed : Deed) → [] ≡ deed ∷ [] → ⊥
 no_deed deed e = cc
 
--- an append that went well, of a request with CLEAN: one deed, and 0
+-- an append that succeeded, of a request with CLEAN: one deed, and 0
 append_done : IsCarriedOut (terms_at Bounce 0) (Append (append_with 1)) [] (Ok 0) (append_of_bob (Ok tt) ∷ [])
 append_done = record {
   done = append_of_bob (Ok tt) ∷ [];
@@ -112,7 +112,7 @@ append_done = record {
   clean = refl;
 }
 
--- one that failed: its log is removed after it
+-- an append that failed: its log is removed after it
 append_failed : IsCarriedOut (terms_at Bounce 0) (Append (append_with 1)) [] (Ok not_carried_out) (append_of_bob (Err fault.Failed) ∷ LogRemoved Bounce id (Ok tt) ∷ [])
 append_failed = record {
   done = append_of_bob (Err fault.Failed) ∷ [];
@@ -122,7 +122,7 @@ append_failed = record {
   clean = record { given = Ok tt; removed = refl };
 }
 
--- one for whose record there was no memory: nothing was done but what CLEAN asks
+-- an append without memory for its record: CLEAN is the only deed
 append_without_memory : (refused : NoMemory) → IsCarriedOut (terms_at Bounce 0) (Append (append_with 1)) [] (Err refused) (LogRemoved Bounce id (Ok tt) ∷ [])
 append_without_memory why = record {
   done = [];
@@ -132,12 +132,12 @@ append_without_memory why = record {
   clean = record { given = Ok tt; removed = refl };
 }
 
--- a status is answered to no append without a deed
+-- no append is answered with a status before any deed
 status_needs_a_deed : (status : ℕ) → IsAppended Bounce (append_with 1) [] (Ok status) [] → ⊥
 status_needs_a_deed status (tried none given is comes) = absurd (no_deed (append_of_bob given) is)
 status_needs_a_deed status (unsayable field some passes) = absurd (no_deed (PassedOn Bounce [] passes.given) passes.passed)
 
--- nor to a request for notices that is left to Postfix's own service
+-- no request for notices that is left to Postfix's own service is answered before any deed
 passing_needs_a_deed : (why : PassReason) (answer : RequestAnswer) → EndsTelling Bounce [] (Err (untold.PassedOn why)) answer [] → ⊥
 passing_needs_a_deed why answer passes = no_deed (PassedOn Bounce [] passes.given) passes.passed
 
@@ -166,14 +166,14 @@ flush_of_bounced_has_no_first = refl
 warning_has_no_first : first_flush Defer (Warn (asked 0)) ≡ None
 warning_has_no_first = refl
 
--- CLEAN and DELRCPT stay with the defer log, and other flags go along
+-- CLEAN and DELRCPT stay with the defer log, and other flags are copied
 first_without_flags : first_flush Defer (Flush (asked 3)) ≡ Some (Flush (asked 0))
 first_without_flags = refl
 
 first_with_others : first_flush Defer (Flush (asked 1026)) ≡ Some (Flush (asked 1024))
 first_with_others = refl
 
--- its bytes, which are what is passed on: those of tests/postfix/flush-defer.bin but for the flags and the texts
+-- the bytes of the flush, which are passed on: those of tests/postfix/flush-defer.bin except the flags and the texts
 first_as_bytes : postfix_request_bytes (Flush (without_flags (asked 2)))
     ≡ codes "nrequest" ++ 0 ∷ codes "1" ++ 0 ∷ codes "flags" ++ 0 ∷ codes "0" ++ 0 ∷ codes "queue_name" ++ 0 ∷ codes "active" ++ 0
     ∷ codes "queue_id" ++ 0 ∷ codes "6BB87A7E6A1" ++ 0 ∷ codes "encoding" ++ 0 ∷ 0 ∷ codes "smtputf8" ++ 0 ∷ codes "0" ++ 0
@@ -198,24 +198,24 @@ unread_at service bytes serial = record {
   clean = refl;
 }
 
--- it can't be known whether there is a bounce log: nothing else is done, also with CLEAN
+-- it can't be known whether there is a bounce log: nothing else is done, even with CLEAN
 bounce_log_unknown : IsAnswered (terms_at Defer 0) (Flush (asked 1)) [] (Ok not_carried_out) (LogSought Bounce id (Err fault.Failed) ∷ [])
 bounce_log_unknown = answered.put_off refl (answered.unsought fault.Failed refl refl)
 
--- there is one, which can't be read: neither log is touched, also with CLEAN
+-- the bounce log can't be read: neither log is changed, even with CLEAN
 bounce_log_unread : (bytes : List ℕ) → IsRequestIn bytes (Flush (asked 0)) → IsAnswered (terms_at Defer 0) (Flush (asked 3)) [] (Ok not_carried_out) (LogSought Bounce id (Ok true) ∷ LogRead Bounce id (Err fault.Failed) ∷ LogReleased ∷ [])
 bounce_log_unread bytes are =
     answered.put_off refl (answered.told (LogRead Bounce id (Err fault.Failed) ∷ LogReleased ∷ []) refl (answered.flushed bytes are (unread_at Bounce bytes 500000)))
 
--- there is one, and no memory for the bytes of its flush
+-- there is a bounce log, and no memory for the bytes of its flush
 bounce_log_without_memory : (refused : NoMemory) → IsAnswered (terms_at Defer 0) (Flush (asked 3)) [] (Err refused) (LogSought Bounce id (Ok true) ∷ [])
 bounce_log_without_memory why = answered.put_off refl (answered.told [] refl (answered.no_memory refl refl))
 
--- there is none: the defer log is read
+-- there is no bounce log: the defer log is read
 defer_log_unread : IsAnswered (terms_at Defer 0) (Flush (asked 0)) [] (Ok not_carried_out) (LogSought Bounce id (Ok false) ∷ LogRead Defer id (Err fault.Failed) ∷ LogReleased ∷ [])
 defer_log_unread = answered.in_turn (LogSought Bounce id (Ok false) ∷ []) (LogRead Defer id (Err fault.Failed) ∷ LogReleased ∷ []) refl (answered.no_log refl refl) (unread_at Defer [] 0)
 
--- a flush of the bounce log asks for no other
+-- a flush of the bounce log is preceded by no other
 bounce_log_alone : IsAnswered (terms_at Bounce 0) (Flush (asked 0)) [] (Ok not_carried_out) (LogRead Bounce id (Err fault.Failed) ∷ LogReleased ∷ [])
 bounce_log_alone = unread_at Bounce [] 0
 
@@ -248,7 +248,7 @@ warning_keeps = refl
 no_log_to_remove : is_removal_due (Trace (asked 0)) None ≡ false
 no_log_to_remove = refl
 
--- a sender is the queue file's: of a list whose owner a request names, it is who wrote to the list
+-- the sender is that of the queue file: if a request names the owner of a list, the file names who wrote to the list
 abbrev from_ann : List PlacedBytes
 from_ann = record { place = 0; kind = 83; bytes = codes "ann@example.com" } ∷ []
 

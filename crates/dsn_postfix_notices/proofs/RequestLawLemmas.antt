@@ -1,4 +1,4 @@
--- What is true of each request that was carried out: the parts of its deeds, which of them remove a log, and which hand in.
+-- Lemmas on the deeds of a carried out request: its parts, which of them remove a log, and which submit.
 use Rattle.std.proofs.Common.{◌≡◌, ℕ, Bool, true, false, List, [], ◌∷◌, ◌++◌, Option, Result, Ok, Err, refl, sym, ap, subst, ◌∙◌, append_assoc, append-nil, map}
 use Rattle.std.specs.Prelude.{if◌then◌else◌}
 use Rattle.dsn_outcome.specs.Letter.{Letter}
@@ -37,7 +37,7 @@ abbrev pub RemovesNone : List Deed → Type 0
 RemovesNone [] = Unit {0}
 RemovesNone (deed ∷ deeds) = (is_removal deed ≡ false) × RemovesNone deeds
 
--- deeds that remove no log, with those of them that hand in
+-- deeds that remove no log, and those of them that submit
 pub record Block (deeds handed : List Deed) : Type 0 where
   pub keeps : RemovesNone deeds
   pub handed_are : hand_ins deeds ≡ handed
@@ -108,7 +108,7 @@ handed_more host [] back one two first second = subst (λ (deeds : List Deed). A
 handed_more host (letter ∷ front) back [] two first second = absurd first
 handed_more host (letter ∷ front) back (deed ∷ one) two first second = (first.0, handed_more host front back one two first.1 second)
 
--- a front of some letters was handed in, and no log was removed
+-- a prefix of some letters was submitted, and no log was removed
 pub record FrontHanded (host : List ℕ) (letters : List Letter) (gained : List Deed) : Type 0 where
   pub front : List Letter
   pub rest : List Letter
@@ -146,7 +146,7 @@ stopped_front host letters why gained stops =
     (subst (λ (ls : List Letter). FrontHanded host ls (stops.taken ++ stops.last)) (sym stops.letters_are)
     (last_handed host (is_first_after stops.before) stops.before stops.after stops.stopped why stops.taken stops.last stops.accepted stops.not_accepted))
 
--- the first of some letters was refused for good, and no other handed in
+-- the first of some letters was refused for good, and no other was submitted
 pub record FirstRefused (host : List ℕ) (letters : List Letter) (gained : List Deed) : Type 0 where
   pub letter : Letter
   pub others : List Letter

@@ -31,7 +31,7 @@ pub first_if_none : {X : Type 0} → (found : Option X) (P E : Type 0) (Q : X �
 first_if_none None P E Q is = is.0
 first_if_none (Some x) P E Q is = is
 
--- ---- why a notice is no letter
+-- ---- why a notice has no letter
 
 pub reason_as : (P Q : Type 0) (why : Untold) → IsReason P why → (P → Q) → IsReason Q why
 reason_as P Q (PassedOn why) is follows = follows is

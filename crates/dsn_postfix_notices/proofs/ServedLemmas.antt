@@ -1,4 +1,4 @@
--- Deeds after a call that is none.
+-- Deeds after a call that is no deed.
 use Rattle.std.proofs.Common.{◌≡◌, List, Option, subst}
 use Rattle.dsn_postfix_notices.specs.requests.Deed.{Deed}
 use Rattle.dsn_postfix_notices.specs.requests.Gains.{Gains, with_deeds}

@@ -1,4 +1,5 @@
--- The parts of the deeds of a request for notices: a front that removes no log, then the removal, then what removes none.
+-- The parts of the deeds of a request for notices: deeds that remove no log, then the removal, then deeds that remove
+-- no log.
 use Rattle.std.proofs.Common.{◌≡◌, ℕ, Bool, true, false, List, [], ◌∷◌, ◌++◌, Option, Result, Ok, Err, refl, sym, ap, subst, ◌∙◌, append_assoc, append-nil, inl, inr}
 use Rattle.std.specs.Prelude.{◌⊎◌}
 use Rattle.dsn_outcome.specs.Letter.{Letter}
@@ -24,7 +25,7 @@ use Rattle.dsn_postfix_notices.proofs.RequestLawLemmas.{Block, RemovesNone, acce
 
 -- ---- what is done after all are accepted
 
--- no log was removed, or one was, after all were marked
+-- no log was removed, or one was, after all places were marked
 abbrev pub RemovesMarked : Task → List ℕ → List Deed → List Deed → Type 0
 RemovesMarked task places marks removal =
     (removal ≡ []) ⊎ ((answer : Answer) × (removal ≡ LogRemoved task.terms.service task.notice.queue_id answer ∷ []) × AreMarked task.notice places marks)
@@ -68,22 +69,22 @@ finish_parts task log places telling gained (finishing.marked marks removal is a
   ends = end_of task places (finishing.is_removal_due task.request log) telling marks removal are removes;
 }
 
--- ---- telling
+-- ---- notifying the sender
 
--- what was removed after these deeds
+-- what was removed after `front`
 pub data IsRemovalPart (task : Task) (front removal : List Deed) : Type 0 where
   nothing_removed : removal ≡ [] → IsRemovalPart task front removal
   removed_told : (answer : Answer) → removal ≡ LogRemoved task.terms.service task.notice.queue_id answer ∷ [] → AreAllTold task front
       → IsRemovalPart task front removal
 
--- what was read, and what was tried before it was left to Postfix's own service
+-- what was read, and what was tried before the request was left to Postfix's own service
 pub record LeftOver (task : Task) (told : List Deed) : Type 0 where
   pub found : MailRead
   pub tried : List Deed
   pub told_is : told ≡ readings task found ++ tried
   pub why : IsLeftOver task found tried
 
--- what was told where telling ends so: of all deeds, which begin with a front that removes no log
+-- the deeds for each result of notifying the sender; they begin with `front`, which removes no log
 abbrev pub ToldSo : Task → Result (Unit {0}) Untold → List Deed → List Deed → Type 0
 ToldSo task (Ok done) front told = AreAllTold task front
 ToldSo task (Err (PassedOn why)) front told = LeftOver task told
@@ -121,7 +122,7 @@ pub record TellingParts (task : Task) (telling : Result (Unit {0}) Untold) (gain
   pub removal_is : IsRemovalPart task front removal
   pub so : ToldSo task telling front gained
 
--- nothing was handed in, and nothing removed
+-- nothing was submitted, and nothing removed
 quiet_parts : (task : Task) (telling : Result (Unit {0}) Untold) (gained : List Deed) → ToldSo task telling gained gained → Block gained [] → TellingParts task telling gained
 quiet_parts task telling gained so block = record {
   front = gained;

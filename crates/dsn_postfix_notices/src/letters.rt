@@ -1,4 +1,4 @@
-//! The letters of notices that were planned from what Postfix keeps of a message.
+//! Letters of notices that are planned from what Postfix keeps of a message.
 mod letter_fault;
 mod notice_draft;
 mod notice_letter;

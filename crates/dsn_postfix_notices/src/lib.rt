@@ -1,5 +1,5 @@
-//! What one request of Postfix's programs comes to: the letters of the notices that a log has, and the deeds by which they are handed in,
-//! over a trait for all that lies outside.
+//! The result of one request of Postfix's programs: the letters of a log's notices, and the deeds
+//! that submit them. All that lies outside is behind one trait.
 #![tactic(auto)]
 
 mod letters;

@@ -1,4 +1,4 @@
-//! What is done for one request of Postfix's programs, in which order, and what it is answered.
+//! What one request of Postfix's programs does, in which order, and how it is answered.
 mod answering;
 mod append;
 mod carrying_out;

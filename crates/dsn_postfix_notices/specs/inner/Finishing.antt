@@ -1,4 +1,5 @@
--- What is done once all notices of a request are accepted: its recipients are marked as done, and then its log is removed.
+-- What is done once all notices of a request are accepted: its recipients are marked as done, and then its log is
+-- removed.
 use Rattle.std.specs.Prelude.{◌≡◌, ℕ, List, Result, Ok, Err}
 use Rattle.dsn_postfix.specs.declared.postfix_request.NoticeRequest.{NoticeRequest}
 use Rattle.dsn_postfix_notices.specs.declared.requests.untold.Untold.TheVariants.{Failed}

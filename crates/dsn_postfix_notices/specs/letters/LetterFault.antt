@@ -1,4 +1,4 @@
--- Why no letter is made: the first fault of what it would say, or want of memory before that is known.
+-- Why no letter is made: the first fault of what it would report, or lack of memory before that fault is known.
 use Rattle.std.specs.Prelude.{◌≡◌, ◌⊎◌, Option, Some}
 use Rattle.dsn_outcome.specs.declared.draft_fault.DraftFault.{DraftFault}
 use Rattle.dsn_outcome.specs.declared.draft_fault.DraftFault.TheVariants as draft
@@ -7,7 +7,7 @@ use Rattle.dsn_outcome.specs.declared.outcome_fault.OutcomeFault.TheVariants as 
 use Rattle.dsn_postfix_notices.specs.declared.letters.letter_fault.LetterFault.{LetterFault}
 use Rattle.dsn_postfix_notices.specs.declared.letters.letter_fault.LetterFault.TheVariants.{Draft, NoMemory, Outcome}
 
--- what a refused draft, or a refused outcome, comes to
+-- the fault of a letter whose draft, or one of whose outcomes, was refused
 abbrev pub of_draft : DraftFault → LetterFault
 of_draft draft.NoMemory = NoMemory
 of_draft fault = Draft fault

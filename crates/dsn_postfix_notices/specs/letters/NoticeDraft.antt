@@ -21,7 +21,8 @@ use Rattle.dsn_postfix_notices.specs.declared.letters.letter_fault.LetterFault.T
 use Rattle.dsn_postfix_notices.specs.letters.LetterFault.{of_draft}
 use Rattle.dsn_postfix_notices.specs.letters.ReportedMessage.{MessageSaid}
 
--- until when delivery is tried: a warning of delay says so (RFC 3464 section 2.3.9), where that moment has a date
+-- the moment until which delivery is tried, if it has a date: only a warning of delay reports it (RFC 3464 section
+-- 2.3.9)
 abbrev pub moment_if_dated : ℕ → Option ℕ
 moment_if_dated seconds = if nat_le seconds last_moment then Some seconds else None
 
@@ -30,14 +31,14 @@ tried_until Bounce arrival lifetime = None
 tried_until Defer arrival lifetime = moment_if_dated (arrival + lifetime)
 tried_until Trace arrival lifetime = None
 
--- the longest sender that stands behind `rfc822; ` in the value of an extension field
+-- the longest sender behind `rfc822; ` in the value of an extension field, in bytes
 abbrev pub longest_sender : ℕ
 longest_sender = 247
 
 abbrev pub is_said_sender : List ℕ → Bool
 is_said_sender sender = is_address sender && nat_le (length sender) longest_sender
 
--- a field of this name, which ends with what stands before its value
+-- a field; the name includes the separator before the value
 abbrev pub postfix_field : List ℕ → List ℕ → List ℕ
 postfix_field name value = name ++ (value ++ codes "\n")
 
@@ -45,14 +46,14 @@ abbrev pub sender_field : List ℕ → List ℕ
 sender_field sender =
     if is_said_sender sender then postfix_field (codes "X-Postfix-Sender: rfc822; ") sender else []
 
--- the fields that Postfix adds to those of the message as a whole (RFC 3464 section 2.4): its queue id, and its sender,
--- where that is an address and has room
+-- the fields that Postfix adds to those of the message as a whole (RFC 3464 section 2.4): its queue id, and its sender
+-- if that is an address and fits
 abbrev pub postfix_fields : List ℕ → List ℕ → List ℕ
 postfix_fields queue_id sender =
     postfix_field (codes "X-Postfix-Queue-ID: ") queue_id ++ sender_field sender
 
--- A message that is wanted back goes back whole if it has at most as many bytes as the mail system returns, and as a notice
--- has room for. Otherwise its header does, however long that is.
+-- A message is returned whole if that is requested, and if it is neither longer than what the mail system returns nor
+-- longer than a notice has room for. Otherwise its header is returned, whatever its length.
 abbrev pub is_returned_whole : ReturnedPart → ℕ → List ℕ → Bool
 is_returned_whole Whole size_limit text = nat_le (length text) size_limit && nat_le (length text) longest_header
 is_returned_whole Header size_limit text = false
@@ -71,19 +72,19 @@ draft_fields_told message notice = record {
   envelope_id = message.envelope_id;
   header = returned_text (is_returned_whole notice.returned message.size_limit message.text) message.text;
   returned = Some (returned_as (is_returned_whole notice.returned message.size_limit message.text));
-  -- the words go by what became of the recipients
+  -- the wording follows the outcomes
   wording = Some ByOutcome;
   extensions = postfix_fields message.queue_id message.sender;
 }
 
--- the first fault of the draft: an address that stands in SMTP only with quotes is told in none, since another one might be
--- read in its place (RFC 5321 section 4.1.2)
+-- the first fault of the draft: an address that needs quotes in SMTP is not reported, since it could be read as another
+-- address (RFC 5321 section 4.1.2)
 abbrev pub first_draft_fault_told : MessageSaid → NoticeFacts → Option LetterFault
 first_draft_fault_told message notice =
     if needs_no_quotes (notice_address notice) then option_map of_draft (first_draft_fault (draft_fields_told message notice))
     else Some Quotes
 
--- the draft says this of the message, and nothing else
+-- the draft says exactly this of the message
 pub record IsDraftTold (message : MessageSaid) (notice : NoticeFacts) (moment arrival : ℕ) (draft : Draft) : Type 0 where
   pub moment_is : draft.moment ≡ moment
   pub arrival_is : draft.arrival ≡ arrival

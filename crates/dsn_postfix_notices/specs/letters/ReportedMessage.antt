@@ -11,7 +11,7 @@ pub record MessageSaid : Type 0 where
   pub lifetime : ℕ
   pub size_limit : ℕ
 
--- the texts that the program's references point to
+-- the texts behind the program's references
 abbrev pub message_said_in : ReportedMessage → MessageSaid
 message_said_in message = record {
   queue_id = message.queue_id;

@@ -1,5 +1,5 @@
--- What a record of a log says of a recipient, as the fields of an outcome. Postfix writes the same of it into its own notices,
--- but for texts that it has and an outcome hasn't: a longer diagnostic or reason ends after 800 bytes.
+-- What a log's record says of a recipient, as the fields of an outcome. Postfix writes the same in its own notices,
+-- except that an outcome's diagnostic or reason ends after 800 bytes.
 use Rattle.std.specs.Prelude.{ℕ, ◌==◌, ◌&&◌, Bool, true, List, [], ◌∷◌, take, codes, Option, Some, None, unwrap_or, if◌then◌else◌}
 use Rattle.std.specs.List.{before_first, after_first}
 use Rattle.std.specs.Option.{option_map, option_map_or}
@@ -16,7 +16,7 @@ use Rattle.dsn_postfix_notices.specs.declared.letters.letter_fault.LetterFault.T
 use Rattle.dsn_postfix_notices.specs.letters.LetterFault.{of_outcome}
 use Rattle.dsn_postfix_notices.specs.letters.PlainStatus.{plain_status}
 
--- a text with its type; an empty type is the usual one
+-- a text with its type; an empty type means the usual one
 pub record TypedText : Type 0 where
   pub kind : List ℕ
   pub text : List ℕ
@@ -24,8 +24,8 @@ pub record TypedText : Type 0 where
 abbrev pub is_semicolon : ℕ → Bool
 is_semicolon byte = byte == 59
 
--- the original recipient: a type, a semicolon and an address, as the sender named it (RFC 3461 section 4.2); or else the
--- address before it was rewritten
+-- the original recipient: a type, a semicolon and an address, as the sender gave them (RFC 3461 section 4.2), or else
+-- the address before it was rewritten
 abbrev pub original_said : List ℕ → List ℕ → TypedText
 original_said [] rewritten = record { kind = []; text = rewritten }
 original_said (byte ∷ said) rewritten = record {
@@ -33,13 +33,13 @@ original_said (byte ∷ said) rewritten = record {
   text = after_first is_semicolon (byte ∷ said);
 }
 
--- the type of an address where none is said (RFC 3464 section 2.3.1)
+-- the type of an address that has no explicit type (RFC 3464 section 2.3.1)
 abbrev pub is_usual_type : List ℕ → Bool
 is_usual_type [] = true
 is_usual_type (byte ∷ kind) = str_eq_ignore_ascii_case (byte ∷ kind) (codes "rfc822")
 
--- The original recipient, unless it is the final one. Postfix writes down the address of each RCPT command as if its sender
--- had named it by ORCPT (RFC 3461 section 4.2): of an address that is the final one nothing says whether a sender did.
+-- The original recipient, unless it is the final one. Postfix logs the address of each RCPT command as if its sender
+-- had given it by ORCPT (RFC 3461 section 4.2). If it is the final address, nothing shows whether the sender did.
 abbrev pub unless_final : List ℕ → TypedText → TypedText
 unless_final recipient original =
     if is_usual_type original.kind && bytes_eq original.text recipient then record { kind = []; text = [] } else original
@@ -47,7 +47,7 @@ unless_final recipient original =
 abbrev pub original_told : LoggedFields → TypedText
 original_told fields = unless_final fields.recipient (original_said fields.dsn_original fields.original_recipient)
 
--- where no remote system said anything, the mail system's own reason stands for it
+-- if no remote system gave a diagnostic, the mail system's own reason takes its place
 abbrev pub reason_said : List ℕ → TypedText
 reason_said [] = record { kind = []; text = [] }
 reason_said (byte ∷ reason) = record {
@@ -63,11 +63,11 @@ diagnostic_said (first ∷ kind) (byte ∷ text) reason = record {
   text = take longest_clean (byte ∷ text);
 }
 
--- the byte of the action that a word names, or 0, which is none
+-- the byte of the action that a word names, or 0, which is no action's
 abbrev pub action_said : List ℕ → ℕ
 action_said word = option_map_or action_byte (action_of_word word) 0
 
--- the fields of the outcome, where delivery is tried until that moment, if it is
+-- the fields of the outcome; `until` is the moment until which delivery is tried, if it is reported
 abbrev pub fields_told : Option ℕ → LoggedFields → Fields
 fields_told until fields = record {
   recipient = fields.recipient;
@@ -85,7 +85,7 @@ fields_told until fields = record {
   extensions = [];
 }
 
--- a notice says `dns` of each name of a remote system (RFC 3464 section 2.3.5)
+-- a notice writes `dns` before each name of a remote system (RFC 3464 section 2.3.5)
 abbrev pub is_remote_type : List ℕ → List ℕ → Bool
 is_remote_type kind [] = true
 is_remote_type kind (byte ∷ name) = str_eq_ignore_ascii_case kind (codes "dns")
@@ -97,7 +97,7 @@ first_told_fault service until fields =
     then option_map of_outcome (first_outcome_fault service (fields_told until fields))
     else Some RemoteType
 
--- the outcome of fields that are one
+-- the outcome of valid fields
 abbrev pub outcome_with : Service → Fields → ToldOutcome
 outcome_with service fields = record {
   service = service;
@@ -116,6 +116,6 @@ outcome_with service fields = record {
   extensions = fields.extensions;
 }
 
--- what a notice tells of a record
+-- the outcome that a notice reports for a record
 abbrev pub outcome_told : Service → Option ℕ → LoggedFields → ToldOutcome
 outcome_told service until fields = outcome_with service (fields_told until fields)

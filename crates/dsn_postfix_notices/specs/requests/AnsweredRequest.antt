@@ -12,7 +12,7 @@ use Rattle.dsn_postfix_notices.specs.requests.RequestStatus.{RequestAnswer, carr
 use Rattle.dsn_postfix_notices.specs.requests.Task.{Terms}
 use Rattle.dsn_postfix_notices.specs.declared.requests.deed_fault.DeedFault.{DeedFault}
 
--- CLEAN (1) and DELRCPT (2) are about the log of the service that is asked, and about no other
+-- CLEAN (1) and DELRCPT (2) apply to the log of the service that is named, and to no other
 abbrev pub without_flags : NoticeRequest → NoticeRequest
 without_flags notice = record {
   flags = notice.flags / 4 * 4;
@@ -26,7 +26,7 @@ without_flags notice = record {
   returns = notice.returns;
 }
 
--- the flush of its message's bounce log that a flush asks for
+-- the flush of the same message's bounce log, if the request is a flush
 abbrev pub bounce_flush : PostfixRequest → Option PostfixRequest
 bounce_flush (Append append) = None
 bounce_flush (Flush notice) = Some (Flush (without_flags notice))
@@ -35,15 +35,15 @@ bounce_flush (Verp notice delimiters) = Some (Verp (without_flags notice) delimi
 bounce_flush (One notice recipient report) = None
 bounce_flush (Trace notice) = None
 
--- The flush that comes before a request to a service, if one does. Once a flush of the defer log is answered 0, Postfix
--- removes the message. A bounce log that it still has would never be told after that.
+-- The flush that precedes a request to a service, if there is one. Once a flush of the defer log is answered 0, Postfix
+-- removes the message, and nobody would be notified of a bounce log that is left.
 abbrev pub first_flush : Service → PostfixRequest → Option PostfixRequest
 first_flush Bounce request = None
 first_flush Defer request = bounce_flush request
 first_flush TraceLog request = None
 
--- Letters of both logs are of one kind, about one message and of one moment: so those of the bounce log have serials of
--- their own.
+-- Letters of both logs are of one kind, about one message and of one moment. So those of the bounce log have other
+-- serials.
 abbrev pub bounce_serial : ℕ → ℕ
 bounce_serial serial = (serial + 500000) % 2 ^ 64
 
@@ -56,14 +56,14 @@ bounce_terms terms = record {
   serial = bounce_serial terms.serial;
 }
 
--- The flush of a bounce log is carried out on it. Its own bytes are what is passed on; without memory for these nothing is
--- done.
+-- The flush of a bounce log is carried out on that log, and if it is passed on, then with its own bytes. Without memory
+-- for these bytes, nothing is done.
 pub data FlushesBounceLog (terms : Terms) (first : PostfixRequest) (answer : RequestAnswer) (gained : List Deed) : Type 0 where
   no_memory : gained ≡ [] → IsErr answer → FlushesBounceLog terms first answer gained
   flushed : (bytes : List ℕ) → IsRequestIn bytes first → IsCarriedOut (bounce_terms terms) first bytes answer gained
       → FlushesBounceLog terms first answer gained
 
--- it is asked whether the message has a bounce log, and if so, that log is flushed
+-- the system is asked for the message's bounce log, and if there is one, it is flushed
 pub data IsBounceLogTold (terms : Terms) (first : PostfixRequest) (answer : RequestAnswer) (gained : List Deed) : Type 0 where
   unsought : (fault : DeedFault) → gained ≡ LogSought Bounce (queue_id_of first) (Err fault) ∷ []
       → answer ≡ Ok not_carried_out → IsBounceLogTold terms first answer gained
@@ -73,7 +73,7 @@ pub data IsBounceLogTold (terms : Terms) (first : PostfixRequest) (answer : Requ
       → FlushesBounceLog terms first answer more
       → IsBounceLogTold terms first answer gained
 
--- the bounce log is told first; unless that is answered 0 the log of the service is left as it is, also by CLEAN
+-- the bounce log is flushed first; unless that is answered 0, the log of the service is left as it is, even with CLEAN
 pub data IsFlushedInTurn (terms : Terms) (first request : PostfixRequest) (bytes : List ℕ) (answer : RequestAnswer)
     (gained : List Deed) : Type 0 where
   put_off : is_carried_out answer ≡ false → IsBounceLogTold terms first answer gained
@@ -83,7 +83,7 @@ pub data IsFlushedInTurn (terms : Terms) (first request : PostfixRequest) (bytes
       → IsCarriedOut terms request bytes answer rest
       → IsFlushedInTurn terms first request bytes answer gained
 
--- these deeds were done for a request, all of them and in this order, and this answers it
+-- exactly these deeds were done for a request, in this order, and this answers it
 abbrev pub IsAnswered : Terms → PostfixRequest → List ℕ → RequestAnswer → List Deed → Type 0
 IsAnswered terms request bytes answer gained =
     MatchOption (first_flush terms.service request)

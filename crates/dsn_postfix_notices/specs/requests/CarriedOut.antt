@@ -1,4 +1,4 @@
--- What is done for one request of Postfix's programs, in its order, and what answers it.
+-- What is done for one request of Postfix's programs, in which order, and how it is answered.
 use Rattle.std.specs.Prelude.{◌≡◌, ◌&&◌, not, ℕ, Bool, List, [], ◌∷◌, ◌++◌, MatchBool}
 use Rattle.dsn_text.specs.declared.service.Service.{Service}
 use Rattle.dsn_postfix.specs.RequestFlags.{asks_clean}
@@ -22,7 +22,7 @@ queue_id_of (Trace notice) = notice.queue_id
 abbrev pub task_of : Terms → PostfixRequest → NoticeRequest → Task
 task_of terms request notice = record { terms = terms; request = request; notice = notice }
 
--- what is done to carry it out
+-- what is done to carry it out, except for CLEAN
 abbrev pub IsDone : Terms → PostfixRequest → List ℕ → RequestAnswer → List Deed → Type 0
 IsDone terms (Append append) bytes answer gained = IsAppended terms.service append bytes answer gained
 IsDone terms (Flush notice) bytes answer gained = IsNotified (task_of terms (Flush notice) notice) bytes answer gained
@@ -31,7 +31,7 @@ IsDone terms (Verp notice delimiters) bytes answer gained = IsNotified (task_of 
 IsDone terms (One notice recipient report) bytes answer gained = IsNotified (task_of terms (One notice recipient report) notice) bytes answer gained
 IsDone terms (Trace notice) bytes answer gained = IsNotified (task_of terms (Trace notice) notice) bytes answer gained
 
--- a request with CLEAN asks that its log be removed unless the answer is status 0, whatever it was that failed
+-- a request with CLEAN has its log removed unless the answer is status 0, whatever the failure
 abbrev pub must_clean : PostfixRequest → RequestAnswer → Bool
 must_clean request answer = asks_clean request && not (is_carried_out answer)
 
@@ -42,7 +42,7 @@ pub record RemovesOnce (service : Service) (request : PostfixRequest) (gained : 
 abbrev pub Cleans : Service → PostfixRequest → Bool → List Deed → Type 0
 Cleans service request due gained = MatchBool due (RemovesOnce service request gained) (gained ≡ [])
 
--- these deeds were done for a request, all of them and in this order, and this answers it
+-- exactly these deeds were done for a request, in this order, and this answers it
 pub record IsCarriedOut (terms : Terms) (request : PostfixRequest) (bytes : List ℕ) (answer : RequestAnswer)
     (gained : List Deed) : Type 0 where
   pub done : List Deed

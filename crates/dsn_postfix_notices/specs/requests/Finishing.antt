@@ -1,4 +1,5 @@
--- What is done once all notices of a request are accepted: its recipients are marked as done, and then its log is removed.
+-- What is done once all notices of a request are accepted: its recipients are marked as done, and then its log is
+-- removed.
 use Rattle.std.specs.Option.{is_some}
 use Rattle.std.specs.Prelude.{◌≡◌, ℕ, Bool, true, false, ◌&&◌, List, [], ◌∷◌, ◌++◌, map, Option, Result, Ok, Err}
 use Rattle.dsn_text.specs.declared.service.Service.{Service}
@@ -16,16 +17,16 @@ use Rattle.dsn_postfix_notices.specs.declared.requests.untold.Untold.TheVariants
 abbrev pub marking : NoticeRequest → ℕ → Deed
 marking notice place = MarkedDone notice.queue_name notice.queue_id place (Ok tt)
 
--- all were marked, in their order
+-- all places were marked, in their order
 abbrev pub AreMarked : NoticeRequest → List ℕ → List Deed → Type 0
 AreMarked notice places gained = gained ≡ map (marking notice) places
 
--- one couldn't be
+-- one place couldn't be marked
 pub record FailsToMark (notice : NoticeRequest) (place : ℕ) (gained : List Deed) : Type 0 where
   pub fault : DeedFault
   pub tried : gained ≡ MarkedDone notice.queue_name notice.queue_id place (Err fault) ∷ []
 
--- those before it were, and nothing was done after it
+-- the places before one were marked, this place couldn't be, and nothing was done after it
 pub record StopsAtPlace (notice : NoticeRequest) (places : List ℕ) (gained : List Deed) : Type 0 where
   pub before : List ℕ
   pub stopped : ℕ
@@ -39,7 +40,7 @@ pub record StopsAtPlace (notice : NoticeRequest) (places : List ℕ) (gained : L
 
 -- ---- the log
 
--- a warning keeps its log, for the notice of failure that may follow; a request about one recipient alone has none
+-- a warning keeps its log, for the notice of failure that may follow; a request about one recipient alone has no log
 abbrev pub removes_log : PostfixRequest → Bool
 removes_log (Append append) = false
 removes_log (Flush notice) = true
@@ -51,7 +52,7 @@ removes_log (Trace notice) = true
 abbrev pub is_removal_due : PostfixRequest → Option (List ℕ) → Bool
 is_removal_due request log = removes_log request && is_some log
 
--- a log that is due for removal is removed, where there is one
+-- a log that is due for removal is removed
 pub data RemovesLog (service : Service) (id : List ℕ) (due : Bool) (telling : Result (Unit {0}) Untold) (gained : List Deed) : Type 0 where
   kept : due ≡ false → telling ≡ Ok tt → gained ≡ [] → RemovesLog service id due telling gained
   removed : due ≡ true → telling ≡ Ok tt → gained ≡ LogRemoved service id (Ok tt) ∷ [] → RemovesLog service id due telling gained
@@ -60,7 +61,7 @@ pub data RemovesLog (service : Service) (id : List ℕ) (due : Bool) (telling : 
 
 -- ---- both
 
--- recipients are marked; once all of them are, the log is removed
+-- recipients are marked; once all of them are, the log is removed if that is due
 pub data FinishesAt (task : Task) (log : Option (List ℕ)) (places : List ℕ) (telling : Result (Unit {0}) Untold)
     (gained : List Deed) : Type 0 where
   unmarked : telling ≡ Err Failed → StopsAtPlace task.notice places gained → FinishesAt task log places telling gained

@@ -1,4 +1,4 @@
--- Letters that are handed in, one after another.
+-- Letters that are submitted, one after another.
 use Rattle.std.specs.Prelude.{◌≡◌, ◌&&◌, ℕ, Bool, true, false, List, [], ◌∷◌, ◌++◌, Result, Ok, Err, if◌then◌else◌}
 use Rattle.dsn_outcome.specs.Letter.{Letter}
 use Rattle.dsn_report.specs.Notice.{return_path_of}
@@ -10,7 +10,7 @@ use Rattle.dsn_postfix_notices.specs.declared.requests.pass_reason.PassReason.Th
 use Rattle.dsn_postfix_notices.specs.declared.requests.untold.Untold.{Untold}
 use Rattle.dsn_postfix_notices.specs.declared.requests.untold.Untold.TheVariants.{Failed, NoMemory, PassedOn}
 
--- a letter is handed in as its notice's mail data, for its return path
+-- a letter is submitted as its notice's mail data, for its return path
 abbrev pub hand_in_of : List ℕ → Letter → Result (List ℕ) HandInFault → Deed
 hand_in_of host letter answer = HandedIn (return_path_of letter) (mail_data host letter) answer
 
@@ -18,7 +18,7 @@ pub record IsNoticeAccepted (host : List ℕ) (letter : Letter) (deed : Deed) : 
   pub reply : List ℕ
   pub deed_is : deed ≡ hand_in_of host letter (Ok reply)
 
--- letters were handed in and accepted, each once, in their order, and nothing else was done
+-- exactly these letters were submitted and accepted, each once, in their order
 abbrev pub AreAccepted : List ℕ → List Letter → List Deed → Type 0
 AreAccepted host [] gained = gained ≡ []
 AreAccepted host (letter ∷ letters) [] = ⊥
@@ -29,19 +29,18 @@ abbrev pub is_first_after : List Letter → Bool
 is_first_after [] = true
 is_first_after (letter ∷ letters) = false
 
--- What the mail server refuses for good it refuses whenever it is asked. Only where that is a
--- request's first letter another service can tell all of it: once a letter was accepted, its sender would be told again.
+-- The mail server refuses for good what it would refuse at any time. The request is passed on only if that is its first
+-- letter: once a letter was accepted, another service would notify its sender again.
 abbrev pub refusal_of : Bool → HandInFault → Untold
 refusal_of first fault = if first && is_refused_for_good fault then PassedOn Refused else Failed
 
--- a letter, the first of its request or not, wasn't accepted: it was handed in all the same, unless the memory for its text
--- was refused
+-- a letter wasn't accepted: it was submitted, or memory for its text was refused
 pub data IsNotAccepted (host : List ℕ) (first : Bool) (letter : Letter) (why : Untold) (gained : List Deed) : Type 0 where
   refused : (fault : HandInFault) → why ≡ refusal_of first fault → gained ≡ hand_in_of host letter (Err fault) ∷ []
       → IsNotAccepted host first letter why gained
   no_memory : why ≡ NoMemory → gained ≡ [] → IsNotAccepted host first letter why gained
 
--- those before it were, and nothing was done after it
+-- the letters before one were accepted, this letter wasn't, and nothing was done after it
 pub record StopsAtLetter (host : List ℕ) (letters : List Letter) (why : Untold) (gained : List Deed) : Type 0 where
   pub before : List Letter
   pub stopped : Letter

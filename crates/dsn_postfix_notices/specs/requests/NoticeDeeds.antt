@@ -1,4 +1,5 @@
--- What is done for a request for notices: what is read, what is handed in, what is done after that, and what is answered.
+-- What is done for a request for notices: what is read, what is submitted, what is done after that, and what is
+-- answered.
 use Rattle.std.specs.Prelude.{◌≡◌, ℕ, Bool, true, false, List, [], ◌∷◌, ◌++◌, Result, Ok, Err, IsErr}
 use Rattle.dsn_outcome.specs.Letter.{Letter}
 use Rattle.dsn_text.specs.declared.service.Service.{Service}
@@ -13,8 +14,9 @@ use Rattle.dsn_postfix_notices.specs.declared.requests.pass_reason.PassReason.{P
 use Rattle.dsn_postfix_notices.specs.declared.requests.untold.Untold.{Untold}
 use Rattle.dsn_postfix_notices.specs.declared.requests.untold.Untold.TheVariants.{Failed, NoMemory, PassedOn}
 
--- The log and the message are read, and then their sender is told. Nothing is submitted before each notice is a letter; if one
--- can't be said, or there is no memory for one, nothing is at all. Once all letters are accepted, the rest follows.
+-- The log and the message are read, and then the message's sender is notified. Nothing is submitted before each notice
+-- has its letter. If one can't be expressed, or memory for one is refused, nothing is submitted. Once all letters are
+-- accepted, the rest follows.
 pub data Tells (task : Task) (telling : Result (Unit {0}) Untold) (gained : List Deed) : Type 0 where
   unread : telling ≡ Err Failed → FailsToRead task gained → Tells task telling gained
   no_memory : (found : MailRead) → telling ≡ Err NoMemory → gained ≡ readings task found → Tells task telling gained
@@ -28,14 +30,14 @@ pub data Tells (task : Task) (telling : Result (Unit {0}) Untold) (gained : List
       → AreAccepted task.terms.settings.host made taken
       → FinishesAt task found.log (places_done task found.log) telling rest → Tells task telling gained
 
--- a request is passed on whole where its notices can't be said, and where the first of them is refused for good
+-- a request is passed on whole if its notices can't be expressed, or if the first letter is refused for good
 abbrev pub EndsTelling : Service → List ℕ → Result (Unit {0}) Untold → RequestAnswer → List Deed → Type 0
 EndsTelling service bytes (Ok done) answer gained = (gained ≡ []) × (answer ≡ Ok carried_out)
 EndsTelling service bytes (Err Failed) answer gained = (gained ≡ []) × (answer ≡ Ok not_carried_out)
 EndsTelling service bytes (Err (PassedOn why)) answer gained = PassesOn service bytes answer gained
 EndsTelling service bytes (Err NoMemory) answer gained = (gained ≡ []) × IsErr answer
 
--- the log is released before Postfix's own service may want it
+-- the log is released before Postfix's own service may lock it
 pub record IsNotified (task : Task) (bytes : List ℕ) (answer : RequestAnswer) (gained : List Deed) : Type 0 where
   pub telling : Result (Unit {0}) Untold
   pub told : List Deed

@@ -1,4 +1,4 @@
--- What is true of each request that was carried out, at each moment of it.
+-- Laws of carried out requests, at each moment of one.
 use Rattle.std.specs.Prelude.{◌≡◌, ◌⊎◌, ℕ, Bool, true, false, List, [], ◌∷◌, ◌++◌, Some, Result, Ok, Err}
 use Rattle.dsn_outcome.specs.Letter.{Letter}
 use Rattle.dsn_text.specs.declared.service.Service.{Service}
@@ -21,7 +21,7 @@ use Rattle.dsn_postfix_notices.specs.requests.RequestStatus.{RequestAnswer, carr
 use Rattle.dsn_postfix_notices.specs.requests.Task.{Task}
 use Rattle.dsn_smtp.specs.declared.hand_in_fault.HandInFault.{HandInFault}
 
--- ---- what was handed in
+-- ---- what was submitted
 
 abbrev pub is_hand_in : Deed → Bool
 is_hand_in (LogSought service id answer) = false
@@ -38,7 +38,7 @@ abbrev pub onto_if : Bool → Deed → List Deed → List Deed
 onto_if true deed deeds = deed ∷ deeds
 onto_if false deed deeds = deeds
 
--- those of some deeds that hand in a notice, in their order
+-- the deeds that submit a notice, in their order
 abbrev pub hand_ins : List Deed → List Deed
 hand_ins [] = []
 hand_ins (deed ∷ deeds) = onto_if (is_hand_in deed) deed (hand_ins deeds)
@@ -47,13 +47,13 @@ pub record IsHandedIn (host : List ℕ) (letter : Letter) (deed : Deed) : Type 0
   pub answer : Result (List ℕ) HandInFault
   pub deed_is : deed ≡ hand_in_of host letter answer
 
--- letters were handed in, each once, in their order, whatever came of each
+-- letters were submitted, each once, in their order, whatever the results
 abbrev pub AreHandedIn : List ℕ → List Letter → List Deed → Type 0
 AreHandedIn host [] deeds = deeds ≡ []
 AreHandedIn host (letter ∷ letters) [] = ⊥
 AreHandedIn host (letter ∷ letters) (deed ∷ deeds) = IsHandedIn host letter deed × AreHandedIn host letters deeds
 
--- ---- of which requests
+-- ---- the requests
 
 -- a request for notices was carried out, with these deeds
 pub record IsTellingDone (task : Task) (bytes : List ℕ) (answer : RequestAnswer) (gained : List Deed) : Type 0 where
@@ -62,8 +62,8 @@ pub record IsTellingDone (task : Task) (bytes : List ℕ) (answer : RequestAnswe
 
 -- ---- the laws
 
--- The deeds begin with the reading of a log and a file. What they hand in is a front of the letters of the notices that the
--- request has of these: each letter at most once, in order.
+-- The deeds begin by reading a log and a file. They submit a prefix of the letters of the notices that the request has
+-- of these: each letter at most once, in order.
 pub record HandsInOnce (task : Task) (gained : List Deed) : Type 0 where
   pub found : MailRead
   pub more : List Deed
@@ -75,8 +75,8 @@ pub record HandsInOnce (task : Task) (gained : List Deed) : Type 0 where
   pub letters_are : letters ≡ front ++ rest
   pub each : AreHandedIn task.terms.settings.host front (hand_ins gained)
 
--- a log and a file were read, then all letters of the notices that the request has of these were accepted, and then its
--- recipients were marked as done, where it asks for that; these are all of the deeds
+-- A log and a file were read. Then all letters of the notices that the request has of these were accepted, and its
+-- recipients were marked as done if the request asks for that. These are all of the deeds.
 pub record AreAllTold (task : Task) (gained : List Deed) : Type 0 where
   pub found : MailRead
   pub letters : List Letter
@@ -87,7 +87,7 @@ pub record AreAllTold (task : Task) (gained : List Deed) : Type 0 where
   pub accepted : AreAccepted task.terms.settings.host letters handed
   pub marked : AreMarked task.notice (places_done task found.log) marks
 
--- all was told by the first of some deeds, and those after them hand in nothing
+-- the first deeds notified the sender of all, and those after them submit nothing
 pub record AreToldFirst (task : Task) (gained : List Deed) : Type 0 where
   pub first : List Deed
   pub after : List Deed
@@ -95,16 +95,16 @@ pub record AreToldFirst (task : Task) (gained : List Deed) : Type 0 where
   pub told : AreAllTold task first
   pub none_handed : hand_ins after ≡ []
 
--- a log that is removed is that of the request, and all was told before, unless the request asks by CLEAN that what failed
--- leaves no log: then nothing is done after it, and the answer isn't status 0
+-- A removed log is that of the request, and the sender was notified of all before. The exception is CLEAN after a
+-- failure: then nothing is done after the removal, and the answer isn't status 0.
 pub record IsRemovedAfter (task : Task) (answer : RequestAnswer) (before after : List Deed) (other : Service) (id : List ℕ) : Type 0 where
   pub of_service : other ≡ task.terms.service
   pub of_message : id ≡ task.notice.queue_id
   pub told : AreAllTold task before
       ⊎ ((must_clean task.request answer ≡ true) × (after ≡ []))
 
--- why notices of a log and a file are left to Postfix's own service, with what was tried: one can't be said, and nothing was
--- handed in; or the first letter was refused for good, and no other was handed in
+-- Why notices of a log and a file are left to Postfix's own service, and what was tried. Either one can't be expressed,
+-- and nothing was submitted; or the first letter was refused for good, and no other was submitted.
 pub data IsLeftOver (task : Task) (found : MailRead) (tried : List Deed) : Type 0 where
   unsayable : CantBeSaid task found → tried ≡ []
       → IsLeftOver task found tried
@@ -113,8 +113,8 @@ pub data IsLeftOver (task : Task) (found : MailRead) (tried : List Deed) : Type 
       → is_refused_for_good fault ≡ true → tried ≡ hand_in_of task.terms.settings.host letter (Err fault) ∷ []
       → IsLeftOver task found tried
 
--- a log and a file were read, none of the notices of these was accepted, and Postfix's own service answered 0 to the whole
--- request; these are all of the deeds
+-- A log and a file were read, no notice of these was accepted, and Postfix's own service answered 0 to the whole
+-- request. These are all of the deeds.
 pub record IsLeftToPostfix (task : Task) (bytes : List ℕ) (gained : List Deed) : Type 0 where
   pub found : MailRead
   pub tried : List Deed
@@ -129,14 +129,14 @@ bounce_task task first = record {
   notice = without_flags task.notice;
 }
 
--- what is carried out for a request on one log: itself on the service's own, or the flush of the bounce log that comes first
+-- a part of an answered request: itself on the service's own log, or the flush of the bounce log before it
 pub data IsTaskOf (task own : Task) : Type 0 where
   own_log : own ≡ task → IsTaskOf task own
   bounce_log : (first : PostfixRequest) → first_flush task.terms.service task.request ≡ Some first
       → own ≡ bounce_task task first → IsTaskOf task own
 
--- The log that is removed is one of the request's. The deeds on it follow some earlier ones, and it is removed after them as by
--- a request that is carried out on it alone.
+-- The removed log is one of the request's. Its deeds follow some earlier ones, and end with the removal as in a request
+-- that is carried out on that log alone.
 pub record IsRemovedInTurn (task : Task) (answer : RequestAnswer) (before after : List Deed) (log : Service) (id : List ℕ) : Type 0 where
   pub earlier : List Deed
   pub own : List Deed
@@ -145,7 +145,7 @@ pub record IsRemovedInTurn (task : Task) (answer : RequestAnswer) (before after 
   pub task_is : IsTaskOf task own_task
   pub removed : IsRemovedAfter own_task answer own after log id
 
--- a bounce log was found, and the deeds after that hand in the notices of its flush
+-- a bounce log was found, and the deeds after that submit the notices of its flush
 pub record HandsInOfBounceLog (task : Task) (gained : List Deed) : Type 0 where
   pub first : PostfixRequest
   pub first_is : first_flush task.terms.service task.request ≡ Some first
@@ -153,7 +153,7 @@ pub record HandsInOfBounceLog (task : Task) (gained : List Deed) : Type 0 where
   pub gained_are : gained ≡ LogSought Bounce (queue_id_of first) (Ok true) ∷ own
   pub once : HandsInOnce (bounce_task task first) own
 
--- first notices of the bounce log are handed in, if any, and then those of the service's own log
+-- the notices of the bounce log are submitted first, if there are any, and then those of the service's own log
 pub record HandsInInTurn (task : Task) (gained : List Deed) : Type 0 where
   pub first : List Deed
   pub rest : List Deed
@@ -161,8 +161,8 @@ pub record HandsInInTurn (task : Task) (gained : List Deed) : Type 0 where
   pub of_bounce_log : (hand_ins first ≡ []) ⊎ HandsInOfBounceLog task first
   pub of_own_log : (hand_ins rest ≡ []) ⊎ HandsInOnce task rest
 
--- First the flush of the bounce log was carried out on that log alone: all of its notices were accepted, or none, and
--- Postfix's own service answered 0 to that flush. Only then was anything done on the defer log.
+-- First the flush of the bounce log was carried out on that log alone. Either all of its notices were accepted; or no
+-- notice was, and Postfix's own service answered 0 to that flush. Only then was anything done on the defer log.
 pub record IsToldFirst (task : Task) (flush : PostfixRequest) (bytes : List ℕ) (deeds : List Deed) : Type 0 where
   pub first : List Deed
   pub rest : List Deed
@@ -174,7 +174,7 @@ pub record IsToldFirst (task : Task) (flush : PostfixRequest) (bytes : List ℕ)
       ⊎ IsLeftToPostfix (bounce_task task flush) own_bytes first
   pub defer_log : IsCarriedOut task.terms task.request bytes (Ok carried_out) rest
 
--- an append that is answered 0 stands in its log, or Postfix's own service answered 0 to it
+-- an append that is answered 0 is in its log, or Postfix's own service answered 0 to it
 abbrev pub StandsOrIsPassedOn : Service → AppendRequest → List ℕ → List Deed → Type 0
 StandsOrIsPassedOn service request bytes gained =
     (gained ≡ Appended service request.queue_id (record_bytes service request) (Ok tt) ∷ [])

@@ -1,4 +1,5 @@
--- The letters of a request for notices, made of what was read for it, and which recipients are marked as done after them.
+-- The letters of a request for notices, made of what was read for it, and which recipients are marked as done after
+-- them.
 use Rattle.std.specs.List.{flat_map, list_any}
 use Rattle.std.specs.Option.{is_some, unwrap_or}
 use Rattle.std.specs.Prelude.{◌≡◌, ℕ, ◌+◌, ◌%◌, ◌^◌, nat_lt, Bool, true, false, ◌&&◌, not, List, [], ◌∷◌, Option, Some, None, Result, Ok, Err, if◌then◌else◌}
@@ -25,8 +26,8 @@ use Rattle.dsn_postfix_notices.specs.requests.Task.{Task}
 
 -- ---- what notices say of the message
 
--- When it came, its sender and its text are the file's to say. Its envelope id is the request's, as is a sender that the
--- file doesn't say.
+-- The file gives the arrival, the sender and the text. The request gives the envelope id, and the sender if the file
+-- doesn't.
 abbrev pub message_said : Task → List PlacedBytes → MessageSaid
 message_said task records = record {
   queue_id = task.notice.queue_id;
@@ -40,11 +41,11 @@ message_said task records = record {
 
 -- ---- letters
 
--- a letter's serial follows that of the one before it; after 2^64 - 1 they begin again with 0
+-- a letter's serial follows that of the one before it; after 2^64 - 1 comes 0
 abbrev pub next_serial : ℕ → ℕ
 next_serial serial = (serial + 1) % 2 ^ 64
 
--- a letter is that of a notice, which can be said
+-- a letter is that of a notice without a fault
 pub record IsSaidLetter (message : MessageSaid) (moment serial : ℕ) (notice : NoticeFacts) (letter : Letter) : Type 0 where
   pub arrival : ℕ
   pub sayable : first_letter_fault message notice ≡ None
@@ -67,12 +68,12 @@ pub record AreLettersAsked (task : Task) (found : MailRead) (letters : List Lett
       found.log ≡ Ok notices
   pub each : AreLettersOf (message_said task records) task.terms.moment task.terms.serial notices letters
 
--- ---- what no letter says
+-- ---- what no letter expresses
 
 abbrev pub has_fault : MessageSaid → NoticeFacts → Bool
 has_fault message notice = is_some (first_letter_fault message notice)
 
--- there is no plan, or one of its notices is no letter
+-- there is no plan, or no letter can be made of one of its notices
 abbrev pub IsUnsaid : MessageSaid → Result (List NoticeFacts) CantSay → Type 0
 IsUnsaid message (Ok notices) = list_any (has_fault message) notices ≡ true
 IsUnsaid message (Err reason) = Unit {0}
@@ -84,7 +85,7 @@ pub record CantBeSaid (task : Task) (found : MailRead) : Type 0 where
   pub unsaid : IsUnsaid (message_said task records)
       (notices_of task.terms.settings.double_bounce task.terms.service task.request (recipients_of records) found.log)
 
--- ---- who is done after them
+-- ---- recipients that are done after them
 
 abbrev pub place_if_known : ℕ → List ℕ
 place_if_known place = if nat_lt 0 place then place ∷ [] else []
@@ -97,7 +98,7 @@ abbrev pub places_in_log : Service → Option (List ℕ) → List ℕ
 places_in_log service None = []
 places_in_log service (Some log) = flat_map place_of_entry (log_entries service log)
 
--- the places of the recipients of whom a request tells: those of its log, or the one that it names
+-- the places of the recipients that a request reports: those of its log, or the one that it names
 abbrev pub places_named : Service → PostfixRequest → Option (List ℕ) → List ℕ
 places_named service (Append append) log = []
 places_named service (Flush notice) log = places_in_log service log
@@ -106,14 +107,14 @@ places_named service (Verp notice delimiters) log = places_in_log service log
 places_named service (One notice recipient report) log = place_if_known recipient.offset
 places_named service (Trace notice) log = places_in_log service log
 
--- Delivery agents mark the recipients of a bounce log as soon as they are logged. Another recipient of an alias may have the
--- same record, and would count as done if it were marked for them.
+-- Delivery agents mark the recipients of a bounce log as soon as they are logged. Another recipient of an alias may
+-- have the same record, and would count as done if it were marked for them.
 abbrev pub is_bounce_log : Service → Bool
 is_bounce_log Bounce = true
 is_bounce_log Defer = false
 is_bounce_log TraceLog = false
 
--- they are marked as done where the request asks for that by DELRCPT
+-- recipients are marked as done if the request asks for that by DELRCPT
 abbrev pub marks_done : Task → Bool
 marks_done task = marks_recipients task.notice && not (is_bounce_log task.terms.service && tells_of_log task.request)
 

@@ -1,18 +1,18 @@
--- What answers a request: a status, 0 where it was carried out, or want of memory.
+-- The answer to a request: a status, which is 0 if it was carried out, or lack of memory.
 use Rattle.std.specs.Prelude.{◌≡◌, ◌==◌, ℕ, Bool, false, List, [], ◌∷◌, Result, Ok, Err}
 use Rattle.dsn_text.specs.declared.no_memory.NoMemory.{NoMemory}
 use Rattle.dsn_text.specs.declared.service.Service.{Service}
 use Rattle.dsn_postfix_notices.specs.declared.requests.deed_fault.DeedFault.{DeedFault}
 use Rattle.dsn_postfix_notices.specs.requests.Deed.{Answer, Deed, PassedOn}
 
--- a request is answered by a status, or that the memory for it was refused
+-- a request is answered by a status, or memory for it was refused
 abbrev pub RequestAnswer : Type 0
 RequestAnswer = Result ℕ NoMemory
 
 abbrev pub carried_out : ℕ
 carried_out = 0
 
--- bounce(8) says -1, which a client reads so
+-- the -1 of bounce(8), as a client reads it
 abbrev pub not_carried_out : ℕ
 not_carried_out = 4294967295
 
@@ -20,12 +20,12 @@ abbrev pub is_carried_out : RequestAnswer → Bool
 is_carried_out (Ok status) = status == carried_out
 is_carried_out (Err refused) = false
 
--- the status after one deed that decides
+-- the status of a request that is one deed
 abbrev pub status_after : Answer → ℕ
 status_after (Ok done) = carried_out
 status_after (Err fault) = not_carried_out
 
--- the status that Postfix's own service answered
+-- the status that Postfix's own service answered, or `not_carried_out` if it answered no status
 abbrev pub status_passed_on : Result ℕ DeedFault → ℕ
 status_passed_on (Ok status) = status
 status_passed_on (Err fault) = not_carried_out

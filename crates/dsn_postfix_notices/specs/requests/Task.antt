@@ -1,10 +1,10 @@
--- What a request is answered on: the terms of a call, and a request for notices with them.
+-- What the answer to a request depends on: the terms of a call, and a request for notices with them.
 use Rattle.std.specs.Prelude.{ℕ, List}
 use Rattle.dsn_text.specs.declared.service.Service.{Service}
 use Rattle.dsn_postfix.specs.declared.postfix_request.NoticeRequest.{NoticeRequest}
 use Rattle.dsn_postfix.specs.declared.postfix_request.PostfixRequest.{PostfixRequest}
 
--- what notices say of the mail system that they come from
+-- the settings of the mail system that notices depend on
 pub record SettingsSaid : Type 0 where
   pub host : List ℕ
   pub double_bounce : List ℕ
@@ -18,7 +18,7 @@ pub record Terms : Type 0 where
   pub moment : ℕ
   pub serial : ℕ
 
--- `notice` is the part of the request that says what the notices are about
+-- `notice` is the part of the request that describes the message
 pub record Task : Type 0 where
   pub terms : Terms
   pub request : PostfixRequest

@@ -1,4 +1,4 @@
-//! Why a planned notice is no letter, so that Postfix's own service has to make it.
+//! Why no letter can be made of a planned notice. Postfix's own service then makes the notice.
 //! Implements docs/FORMATS.md, "The notice of a Postfix log".
 ghost use Rattle.std.specs.Prelude.{◌≡◌};
 
@@ -9,23 +9,22 @@ use thiserror::Error;
 /// Why no letter can be made of a planned notice.
 #[derive(Clone, Copy, Debug, Drop, PartialEq, Eq, Error)]
 pub enum LetterFault {
-    /// It tells of nobody, or of more than 1,000 recipients.
+    /// It reports no recipient, or more than 1,000.
     #[error("nobody, or more than 1,000 recipients")]
     Count,
-    /// The queue file doesn't say when the message came, or says a moment after the year 9999.
+    /// The queue file doesn't say when the message arrived, or says a time after the year 9999.
     #[error("it is unknown when the message came")]
     Arrival,
-    /// The address that it goes to stands in SMTP only with quotes around its local part (RFC 5321
-    /// section 4.1.2).
+    /// The local part of the address that it goes to needs quotes in SMTP (RFC 5321 section 4.1.2).
     #[error("the address of the notice needs quotes")]
     Quotes,
-    /// What it says of the message is no draft.
+    /// What it says of the message is not a valid draft.
     #[error("{0}")]
     Draft(DraftFault),
-    /// The name of a remote system is of another type than `dns`.
+    /// The name of a remote system has another type than `dns`.
     #[error("the name of a remote system that isn't of the type dns")]
     RemoteType,
-    /// What it says of a recipient is no outcome.
+    /// What it says of a recipient is not a valid outcome.
     #[error("{0}")]
     Outcome(OutcomeFault),
     /// Memory was refused.

@@ -12,10 +12,12 @@ use dsn_postfix::{PlannedNotice, ReturnedPart, needs_no_quotes};
 use dsn_postfix_files::header_of_message;
 use std::alloc::{AllocError, Global};
 
-/// The longest sender that an extension field says, in bytes: its value is at most 255 with `rfc822; `.
+/// The longest sender in an extension field, in bytes. With `rfc822; ` in front, the field's value
+/// has at most 255 bytes.
 const LONGEST_SENDER: usize = 247;
 
-/// Until when delivery is tried, where a notice of that kind says so.
+/// The moment until which delivery is tried, if a notice of this service reports it. Returns `None`
+/// if that moment is after the year 9999.
 pub(super) fn tried_until(service: Service, arrival: Stamp, lifetime: u32) -> Option<Stamp>
     ensures { result ≡ tried_until service arrival lifetime }
 {
@@ -25,7 +27,7 @@ pub(super) fn tried_until(service: Service, arrival: Stamp, lifetime: u32) -> Op
     }
 }
 
-/// Adds a field of this name, which ends with what stands before its value.
+/// Adds a field. `name` includes the separator before the value.
 fn push_field(fields: &mut Vec<u8>, name: &[u8], value: &[u8]) -> Result<(), AllocError>
     ensures { OnOk result (fields.new.items ≡ fields.old.items
         ++ (name.now ++ (value.now ++ codes "\n"))) }
@@ -36,14 +38,14 @@ fn push_field(fields: &mut Vec<u8>, name: &[u8], value: &[u8]) -> Result<(), All
     Ok(())
 }
 
-/// Whether a sender is an address and has room in an extension field.
+/// Whether a sender is a valid address that fits in an extension field.
 fn is_said_sender(sender: &[u8]) -> bool
     ensures { result ≡ is_said_sender sender.now }
 {
     Address::is_valid(sender) && sender.len() <= LONGEST_SENDER
 }
 
-/// Adds the field of a message's sender, where it can be said.
+/// Adds the field of a message's sender, if that is a valid address that fits.
 fn push_sender(fields: &mut Vec<u8>, sender: &[u8]) -> Result<(), AllocError>
     ensures { OnOk result (fields.new.items ≡ fields.old.items ++ sender_field sender.now) }
 {
@@ -53,7 +55,7 @@ fn push_sender(fields: &mut Vec<u8>, sender: &[u8]) -> Result<(), AllocError>
     push_field(fields, b"X-Postfix-Sender: rfc822; ", sender)
 }
 
-/// The fields that Postfix adds to those of a message as a whole.
+/// The fields that Postfix adds to those about the message as a whole.
 fn postfix_fields(alloc: Global, queue_id: &[u8], sender: &[u8]) -> Result<Vec<u8>, AllocError>
     ensures { IfOk result (λ fields. fields.items ≡ postfix_fields queue_id.now sender.now) }
 {
@@ -63,32 +65,33 @@ fn postfix_fields(alloc: Global, queue_id: &[u8], sender: &[u8]) -> Result<Vec<u
     Ok(fields)
 }
 
-/// Whether a message goes back whole, where at most so many bytes do.
+/// Whether a message is returned whole; `size_limit` is in bytes.
 fn is_returned_whole(part: ReturnedPart, size_limit: u32, text: &[u8]) -> bool
     ensures { result ≡ is_returned_whole part size_limit text.now }
 {
     match part {
-        // The text is counted; bounce(8) counts the queue file.
+        // This counts the text; bounce(8) counts the queue file.
         ReturnedPart::Whole => text.len() <= size_limit as usize && text.len() <= LONGEST_HEADER,
         ReturnedPart::Header => false,
     }
 }
 
-/// What goes back of a message.
+/// The part of a message that is returned.
 fn returned_text(whole: bool, text: &[u8]) -> &[u8]
     ensures { result.now ≡ returned_text whole text.now }
 {
     if whole { text } else { header_of_message(text) }
 }
 
-/// What the header field of the draft holds.
+/// What the draft's `header` field holds.
 fn returned_as(whole: bool) -> Returned
     ensures { result ≡ returned_as whole }
 {
     if whole { Returned::Message } else { Returned::Header }
 }
 
-/// The draft of a planned notice.
+/// Makes the draft of a planned notice. Returns `Quotes` if its address needs quotes in SMTP,
+/// `Draft` if a field is not valid, and `NoMemory` if memory was refused.
 #[tactic(auto, using(crate::proofs::LetterLemmas::some_address))]
 pub(super) fn draft_told(
     alloc: Global,

@@ -17,7 +17,8 @@ use dsn_postfix::PlannedNotice;
 use dsn_postfix_files::LogRecord;
 use std::alloc::Global;
 
-/// The outcomes that a notice of a service tells of some records, in their order.
+/// The outcomes that a notice of a service reports for records, in their order. Requires at most
+/// 1,000 records.
 fn outcomes_told(
     alloc: Global,
     service: Service,
@@ -41,9 +42,10 @@ fn outcomes_told(
     Ok(chain)
 }
 
-/// The letter of a planned notice about a message, made at a moment; the serial, which stands in its
-/// Message-ID, is the caller's. Its faults are tested in the order of [`LetterFault`]'s variants.
-/// `NoMemory` comes only where memory was refused, and then also before a later fault.
+/// Makes the letter of a planned notice about a message, at `moment`. The caller chooses the
+/// serial, which is a part of the Message-ID.
+/// Tests for faults in the order of [`LetterFault`]'s variants; the last two are tested record by
+/// record. Returns `NoMemory` only if memory was refused, and then also before a later fault.
 #[tactic(auto, using(crate::proofs::LetterLemmas::told_of_service))]
 pub fn letter_of_notice(
     alloc: Global,

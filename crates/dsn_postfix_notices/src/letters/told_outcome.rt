@@ -1,7 +1,7 @@
-//! The outcome that a notice tells of a log's record.
+//! The outcome that a notice reports for a log's record.
 //! Implements docs/FORMATS.md, "The notice of a Postfix log".
 //! If a text can't be reported as it is, Postfix's own service makes the notice: a cleaned address
-//! would name somebody else. Only a remark, as a reason, is cut.
+//! would name another recipient. Only a diagnostic or a reason is cut.
 ghost use Rattle.std.specs.Prelude.{◌≡◌, ◌≤◌, length, take, IfErr, IfOk, OnOk, None};
 ghost use Rattle.std.specs.List.{after_first, before_first, position_or_len};
 ghost use Rattle.dsn_postfix_files.specs.LogRecord.{logged_fields_in};
@@ -15,28 +15,28 @@ use dsn_outcome::{Action, LONGEST_CLEAN, Node, Outcome, Parts, Service, Stamp, T
 use dsn_postfix_files::LogRecord;
 use std::alloc::Global;
 
-/// A text with its type; an empty type is the usual one.
+/// A text with its type; an empty type means the usual one.
 #[derive(Clone, Copy)]
 struct TypedText<'a> {
     kind: &'a [u8],
     text: &'a [u8],
 }
 
-/// The first so many bytes of a text, or all of it.
+/// The first `most` bytes of a text, or all of a shorter text.
 fn first_bytes(most: usize, text: &[u8]) -> &[u8]
     ensures { result.now ≡ take most text.now }
 {
     &text[..most.min(text.len())]
 }
 
-/// The front of a text that has room in an outcome.
+/// The front of a text that fits in an outcome.
 fn cut_short(text: &[u8]) -> &[u8]
     ensures { result.now ≡ take longest_clean text.now }
 {
     first_bytes(LONGEST_CLEAN, text)
 }
 
-/// The place of the first semicolon, or the length of a text without one.
+/// The index of the first semicolon, or the length of a text without one.
 fn semicolon_place(text: &[u8]) -> usize
     ensures place { result ≡ position_or_len is_semicolon text.now }
     ensures within { result ≤ length text.now }
@@ -46,7 +46,7 @@ fn semicolon_place(text: &[u8]) -> usize
         .unwrap_or(text.len())
 }
 
-/// What stands before the first semicolon, and what after it.
+/// The parts before and after the first semicolon. A text without one is all `kind`.
 fn parted_at_semicolon(text: &[u8]) -> TypedText<'_>
     ensures kind { result.kind.now ≡ before_first is_semicolon text.now }
     ensures text { result.text.now ≡ after_first is_semicolon text.now }
@@ -65,7 +65,8 @@ fn parted_at_semicolon(text: &[u8]) -> TypedText<'_>
     }
 }
 
-/// The original recipient with its type.
+/// The original recipient with its type: `said` split at its semicolon, or `rewritten` if `said` is
+/// empty.
 fn original_said<'a>(said: &'a [u8], rewritten: &'a [u8]) -> TypedText<'a>
     ensures kind { result.kind.now ≡ (original_said said.now rewritten.now).kind }
     ensures text { result.text.now ≡ (original_said said.now rewritten.now).text }
@@ -80,23 +81,24 @@ fn original_said<'a>(said: &'a [u8], rewritten: &'a [u8]) -> TypedText<'a>
     }
 }
 
-/// Whether a type of address is the usual one, which an empty type stands for.
+/// Whether a type of address is the usual one, which is empty or `rfc822`.
 fn is_usual_type(kind: &[u8]) -> bool
     ensures { result ≡ is_usual_type kind.now }
 {
     kind.is_empty() || kind.eq_ignore_ascii_case(b"rfc822")
 }
 
-/// An original recipient, unless it is the final one: the notice says that one anyway.
+/// An original recipient, or an empty one if it is the final recipient, which the notice names
+/// anyway.
 fn unless_final<'a>(recipient: &[u8], original: TypedText<'a>) -> TypedText<'a>
     ensures kind { result.kind.now ≡ (unless_final recipient.now
         (record { kind = original.entry.kind.now; text = original.entry.text.now })).kind }
     ensures text { result.text.now ≡ (unless_final recipient.now
         (record { kind = original.entry.kind.now; text = original.entry.text.now })).text }
 {
-    // RFC 3461 wants it if the sender gave ORCPT, but without that smtpd(8) writes down the address
-    // of RCPT too. Readers that begin a recipient at Final-Recipient, as bounce(8) does, would give
-    // it to the one before.
+    // RFC 3461 wants it if the sender gave ORCPT, but without ORCPT smtpd(8) logs the address of
+    // RCPT too. Readers that begin a recipient at Final-Recipient, as bounce(8) does, would assign
+    // it to the recipient before.
     if is_usual_type(original.kind) && original.text == recipient {
         return TypedText {
             kind: b"",
@@ -106,7 +108,7 @@ fn unless_final<'a>(recipient: &[u8], original: TypedText<'a>) -> TypedText<'a>
     original
 }
 
-/// The original recipient that a notice says of a record.
+/// The original recipient that a notice reports for a record.
 fn original_told<'a>(found: &LogRecord<'a>) -> TypedText<'a>
     ensures kind { result.kind.now ≡ (original_told (logged_fields_in found.now)).kind }
     ensures text { result.text.now ≡ (original_told (logged_fields_in found.now)).text }
@@ -115,7 +117,7 @@ fn original_told<'a>(found: &LogRecord<'a>) -> TypedText<'a>
     unless_final(found.recipient, original)
 }
 
-/// The diagnostic with its type, or the mail system's own reason in its place.
+/// The diagnostic with its type, or the mail system's own reason if the type or the text is empty.
 fn diagnostic_said<'a>(kind: &'a [u8], text: &'a [u8], reason: &'a [u8]) -> TypedText<'a>
     ensures kind { result.kind.now ≡ (diagnostic_said kind.now text.now reason.now).kind }
     ensures text { result.text.now ≡ (diagnostic_said kind.now text.now reason.now).text }
@@ -132,7 +134,7 @@ fn diagnostic_said<'a>(kind: &'a [u8], text: &'a [u8], reason: &'a [u8]) -> Type
     }
 }
 
-/// The byte of the action that a word names, or 0.
+/// The byte of the action that a word names, or 0 if it names no action.
 fn action_said(word: &[u8]) -> u8
     ensures { result ≡ action_said word.now }
 {
@@ -142,15 +144,18 @@ fn action_said(word: &[u8]) -> u8
     }
 }
 
-/// Whether a remote system's name is of the type that a notice says of it.
+/// Whether a remote system's name is absent or of the type `dns`, the only one that a notice
+/// reports.
 fn is_remote_type(kind: &[u8], name: &[u8]) -> bool
     ensures { result ≡ is_remote_type kind.now name.now }
 {
     name.is_empty() || kind.eq_ignore_ascii_case(b"dns")
 }
 
-/// The outcome that a notice of a service tells of a record, where delivery is tried until that
-/// moment.
+/// Makes the outcome that a notice of `service` reports for a record. `until` is the moment until
+/// which delivery is tried.
+/// Returns `RemoteType` if a remote system's name has another type than `dns`, `Outcome` if a field
+/// is not valid, and `NoMemory` if memory was refused.
 #[tactic(auto, using(crate::proofs::LetterLemmas::outcome_fault_is, crate::proofs::LetterLemmas::outcome_is))]
 pub(super) fn outcome_told(
     alloc: Global,

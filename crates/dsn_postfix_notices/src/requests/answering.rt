@@ -1,5 +1,5 @@
-//! Answering one request of Postfix's programs: the bounce log of a message is told before its
-//! defer log.
+//! Answers one request of Postfix's programs. A message's bounce log is flushed before its defer
+//! log.
 //! Implements docs/FORMATS.md, "A connection".
 ghost use Rattle.std.specs.Prelude.{◌≡◌};
 ghost use Rattle.dsn_postfix_notices.specs.requests.AnsweredRequest.{FlushesBounceLog, IsAnswered, IsBounceLogTold, IsFlushedInTurn, bounce_flush, bounce_terms, first_flush, without_flags};
@@ -13,7 +13,7 @@ use dsn_postfix::{NoticeRequest, PostfixRequest, encode_postfix_request};
 use dsn_text::{NoMemory, Service};
 use std::alloc::Global;
 
-/// How far apart the serials of a request's two logs begin.
+/// The distance between the first serials of a request's two logs.
 const SERIALS_OF_LOG: u64 = 500_000;
 
 /// What a request says of its message, without CLEAN and DELRCPT.
@@ -21,8 +21,8 @@ fn without_flags<'a>(notice: &NoticeRequest<'a>) -> NoticeRequest<'a>
     ensures { result ≡ without_flags notice.now }
 {
     NoticeRequest {
-        // CLEAN and DELRCPT are about the log that is named. Postfix sets DELRCPT on each flush of
-        // a defer log.
+        // CLEAN and DELRCPT apply to the log that is named. Postfix sets DELRCPT on each flush of a
+        // defer log.
         flags: notice.flags / 4 * 4,
         queue_name: notice.queue_name.lent(),
         queue_id: notice.queue_id,
@@ -35,7 +35,8 @@ fn without_flags<'a>(notice: &NoticeRequest<'a>) -> NoticeRequest<'a>
     }
 }
 
-/// The flush of its message's bounce log that a flush asks for: its CLEAN and DELRCPT are about the log that it names.
+/// The flush of the same message's bounce log, if the request is a flush. It has no CLEAN and no
+/// DELRCPT, which apply to the named log.
 fn bounce_flush<'a>(request: &PostfixRequest<'a>) -> Option<PostfixRequest<'a>>
     ensures { result ≡ bounce_flush request.now }
 {
@@ -51,7 +52,7 @@ fn bounce_flush<'a>(request: &PostfixRequest<'a>) -> Option<PostfixRequest<'a>>
     }
 }
 
-/// The flush that comes before a request, if one does.
+/// The flush that precedes a request, if there is one.
 fn first_flush<'a>(
     terms: &RequestTerms<'_>,
     request: &PostfixRequest<'a>,
@@ -64,7 +65,7 @@ fn first_flush<'a>(
     }
 }
 
-/// The terms of the flush of a bounce log that comes before a request on these.
+/// The terms of the flush of a bounce log that precedes a request on `terms`.
 fn bounce_terms<'a>(terms: &RequestTerms<'a>) -> RequestTerms<'a>
     ensures { result ≡ bounce_terms terms.now }
 {
@@ -76,7 +77,8 @@ fn bounce_terms<'a>(terms: &RequestTerms<'a>) -> RequestTerms<'a>
     }
 }
 
-/// Carries out the flush of a bounce log that was found, by the bytes of that flush.
+/// Carries out the flush of a bounce log that was found. If it is passed on, then with the bytes of
+/// this flush. Returns `NoMemory`, without any deed, if memory for these was refused.
 fn flush_bounce_log<M: MailSystem>(
     alloc: Global,
     terms: &RequestTerms<'_>,
@@ -92,7 +94,7 @@ fn flush_bounce_log<M: MailSystem>(
     }
 }
 
-/// Asks whether a message has a bounce log, and if so, carries out the flush of that log.
+/// Looks for a message's bounce log, and carries out its flush if there is one.
 fn tell_bounce_log<M: MailSystem>(
     alloc: Global,
     terms: &RequestTerms<'_>,
@@ -109,7 +111,8 @@ fn tell_bounce_log<M: MailSystem>(
     }
 }
 
-/// Flushes the bounce log of a message, if it has one, and only then carries out a request on the log of its service.
+/// Flushes the bounce log of a message, if it has one. Carries out the request on the log of its
+/// service only after that succeeded.
 fn flush_in_turn<M: MailSystem>(
     alloc: Global,
     terms: &RequestTerms<'_>,
@@ -128,27 +131,29 @@ fn flush_in_turn<M: MailSystem>(
     carry_out(alloc, terms, request, bytes, system)
 }
 
-/// Carries out one request to a service of Postfix's programs, and says the status that answers it:
-/// 0 where it was carried out, and 4,294,967,295 where it wasn't, or the one that Postfix's own
-/// service of that name answered, where the request was passed on to it. There is no status only
-/// where the memory for a record, a letter, its text or for who is marked was refused. Where the
-/// system has no memory for what it gives, that is a failure like others.
+/// Carries out one request to a service of Postfix's programs. Returns the status that answers it:
+/// 0 if it was carried out, and 4,294,967,295 if it wasn't. If the request was passed on, returns
+/// the status that Postfix's own service of that name answered.
+/// Returns `NoMemory` only if memory was refused for a record, for letters or a letter's text, for
+/// the places to mark, or for the bytes of a bounce log's flush. A
+/// [`DeedFault::NoMemory`](crate::DeedFault) of the system gives status 4,294,967,295, as its other
+/// faults do.
 ///
-/// An append puts its record at the end of the log. All others tell the message's sender: what they
-/// tell of is read, all letters are made, and only then is one handed in; once all are accepted,
-/// recipients are marked as done where the request asks for that, and the log is removed, unless
-/// the request is a warning. What can't be said is passed on, and so is a request whose first
-/// letter is refused for good. A request with CLEAN has its log removed unless the status is 0, also
-/// where there is none.
+/// An append adds its record to the end of the log. Every other request notifies the message's
+/// sender. It reads its log, if it has one, and the message, makes all letters, and only then
+/// submits the first. Once all are accepted, it marks recipients as done if the request asks for
+/// that. Then it removes the log that it read, unless the request is a warning. A request is passed
+/// on if it can't be expressed, or if its first letter is refused for good. If a request with CLEAN
+/// isn't answered 0, its log is removed; a log that doesn't exist counts as removed.
 ///
 /// Before a message's defer log is flushed, its bounce log is, if it has one. Postfix removes a
-/// message whose defer log was flushed, and the recipients of a bounce log that is left then would
-/// never be told of. So the same request is carried out on the bounce log first, with serials that
-/// begin 500,000 later: the letters of both are of one kind. Where that isn't answered 0, this is the answer,
-/// and the defer log is left as it is. Where it can't be known whether there is a bounce log, the
-/// status is 4,294,967,295, and nothing is done, also with CLEAN.
+/// message once its defer log is flushed, and nobody would then be notified of a bounce log that is
+/// left. So the same request is carried out on the bounce log first, with serials that begin
+/// 500,000 later, since the letters of both logs are of one kind. If that isn't answered 0, this is
+/// the answer, and the defer log is left as it is. If it can't be known whether there is a bounce
+/// log, the status is 4,294,967,295 and nothing is done, even with CLEAN.
 ///
-/// `bytes` are those of the request, in which it is passed on.
+/// `bytes` are the request's own bytes, which are passed on.
 pub fn answer_request<M: MailSystem>(
     alloc: Global,
     terms: &RequestTerms<'_>,

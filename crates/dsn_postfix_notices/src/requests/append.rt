@@ -1,4 +1,4 @@
-//! A request to log what became of a recipient.
+//! A request to log the outcome of a recipient.
 //! Implements docs/FORMATS.md, "A connection".
 ghost use Rattle.std.specs.Prelude.{◌≡◌};
 ghost use Rattle.dsn_postfix_notices.specs.requests.AppendDeeds.{IsAppended};
@@ -11,9 +11,9 @@ use dsn_postfix::{AppendRequest, logged_as};
 use dsn_text::{NoMemory, Service};
 use std::alloc::Global;
 
-/// Puts the record that an append becomes at the end of the service's log, and says the status. A
-/// record that no line can say is passed on to Postfix's own service. Nothing is done only where
-/// the memory for the record was refused.
+/// Adds the record of an append to the end of the service's log, and returns the status. If no log
+/// line can express the record, passes the request on to Postfix's own service. Returns `NoMemory`,
+/// without any deed, if memory for the record was refused.
 pub(super) fn append<M: MailSystem>(
     alloc: Global,
     service: Service,

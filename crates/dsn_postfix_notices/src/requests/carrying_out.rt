@@ -29,7 +29,7 @@ pub fn queue_id_of(request: &PostfixRequest<'_>) -> QueueId
     }
 }
 
-/// Whether this answers a request that was carried out.
+/// Whether an answer says that the request was carried out.
 pub(super) fn is_carried_out(answer: &Result<u32, NoMemory>) -> bool
     ensures { result ≡ is_carried_out answer.now }
 {
@@ -39,7 +39,8 @@ pub(super) fn is_carried_out(answer: &Result<u32, NoMemory>) -> bool
     }
 }
 
-/// Whether a request that is answered so asks that its log be removed.
+/// Whether the request's log must be removed after this answer: the request has CLEAN, and the
+/// answer isn't 0.
 fn must_clean(request: &PostfixRequest<'_>, answer: &Result<u32, NoMemory>) -> bool
     ensures { result ≡ must_clean request.now answer.now }
 {
@@ -56,13 +57,13 @@ fn clean<M: MailSystem>(
     ensures { Gains M.deeds system.old system.new (Cleans terms.now.service request.now due) }
 {
     if due {
-        // Postfix's own service will have removed it by now; a log that isn't there counts as
-        // removed.
+        // If the request was passed on, Postfix's own service may have removed the log already. A
+        // log that doesn't exist counts as removed.
         let _ = system.remove_log(terms.service, queue_id_of(request));
     }
 }
 
-/// Does what a request asks, and says the status, or that memory was refused.
+/// Does what a request asks, except CLEAN. Returns the status, or `NoMemory`.
 fn do_asked<M: MailSystem>(
     alloc: Global,
     terms: &RequestTerms<'_>,
@@ -92,8 +93,8 @@ fn do_asked<M: MailSystem>(
     }
 }
 
-/// Does what a request asks, and then what CLEAN asks, on the log of one service. Says the status
-/// that answers it, or that memory was refused.
+/// Does what a request asks on the log of one service, and then what CLEAN asks. Returns the status
+/// that answers it, or `NoMemory`.
 pub(super) fn carry_out<M: MailSystem>(
     alloc: Global,
     terms: &RequestTerms<'_>,

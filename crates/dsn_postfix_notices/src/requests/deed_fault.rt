@@ -1,13 +1,13 @@
-//! Why something outside of the service wasn't done.
+//! Why a deed outside of the service failed.
 use thiserror::Error;
 
-/// Why a deed wasn't done.
+/// Why a deed failed.
 #[derive(Clone, Copy, Debug, Drop, PartialEq, Eq, Error)]
 pub enum DeedFault {
-    /// The file system, or the other service, failed or refused.
+    /// The file system or the other service failed, or refused the deed.
     #[error("it failed")]
     Failed,
-    /// The memory for what it gives was refused.
+    /// Memory for the result was refused.
     #[error("out of memory")]
     NoMemory,
 }

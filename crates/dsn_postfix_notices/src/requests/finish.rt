@@ -12,7 +12,7 @@ use crate::requests::untold::Untold;
 use dsn_postfix::{NoticeRequest, PostfixRequest};
 use dsn_text::{QueueId, Service};
 
-/// Whether a request's log is removed once its sender was told.
+/// Whether a request's log is removed once its sender is notified.
 fn removes_log(request: &PostfixRequest<'_>) -> bool
     ensures { result ≡ removes_log request.now }
 {
@@ -22,7 +22,7 @@ fn removes_log(request: &PostfixRequest<'_>) -> bool
     )
 }
 
-/// Whether there is a log that is to be removed.
+/// Whether there is a log that must be removed.
 fn is_removal_due(request: &PostfixRequest<'_>, log: Option<&[u8]>) -> bool
     ensures { result ≡ is_removal_due request.now (option_map (λ log. log.now) log.entry) }
 {
@@ -30,7 +30,7 @@ fn is_removal_due(request: &PostfixRequest<'_>, log: Option<&[u8]>) -> bool
     removes_log(request) && log.is_some()
 }
 
-/// Marks the recipients at these places as done, up to the first that can't be.
+/// Marks the recipients at these places as done. Stops at the first that fails.
 fn mark_all<M: MailSystem>(
     notice: &NoticeRequest<'_>,
     places: &[u64],
@@ -44,7 +44,7 @@ fn mark_all<M: MailSystem>(
     Ok(())
 }
 
-/// Removes a log that is due for removal.
+/// Removes a log if that is due.
 fn remove_if_due<M: MailSystem>(
     service: Service,
     id: QueueId,
@@ -59,8 +59,8 @@ fn remove_if_due<M: MailSystem>(
     Ok(())
 }
 
-/// Marks the recipients at these places as done, and once all are, removes the request's log if it
-/// is to be removed.
+/// Marks the recipients at these places as done. Once all are marked, removes the request's log if
+/// that is due.
 pub(super) fn finish<M: MailSystem>(
     task: &NoticeTask<'_>,
     log: Option<&[u8]>,
@@ -71,8 +71,8 @@ pub(super) fn finish<M: MailSystem>(
         (FinishesAt task.now (option_map (λ log. log.now) log.entry) places.now result) }
 {
     let notice: &NoticeRequest<'_> = task.notice;
-    // If this fails, the log stays and the request is asked again: then its sender is notified twice.
-    // The other order could lose a notice.
+    // If this fails, the log stays, and Postfix repeats the request: then its sender is notified
+    // twice. The other order could lose a notice.
     mark_all(notice, places, system)?;
     let due = is_removal_due(task.request, log);
     remove_if_due(task.service(), notice.queue_id, due, system)

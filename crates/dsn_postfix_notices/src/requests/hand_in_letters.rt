@@ -1,4 +1,4 @@
-//! Handing in letters, one after another.
+//! Submits letters, one after another.
 //! Implements docs/FORMATS.md, "A connection".
 ghost use Rattle.std.specs.Prelude.{◌≡◌};
 ghost use Rattle.dsn_postfix_notices.specs.requests.Gains.{Gains};
@@ -13,12 +13,13 @@ use dsn_report::{Site, mail_data};
 use dsn_smtp::{HandInFault, ReplyBuffer};
 use std::alloc::Global;
 
-/// Why a sender isn't told after a letter wasn't accepted. Only if the first letter of a request on
-/// one log is refused for good can another service tell all of it: none was accepted, nor will be.
+/// Why a sender isn't notified after a letter wasn't accepted. The request is passed on only if its
+/// first letter on one log is refused for good. Then no letter was accepted, so another service can
+/// notify the sender of all of it.
 fn refusal(is_first: bool, fault: HandInFault) -> Untold
     ensures { result ≡ refusal_of is_first fault }
 {
-    // Once a letter was accepted nothing is passed on: bounce(8) would notify its recipient again.
+    // Once a letter was accepted, nothing is passed on: bounce(8) would notify its recipient again.
     if is_first && fault.is_refused_for_good() {
         Untold::PassedOn(PassReason::Refused)
     } else {
@@ -26,7 +27,7 @@ fn refusal(is_first: bool, fault: HandInFault) -> Untold
     }
 }
 
-/// Submits one letter, the first of its request or not.
+/// Submits one letter. `is_first` says whether it is the first of its request.
 fn hand_in_letter<M: MailSystem>(
     alloc: Global,
     site: &Site,
@@ -44,7 +45,7 @@ fn hand_in_letter<M: MailSystem>(
     }
 }
 
-/// Submits letters in their order, each once, up to the first that isn't accepted.
+/// Submits letters in their order, each once. Stops at the first that isn't accepted.
 pub(super) fn hand_in_letters<M: MailSystem>(
     alloc: Global,
     site: &Site,

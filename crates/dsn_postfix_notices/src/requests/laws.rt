@@ -1,5 +1,5 @@
-//! What is true of each request that was carried out, at each moment of it, whatever the code does: each law is the contract
-//! of a function that changes nothing.
+//! Laws of carried out requests, at each moment of one. Each law is the contract of a function that
+//! changes nothing.
 ghost use Rattle.std.specs.Prelude.{◌≡◌, ◌⊎◌, ◌++◌, [], ◌∷◌, ℕ, List, Ok, Some, true};
 ghost use Rattle.dsn_postfix.specs.NoticePlan.{notice_asked};
 ghost use Rattle.dsn_postfix.specs.Wanted.{is_no_sender};
@@ -15,14 +15,18 @@ ghost use Rattle.dsn_postfix_notices.specs.requests.Task.{Task, Terms};
 ghost use Rattle.dsn_text.specs.declared.service.Service.{Service};
 ghost use Rattle.dsn_text.specs.declared.service.Service.TheVariants.{Bounce};
 
-/// At each moment of a request for notices at which a log is removed, the log is that of the request. Before that it did this
-/// alone: it read a log and a file, each letter of each notice that it has of these was accepted, and its recipients were
-/// marked as done where it asks for that. So a crash at any moment of a request without CLEAN leaves the log, or the mail
-/// server has all notices of what was read, or the request was passed on, and the log is left to Postfix's own service. The
-/// only other removal is the one that CLEAN asks for: it is the last deed of a request that isn't answered status 0. A request
-/// that is answered may do other deeds first. Then the log is the service's own, or the bounce log that is flushed first; the
-/// deeds on it stand in a row right before its removal, and the same is true of these. CLEAN removes no bounce log that is
-/// flushed first.
+/// A request for notices removes only its own log. Unless it does so for CLEAN, it did only the
+/// following before. It read the log and the message's file. Each letter of each notice planned
+/// from these was accepted. The recipients were marked as done if the request asks for that.
+///
+/// So a crash at any moment of a request without CLEAN leaves one of three states. The log is still
+/// there. Or the mail server has all notices of what was read. Or the request was passed on, and
+/// the log is left to Postfix's own service. A removal for CLEAN is the last deed of a request that
+/// isn't answered status 0.
+///
+/// An answered request may do other deeds first. The removed log is then the service's own, or the
+/// bounce log that is flushed first. The deeds on that log directly precede its removal, and the
+/// same law holds for them. CLEAN removes no bounce log that is flushed first.
 pub fn logs_are_removed_after_acceptance()
     ensures carried_out { (task : Task) (bytes : List ℕ) (answer : RequestAnswer)
         (gained before after : List Deed) (other : Service) (named : List ℕ) (given : Answer)
@@ -38,9 +42,10 @@ pub fn logs_are_removed_after_acceptance()
         → IsRemovedInTurn task answer before after log named }
 {}
 
-/// A request for notices that hands in any first reads a log and a file. What it hands in are the first letters of the notices
-/// that it has of these, each at most once, in their order. A request that is answered hands in those of the bounce log, if
-/// one was found, and then those of the service's own log.
+/// A request for notices that submits any letter first reads a log and the message's file. It
+/// submits a prefix of the letters of the notices planned from these, each at most once, in their
+/// order. An answered request submits those of the bounce log, if one was found, and then those of
+/// the service's own log.
 pub fn notices_are_handed_in_once()
     ensures carried_out { (task : Task) (bytes : List ℕ) (answer : RequestAnswer)
         (gained : List Deed)
@@ -54,8 +59,8 @@ pub fn notices_are_handed_in_once()
         → HandsInInTurn task gained }
 {}
 
-/// Nothing is handed in for a message from nobody, or from the sender of notices about notices: neither by a request that is
-/// carried out on one log, nor by one that is answered.
+/// Nothing is submitted for a message from the null sender, or from the sender of notices about
+/// notices. This holds for a request that is carried out on one log and for an answered one.
 pub fn no_notice_causes_another()
     ensures carried_out { (task : Task) (bytes : List ℕ) (answer : RequestAnswer) (gained : List Deed)
         → IsTellingDone task bytes answer gained
@@ -68,7 +73,8 @@ pub fn no_notice_causes_another()
         → hand_ins gained ≡ [] }
 {}
 
-/// An append that is answered 0 was appended and synced, or Postfix's own service answered 0 to it; nothing else was done.
+/// An append that is answered 0 was appended and synced, or Postfix's own service answered 0 to it;
+/// nothing else was done.
 #[tactic(auto, using(crate::proofs::CarriedOutLaws::answered_append_stands, crate::proofs::AnsweredLaws::answered_append))]
 pub fn answered_appends_stand()
     ensures carried_out { (terms : Terms) (request : AppendRequest) (bytes : List ℕ)
@@ -83,9 +89,10 @@ pub fn answered_appends_stand()
         → StandsOrIsPassedOn terms.service request bytes gained }
 {}
 
-/// If a flush of the defer log is answered 0, and a bounce log was found, that log was read, and each letter of each notice
-/// of it was accepted before the first deed on the defer log; or none was, and Postfix's own service answered 0 to the flush
-/// of the bounce log, which has neither CLEAN nor DELRCPT.
+/// If a flush of the defer log is answered 0 and a bounce log was found, one of two things came
+/// before the first deed on the defer log. Either the bounce log was read, and each letter of each
+/// of its notices was accepted. Or no letter was accepted, and Postfix's own service answered 0 to
+/// the flush of the bounce log, which has neither CLEAN nor DELRCPT.
 pub fn bounce_logs_are_told_first()
     ensures { (task : Task) (first : PostfixRequest) (bytes : List ℕ) (answer : RequestAnswer)
         (gained deeds : List Deed) (named : List ℕ)

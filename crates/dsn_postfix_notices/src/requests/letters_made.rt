@@ -1,4 +1,4 @@
-//! What is made of a request's log and file before its first notice is handed in.
+//! What is made of a request's log and file before its first notice is submitted.
 ghost use Rattle.std.specs.Prelude.{◌≡◌, IfErr, IfOk};
 ghost use Rattle.dsn_postfix_notices.specs.requests.RequestLetters.{AreLettersAsked, CantBeSaid, places_done};
 ghost use Rattle.dsn_postfix_notices.specs.inner.RequestLetters.{IsReason};
@@ -11,16 +11,16 @@ use crate::requests::untold::Untold;
 use dsn_outcome::Letter;
 use std::alloc::Global;
 
-/// The letters of a request, and who is done after them.
+/// The letters of a request, and which recipients are done after them.
 #[derive(Drop)]
 pub(super) struct LettersMade {
-    /// The letters of all notices that it has.
+    /// The letters of all its notices.
     pub(super) letters: Vec<Letter>,
-    /// The places of the recipients that are marked as done once all are accepted.
+    /// The places of the recipients that are marked as done once all letters are accepted.
     pub(super) places: Vec<u64>,
 }
 
-/// Makes all letters of what was read, and says who is done after them.
+/// Makes all letters of what was read, and the list of recipients that are done after them.
 pub(super) fn make_letters(
     alloc: Global,
     task: &NoticeTask<'_>,

@@ -1,4 +1,4 @@
-//! The log and the message's file that a request for notices tells of.
+//! The log that a request for notices reports, and the message's file.
 ghost use Rattle.std.specs.Prelude.{◌≡◌};
 ghost use Rattle.std.specs.Option.{option_map};
 ghost use Rattle.dsn_postfix_notices.specs.requests.Deed.{answer_as};
@@ -53,14 +53,15 @@ impl MailFound {
     }
 }
 
-/// Whether a request tells of a log.
+/// Whether a request reports a log.
 pub(super) fn tells_of_log(request: &PostfixRequest<'_>) -> bool
     ensures { result ≡ tells_of_log request.now }
 {
     !matches!(request, PostfixRequest::Append(_) | PostfixRequest::One(..))
 }
 
-/// Reads the log that a request tells of; a request about one recipient alone has none.
+/// Reads the log that a request reports. Returns `None` for a request about one recipient alone,
+/// which has no log.
 fn read_log<M: MailSystem>(
     alloc: Global,
     task: &NoticeTask<'_>,
@@ -76,7 +77,7 @@ fn read_log<M: MailSystem>(
     system.read_log(alloc, task.service(), notice.queue_id)
 }
 
-/// Reads the log that a request tells of, and then its message's file.
+/// Reads the log that a request reports, and then the message's file.
 pub(super) fn read_mail<M: MailSystem>(
     alloc: Global,
     task: &NoticeTask<'_>,

@@ -1,7 +1,7 @@
-//! All that lies outside of the service: Postfix's files, the mail server that notices are handed
-//! to, and Postfix's own services.
-//! A request's effects are calls of one trait so that its contract can state their order, and with
-//! it what a crash leaves, without a file or a socket.
+//! All that lies outside of the service: Postfix's files, the mail server to which notices are
+//! submitted, and Postfix's own services.
+//! A request's effects are calls of one trait. So its contract can state their order, and what a
+//! crash leaves, without a file or a socket.
 ghost use Rattle.std.specs.Prelude.{◌≡◌, [], ◌∷◌};
 ghost use Rattle.std.specs.Option.{option_map};
 ghost use Rattle.dsn_postfix_notices.specs.requests.Deed.{Appended, HandedIn, LogRead, LogReleased, LogRemoved, LogSought, MarkedDone, MessageRead, PassedOn, answer_as, reply_as};
@@ -15,27 +15,25 @@ use dsn_text::{Address, QueueId, Service};
 use std::alloc::Global;
 
 /// What a request reads, writes and asks outside of the service. Each call is one deed: it ends
-/// before the next one begins, and says what came of it.
+/// before the next one begins, and reports its result.
 pub trait MailSystem {
     ghost use Rattle.std.specs.Prelude.{List, Option};
     ghost use Rattle.dsn_postfix_notices.specs.requests.Deed.{Deed};
 
-    // What was done or tried so far, in its order, with what came of each, where that is told. A
-    // system over files and sockets tells nothing; one in memory may.
+    // The deeds so far, done or tried, in their order and with their results; `None` if the system
+    // doesn't expose them. A system over files and sockets exposes nothing; one in memory may.
     ghost deeds: { Self → Option (List Deed) };
 
-    /// Learns which request is done from here on, for what it writes to a log of its own. That is no
-    /// deed.
+    /// Notifies the system which request comes next, for its event log. This is not a deed.
     fn begin(&mut self, request: &PostfixRequest<'_>)
         ensures { deeds self.new ≡ deeds self.old };
 
-    /// Says whether a service has a log about a message: a file that isn't empty. It isn't locked by
-    /// that.
+    /// Whether a service has a log about a message: a file that isn't empty. Doesn't lock it.
     fn has_log(&mut self, service: Service, id: QueueId) -> Result<bool, DeedFault>
         ensures { deeds self.new
             ≡ with_deeds (deeds self.old) (LogSought service id result ∷ []) };
 
-    /// Reads the log of a service about a message: its bytes, or none where there is no log. A log
+    /// Reads all bytes of a service's log about a message. Returns `None` if there is no log. A log
     /// that was read stays locked until it is removed or released.
     fn read_log(
         &mut self,
@@ -46,9 +44,9 @@ pub trait MailSystem {
         ensures { deeds self.new ≡ with_deeds (deeds self.old)
             (LogRead service id (answer_as (option_map (λ file. file.items)) result) ∷ []) };
 
-    /// Puts the bytes of a record at the end of a log, which is made where there is none, and syncs
-    /// it, under the log's lock. After an error nothing of the record stands there: the log is cut
-    /// back.
+    /// Adds the bytes of a record to the end of a log, under the log's lock, and syncs it. Makes
+    /// the log if it doesn't exist. After an error the log is cut back, and has nothing of the
+    /// record.
     fn append_to_log(
         &mut self,
         service: Service,
@@ -58,12 +56,12 @@ pub trait MailSystem {
         ensures { deeds self.new
             ≡ with_deeds (deeds self.old) (Appended service id bytes.now result ∷ []) };
 
-    /// Removes a log, and releases it. A log that isn't there counts as removed.
+    /// Removes a log and releases it. A log that doesn't exist counts as removed.
     fn remove_log(&mut self, service: Service, id: QueueId) -> Result<(), DeedFault>
         ensures { deeds self.new
             ≡ with_deeds (deeds self.old) (LogRemoved service id result ∷ []) };
 
-    /// Reads the file of a message in a queue: all its bytes.
+    /// Reads all bytes of a message's file in a queue.
     fn read_message(
         &mut self,
         alloc: Global,
@@ -73,10 +71,10 @@ pub trait MailSystem {
         ensures { deeds self.new ≡ with_deeds (deeds self.old)
             (MessageRead queue.now id (answer_as (λ file. file.items) result) ∷ []) };
 
-    /// Hands one notice to the mail server, as [`hand_in_notice`](crate::hand_in_notice) does, in a
-    /// session that is begun for it or was begun for another; one that fails at MAIL may be followed by another:
-    /// there is no error only where the server took it, with the reply that the buffer then holds.
-    /// Where no connection could be made, that is a greeting that wasn't heard.
+    /// Submits one notice to the mail server, as [`hand_in_notice`](dsn_smtp::hand_in_notice) does,
+    /// in a new session or in a kept one. If a kept session fails at MAIL, a new one may follow.
+    /// Returns `Ok` only if the server accepted the notice; `reply` then holds its reply. If no
+    /// connection could be made, returns the fault of a greeting that wasn't received.
     fn hand_in(
         &mut self,
         path: &Address,
@@ -86,13 +84,13 @@ pub trait MailSystem {
         ensures { deeds self.new ≡ with_deeds (deeds self.old)
             (HandedIn path.now message.now (reply_as result reply.new) ∷ []) };
 
-    /// Marks the recipient whose record stands at a place of a message's file as done.
+    /// Marks a recipient as done. `place` is the place of its record in the message's file.
     fn mark_done(&mut self, queue: &QueueName<'_>, id: QueueId, place: u64) -> Result<(), DeedFault>
         ensures { deeds self.new
             ≡ with_deeds (deeds self.old) (MarkedDone queue.now id place result ∷ []) };
 
-    /// Passes a request on to Postfix's own service of that name, and says the status that it
-    /// answers. The reason is for a line of the system's alone, and no part of the deed.
+    /// Passes a request on to Postfix's own service of that name, and returns the status that it
+    /// answers. `why` is for the system's event log alone, and is no part of the deed.
     fn pass_on(
         &mut self,
         service: Service,
@@ -102,7 +100,7 @@ pub trait MailSystem {
         ensures { deeds self.new
             ≡ with_deeds (deeds self.old) (PassedOn service request.now result ∷ []) };
 
-    /// Releases the log that is still locked, if one is.
+    /// Releases the log that is still locked, if there is one.
     fn release_log(&mut self)
         ensures { deeds self.new
             ≡ with_deeds (deeds self.old) (LogReleased ∷ []) };

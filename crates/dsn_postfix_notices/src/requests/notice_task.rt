@@ -11,11 +11,10 @@ use std::marker::Model;
 /// A request for notices, and the terms on which it is carried out.
 #[derive(Debug, Drop)]
 pub(super) struct NoticeTask<'a> {
-    /// On which terms it is carried out.
+    /// The terms on which it is carried out.
     pub(super) terms: &'a RequestTerms<'a>,
-    /// The request.
     pub(super) request: &'a PostfixRequest<'a>,
-    /// What it says of the message: a part of the request.
+    /// The part of the request that describes the message.
     pub(super) notice: &'a NoticeRequest<'a>,
 }
 
@@ -32,7 +31,7 @@ impl<'a> Model for NoticeTask<'a> {
 }
 
 impl<'a> NoticeTask<'a> {
-    /// The service that is asked.
+    /// The service to which the request is addressed.
     pub(super) fn service(&self) -> Service
         ensures { result ≡ self.now.terms.service }
     {

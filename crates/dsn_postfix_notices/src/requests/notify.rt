@@ -15,20 +15,21 @@ use crate::requests::untold::Untold;
 use dsn_text::NoMemory;
 use std::alloc::Global;
 
-/// Reads what a request tells of, and tells the message's sender: all letters of what was read are made, and only then is the
-/// first submitted. Once all are accepted, marks the recipients that are done by that, and removes the log.
+/// Reads the log and the message, and notifies the message's sender. Makes all letters of what was
+/// read, and only then submits the first. Once all are accepted, marks the recipients that are
+/// done, and removes the log.
 fn tell<M: MailSystem>(alloc: Global, task: &NoticeTask<'_>, system: &mut M) -> Result<(), Untold>
     ensures { Gains M.deeds system.old system.new (Tells task.now result) }
 {
     let found = read_mail(alloc, task, system)?;
-    // All of them, and the list of who is marked: what can't be said, or has no memory, shows while
-    // nobody was notified. A letter's text is made in its turn.
+    // All of them, and the list of places to mark: what can't be expressed, or has no memory, shows
+    // before anybody is notified. A letter's text is made in its turn.
     let made = make_letters(alloc, task, &found)?;
     hand_in_letters(alloc, task.site(), &made.letters, system)?;
     finish(task, found.log(), &made.places, system)
 }
 
-/// Does what is left to be done after telling, and says the status.
+/// Does what is left after the sender was notified or wasn't, and returns the status.
 fn end_telling<M: MailSystem>(
     task: &NoticeTask<'_>,
     bytes: &[u8],
@@ -40,18 +41,18 @@ fn end_telling<M: MailSystem>(
     match telling {
         Ok(()) => Ok(CARRIED_OUT),
         Err(Untold::Failed) => Ok(NOT_CARRIED_OUT),
-        // Not put off: a request that fails is asked again, and one that always fails would stay in
-        // the queue. A server that refuses a notice for good mostly refuses it again, and bounce(8)
-        // submits its notices to cleanup(8).
+        // Not put off: Postfix repeats a request that fails, and one that always fails would stay
+        // in the queue. A server that refuses a notice for good mostly refuses it again, and
+        // bounce(8) submits its notices to cleanup(8).
         Err(Untold::PassedOn(why)) => Ok(pass_on(system, task.service(), bytes, why)),
-        // Not a status: so no body can give a request up untried and say that it failed.
+        // Not a status: so no implementation can drop a request untried and answer that it failed.
         Err(Untold::NoMemory) => Err(NoMemory),
     }
 }
 
-/// Tells the message's sender what a request asks, releases the log, and says the status. Where a
-/// notice can't be said, or the first is refused for good, the whole request is passed on to
-/// Postfix's own service.
+/// Notifies the message's sender as a request asks, releases the log, and returns the status. If a
+/// notice can't be expressed, or the first letter is refused for good, passes the whole request on
+/// to Postfix's own service.
 pub(super) fn notify<M: MailSystem>(
     alloc: Global,
     task: &NoticeTask<'_>,

@@ -1,4 +1,4 @@
-//! Which recipients of a message's file are marked as done once the sender was told.
+//! Which recipients of a message's file are marked as done once the sender is notified.
 //! Implements docs/FORMATS.md, "A connection".
 ghost use Rattle.std.specs.Prelude.{◌≡◌, ◌++◌, IfOk, OnOk};
 ghost use Rattle.std.specs.List.{flat_map};
@@ -14,7 +14,7 @@ use dsn_postfix_files::{LogEntry, LogReader};
 use dsn_text::Service;
 use std::alloc::{AllocError, Global};
 
-/// Adds a place, unless it isn't known.
+/// Adds a place, unless it is 0, which means unknown.
 fn push_place(places: &mut Vec<u64>, place: u64) -> Result<(), AllocError>
     ensures { OnOk result (places.new.items ≡ places.old.items ++ place_if_known place) }
 {
@@ -25,7 +25,7 @@ fn push_place(places: &mut Vec<u64>, place: u64) -> Result<(), AllocError>
     Ok(())
 }
 
-/// Adds the place that an entry of a log says.
+/// Adds the place that an entry of a log gives.
 fn push_entry(places: &mut Vec<u64>, entry: &LogEntry<'_>) -> Result<(), AllocError>
     ensures { OnOk result (places.new.items
         ≡ places.old.items ++ place_of_entry (logged_entry_in entry.now)) }
@@ -36,7 +36,7 @@ fn push_entry(places: &mut Vec<u64>, entry: &LogEntry<'_>) -> Result<(), AllocEr
     }
 }
 
-/// The places that the entries of a log say, in their order.
+/// The places that the entries of a log give, in their order.
 fn places_of_entries(alloc: Global, service: Service, log: &[u8]) -> Result<Vec<u64>, AllocError>
     ensures { IfOk result (λ places. places.items
         ≡ flat_map place_of_entry (log_entries service log.now)) }
@@ -49,7 +49,7 @@ fn places_of_entries(alloc: Global, service: Service, log: &[u8]) -> Result<Vec<
     Ok(places)
 }
 
-/// The places that a log says, if there is one.
+/// The places that a log gives, if there is one.
 fn places_in_log(
     alloc: Global,
     service: Service,
@@ -73,7 +73,7 @@ fn place_alone(alloc: Global, place: u64) -> Result<Vec<u64>, AllocError>
     Ok(places)
 }
 
-/// The places of the recipients of whom a request tells.
+/// The places of the recipients that a request reports.
 fn places_named(
     alloc: Global,
     service: Service,
@@ -89,7 +89,7 @@ fn places_named(
         PostfixRequest::Flush(_)
         | PostfixRequest::Warn(_)
         | PostfixRequest::Verp(..)
-        // Also those who didn't want to be notified: they are done all the same.
+        // This includes recipients who didn't want to be notified: they are done all the same.
         | PostfixRequest::Trace(_) => places_in_log(alloc, service, log),
     }
 }

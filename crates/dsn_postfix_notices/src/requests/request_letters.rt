@@ -27,12 +27,12 @@ use dsn_postfix_files::{
 use dsn_text::Stamp;
 use std::alloc::{AllocError, Global};
 
-/// As much of a message's text as letters need: a longer text isn't returned whole, and a header that
-/// doesn't end in there isn't returned.
+/// How many bytes of a message's text letters need. A longer text isn't returned whole, and a
+/// header that doesn't end within these bytes isn't returned.
 const FRONT_OF_TEXT: usize = LONGEST_HEADER + LONGEST_FIELD_NAME + 1;
 
-/// The next recipient of a queue file, if there is one before its end or the place where it can't
-/// be read on.
+/// The next recipient of a queue file. Returns `None` at its end, or at the place from which it
+/// can't be read.
 fn next_queued<'a>(reader: &mut QueueReader<'a>) -> Option<QueuedRecipient<'a>>
     ensures listed { (recipients : List RecipientFacts) (ending : QueueEnding)
         → RecipientsLeft reader.old nothing_before recipients ending
@@ -47,7 +47,7 @@ fn next_queued<'a>(reader: &mut QueueReader<'a>) -> Option<QueuedRecipient<'a>>
     }
 }
 
-/// The recipients of a queue file, done or not, up to where it can't be read on.
+/// The recipients of a queue file, done or not, up to the place from which it can't be read.
 fn queued_recipients(alloc: Global, file: &[u8]) -> Result<Vec<QueuedRecipient<'_>>, AllocError>
     ensures { (records : List PlacedBytes) (ending : QueueEnding)
         → RecordsFrom file.now (first_place file.now) records ending
@@ -61,7 +61,7 @@ fn queued_recipients(alloc: Global, file: &[u8]) -> Result<Vec<QueuedRecipient<'
     Ok(queued)
 }
 
-/// What a file says of its message, also where it can't be read to its end.
+/// What a file says of its message, even if it can't be read to its end.
 fn facts_said(file: &[u8]) -> MessageFacts<'_>
     ensures { (records : List PlacedBytes) (ending : QueueEnding)
         → RecordsFrom file.now (first_place file.now) records ending
@@ -73,8 +73,8 @@ fn facts_said(file: &[u8]) -> MessageFacts<'_>
     }
 }
 
-/// The sender that a file says, or where it says none, that of a request. They differ where local(8)
-/// requests a notice for the owner of a list.
+/// The sender that a file gives, or else that of a request. They differ if local(8) requests a
+/// notice for the owner of a list.
 fn sender_said<'a>(facts: &MessageFacts<'a>, asked: &'a [u8]) -> &'a [u8]
     ensures { result.now ≡ unwrap_or (message_facts_in facts.now).sender asked.now }
 {
@@ -122,7 +122,7 @@ fn letters_of(
     let mut rest = notices;
     while let [notice, after @ ..] = rest {
         push_letter(alloc, &mut letters, message, notice, moment, serial)?;
-        // No two notices of one request have the same Message-ID.
+        // No two notices of one request may have the same Message-ID.
         serial = serial.wrapping_add(1);
         rest = after;
     }

@@ -1,20 +1,19 @@
-//! On which terms a request is answered.
+//! The terms on which a request is answered.
 use crate::requests::service_settings::ServiceSettings;
 use dsn_text::{Service, Stamp};
 use std::marker::Model;
 
-/// The terms on which a request is answered: all that its answer rests on, besides what it asks and
-/// what lies outside.
+/// All that the answer to a request depends on, besides what it asks and what lies outside.
 #[derive(Debug, Drop)]
 pub struct RequestTerms<'a> {
-    /// What its notices say of the mail system.
+    /// The settings of the mail system that its notices depend on.
     pub settings: &'a ServiceSettings<'a>,
-    /// The service that is asked.
+    /// The service to which the request is addressed.
     pub service: Service,
     /// The moment at which its letters are made.
     pub moment: Stamp,
-    /// The serial of its first letter, which stands in its Message-ID; those after it have the next
-    /// ones.
+    /// The serial of its first letter, a part of its Message-ID. The letters after it have the next
+    /// serials.
     pub first_serial: u64,
 }
 

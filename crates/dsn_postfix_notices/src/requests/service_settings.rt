@@ -1,17 +1,17 @@
-//! What notices say of the mail system that they come from.
+//! The settings of the mail system that notices depend on.
 use dsn_report::Site;
 use std::marker::Model;
 
-/// What a request's notices need to know of the mail system.
+/// The settings of the mail system that a request's notices depend on.
 #[derive(Debug, Drop)]
 pub struct ServiceSettings<'a> {
     /// The mail system's name, from which its notices come.
     pub site: &'a Site,
     /// The sender of notices about notices (Postfix's `double_bounce_sender`, with its domain).
     pub double_bounce: &'a [u8],
-    /// For how many seconds after a message came its delivery is tried (`maximal_queue_lifetime`).
+    /// For how many seconds after a message's arrival delivery is tried (`maximal_queue_lifetime`).
     pub lifetime: u32,
-    /// How many bytes a message has at most if it is returned whole (`bounce_size_limit`).
+    /// The size in bytes up to which a message is returned whole (`bounce_size_limit`).
     pub size_limit: u32,
 }
 

@@ -1,4 +1,4 @@
-//! Why a message's sender isn't told what a request asks.
+//! Why a message's sender isn't notified as a request asks.
 use crate::letters::LetterFault;
 use crate::requests::deed_fault::DeedFault;
 use crate::requests::pass_reason::PassReason;
@@ -6,15 +6,15 @@ use dsn_postfix::PlanFault;
 use dsn_text::NoMemory;
 use std::alloc::{AllocError, AllocFailed};
 
-/// Why a message's sender isn't told what a request asks.
+/// Why a message's sender isn't notified as a request asks.
 #[derive(Clone, Copy, Debug, Drop)]
 pub(super) enum Untold {
-    /// The whole request is left to Postfix's own service. A notice can't be said, and none was
-    /// submitted; or the first was refused for good, and no other was submitted.
+    /// The whole request is left to Postfix's own service. Either a notice can't be expressed, and
+    /// nothing was submitted; or the first letter was refused for good, and no other was submitted.
     PassedOn(PassReason),
-    /// Something failed.
+    /// A deed failed, or a letter wasn't accepted and the request can't be passed on.
     Failed,
-    /// The memory for a letter, for its text, or for who is marked was refused.
+    /// Memory for a letter, for its text, or for the places to mark was refused.
     NoMemory,
 }
 

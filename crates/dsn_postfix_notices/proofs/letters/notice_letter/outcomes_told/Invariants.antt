@@ -1,4 +1,4 @@
--- The outcomes so far, with those of the rest, are all, and none so far is at fault.
+-- The outcomes so far, with those of the rest, are all outcomes, and no outcome so far has a fault.
 use Rattle.std.proofs.Common.{◌≡◌, ◌+◌, ◌++◌, length, map}
 use Rattle.dsn_postfix_files.specs.LogRecord.{logged_fields_in}
 use Rattle.dsn_postfix_notices.specs.letters.NoticeLetter.{first_fault_of_told}

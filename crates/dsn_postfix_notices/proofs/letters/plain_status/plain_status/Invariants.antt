@@ -1,4 +1,4 @@
--- What is there, with what the rest comes to, is the whole.
+-- The output so far, with the result for the rest, is the whole result.
 use Rattle.std.proofs.Common.{◌≡◌, ◌++◌, length}
 use Rattle.dsn_postfix_notices.specs.letters.PlainStatus.{plain_status, without_zeros}
 use Rattle.dsn_postfix_notices.proofs.letters.plain_status.plain_status.Given as goal

@@ -6,7 +6,7 @@ use Rattle.dsn_postfix_notices.specs.requests.CarriedOut.{IsCarriedOut}
 use Rattle.dsn_postfix_notices.proofs.DeedLemmas.{gains_as}
 use Rattle.dsn_postfix_notices.proofs.requests.answering.answer_request.Goals as goal
 
--- a flush of the bounce log comes first
+-- a flush of the bounce log precedes the request
 pub returns-in-Some : goal.returns-in-Some
 returns-in-Some g c =
     gains_as g.M.MailSystem.deeds _ _ _ _ c.flush_in_turn.ensures (λ gained is.

@@ -7,7 +7,7 @@ use Rattle.dsn_postfix_notices.specs.requests.Task.{Terms}
 use Rattle.dsn_postfix_notices.proofs.DeedLemmas.{gains_as}
 use Rattle.dsn_postfix_notices.proofs.requests.answering.flush_bounce_log.Goals as goal
 
--- the flush has its bytes
+-- there is memory for the bytes of the flush
 pub returns-in-Ok : goal.returns-in-Ok
 returns-in-Ok g c =
     gains_as g.M.MailSystem.deeds _ _ _ _ c.carry_out.ensures (λ gained out.

@@ -4,7 +4,7 @@ use Rattle.dsn_postfix_notices.specs.requests.Gains.{Gains}
 use Rattle.dsn_postfix_notices.proofs.DeedLemmas.{gains_more}
 use Rattle.dsn_postfix_notices.proofs.requests.carrying_out.carry_out.Goals as goal
 
--- what was asked, and then what CLEAN asks
+-- the deeds that were asked for, and then those of CLEAN
 pub returns : goal.returns
 returns g c =
     gains_more g.M.MailSystem.deeds _ _ _ _ _ _ c.do_asked-answer.ensures

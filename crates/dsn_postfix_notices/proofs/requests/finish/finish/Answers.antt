@@ -6,7 +6,7 @@ use Rattle.dsn_postfix_notices.specs.requests.Task.{Task}
 use Rattle.dsn_postfix_notices.proofs.DeedLemmas.{gains_more}
 use Rattle.dsn_postfix_notices.proofs.requests.finish.finish.Goals as goal
 
--- all were marked, and what is due for removal is removed
+-- all places were marked, and the log is removed if that is due
 pub returns : goal.returns
 returns g c =
     let id = c.task.inside.notice.now.queue_id in

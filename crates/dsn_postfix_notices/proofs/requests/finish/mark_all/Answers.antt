@@ -5,7 +5,7 @@ use Rattle.dsn_postfix_notices.specs.requests.Finishing.{FailsToMark, marking}
 use Rattle.dsn_postfix_notices.proofs.DeedLemmas.{gains_as, gains_one, left_at, marked_one_more, stopped_marking}
 use Rattle.dsn_postfix_notices.proofs.requests.finish.mark_all.Goals as goal
 
--- one wasn't marked
+-- a place wasn't marked
 pub returns-in_err-mark_done : goal.returns-in_err-mark_done
 returns-in_err-mark_done g c =
     let exit = err_from_is_err_and c.from_residual.result c.from_residual.ensures.1 in
@@ -17,7 +17,7 @@ returns-in_err-mark_done g c =
     (gains_one g.M.MailSystem.deeds _ _ (MarkedDone notice.queue_name notice.queue_id place (Err fault)) (FailsToMark notice place) c.in_err-mark_done.ensures (record { fault = fault; tried = refl })))
     (λ gained stops. (refl, stops)))
 
--- one more was
+-- one more place was marked
 pub loop-place-preserved : goal.loop-place-preserved
 loop-place-preserved g c =
     let place = get_or c.args.places.now c.loop-place.place-index 0 in

@@ -38,7 +38,7 @@ and_second false b h = absurd cc
 address_is_visible : (byte : ℕ) → is_address_byte byte ≡ true → is_visible byte ≡ true
 address_is_visible byte h = and_first (is_visible byte) (not (byte == 60) && not (byte == 62)) h
 
--- a text with a front and an end that are known, and a name between them
+-- a text with a known front and a known end, and a name between them
 one_line : (front name : List ℕ) → list_all is_text_byte front ≡ true → list_all is_text_byte name ≡ true → length front + length name ≤ 500 → IsCommandLine (front ++ (name ++ 13 ∷ 10 ∷ []))
 one_line front name hf hn short = record {
   text = front ++ name;

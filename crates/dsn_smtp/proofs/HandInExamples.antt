@@ -1,4 +1,4 @@
--- Worked examples of transactions: what is said and heard, and what comes of it.
+-- Worked examples of transactions: what is sent and received, and the outcome.
 use Rattle.std.proofs.Common.{◌≡◌, ℕ, List, [], ◌∷◌, ◌++◌, Some, None, false, true, refl}
 use Rattle.std.specs.Prelude.{codes}
 use Rattle.dsn_smtp.specs.CommandLine.{hello_line, recipient_line}
@@ -34,21 +34,21 @@ no_service = (refl, refl)
 abbrev to_recipient : List Turn
 to_recipient = Said (line (codes "MAIL FROM:<>")) ∷ heard (codes "250") ∷ Said (line (codes "RCPT TO:<b@c.example>")) ∷ []
 
--- all four replies as they are wanted
+-- all four replies are of the wanted class
 taken : AsksAll (commands_of (codes "b@c.example") message)
     (to_recipient ++ heard (codes "250") ∷ Said (line (codes "DATA")) ∷ heard (codes "354") ∷ Said message ∷ heard (codes "250") ∷ []) None
 taken = (refl, (refl, (refl, (refl, (refl, refl)))))
 
--- a recipient that is refused is the last turn
+-- the refusal of a recipient is the last turn
 refused : AsksAll (commands_of (codes "b@c.example") message) (to_recipient ++ heard (codes "550") ∷ []) (Some (Refused Recipient (codes "550")))
 refused = (refl, (refl, (refl, refl)))
 
--- DATA that is answered by 250 is refused too
+-- 250 as the reply to DATA is a refusal too
 not_to_go_on : AsksAll (commands_of (codes "b@c.example") message)
     (to_recipient ++ heard (codes "250") ∷ Said (line (codes "DATA")) ∷ heard (codes "250") ∷ []) (Some (Refused Data (codes "250")))
 not_to_go_on = (refl, (refl, (refl, (refl, refl))))
 
--- the reply to the message is cut short: it may be taken
+-- the reply to the message is cut short: the message may be accepted
 unheard : AsksAll (commands_of (codes "b@c.example") message)
     (to_recipient ++ heard (codes "250") ∷ Said (line (codes "DATA")) ∷ heard (codes "354") ∷ Said message ∷ HeardNone CutShort ∷ []) (Some (Unheard Message CutShort))
 unheard = (refl, (refl, (refl, (refl, (refl, refl)))))
@@ -59,13 +59,13 @@ may_be = refl
 may_not : may_be_taken (Refused Message (codes "451")) ≡ false
 may_not = refl
 
--- a whole dialogue, from the greeting to a recipient that is refused
+-- a whole dialogue, from the greeting to the refusal of a recipient
 whole : GreetsAndAsks (codes "a.example") (commands_of (codes "b@c.example") message)
     (heard (codes "220") ∷ Said (line (codes "EHLO a.example")) ∷ heard (codes "250") ∷ (to_recipient ++ heard (codes "550") ∷ []))
     (Some (Refused Recipient (codes "550")))
 whole = (refl, (refl, (refl, (refl, refl))))
 
--- a session that was kept is followed by a new one where it fails at MAIL, and at no other step
+-- a kept session is followed by a new one if it fails at MAIL, and at no other step
 gone : is_at_sender (Unheard Sender Nothing) ≡ true
 gone = refl
 

@@ -1,4 +1,4 @@
--- What stands after the last of some bytes, and the queue id at the end of a text.
+-- The bytes after the last occurrence of a byte, and the queue id at the end of a text.
 use Rattle.std.proofs.Common.{◌≡◌, ℕ, zero, suc, ◌+◌, ◌-◌, ◌<◌, ◌≤◌, Bool, true, false, ◌&&◌, not, List, [], ◌∷◌, ◌++◌, length, take, drop, get_or, refl, sym, ap, subst, ◌∙◌, arith, append_assoc, length-append, length-drop, take-append-drop, eq-eqb, eqb, Option, Some, None, ◌↔◌}
 use Rattle.std.specs.Prelude.{codes, ◌==◌, nat_le, IfSome, IsSome}
 use Rattle.std.specs.List.{after_last, ends_with, list_all, suffix_len}
@@ -10,7 +10,7 @@ use Rattle.std.proofs.lemmas.List.Sums.{suffix_len_is}
 use Rattle.dsn_text.specs.Text.{IsQueueId, is_letter_or_digit}
 use Rattle.dsn_smtp.specs.QueueIdIn.{TellsQueueId}
 
--- where the last of the bytes stands fixes what stands after it
+-- the place of the last occurrence fixes the bytes after it
 after_at : (bytes : List ℕ) (byte start : ℕ) → start ≤ length bytes → ((k : ℕ) → start ≤ k → k < length bytes → not (get_or bytes k 0 == byte) ≡ true)
     → (0 < start → not (get_or bytes (start - 1) 0 == byte) ≡ false) → after_last (λ b. b == byte) bytes ≡ drop start bytes
 after_at bytes byte start within passed stops =
@@ -41,7 +41,7 @@ no_space byte h = grind (nat_tests, arith, h)
 abbrev queued_as : List ℕ
 queued_as = codes "queued as "
 
--- the id is what stands after the last space
+-- the id is the text after the last space
 after_space_in : (id front : List ℕ) → list_all is_letter_or_digit id ≡ true → after_last (λ b. b == 32) (front ++ (queued_as ++ id)) ≡ id
 after_space_in id front legal =
     let text : List ℕ = front ++ (queued_as ++ id) in
@@ -61,7 +61,7 @@ after_space_in id front legal =
 pub after_space : (text id : List ℕ) → TellsQueueId text id → after_last (λ b. b == 32) text ≡ id
 after_space text id tells = ap (after_last (λ b. b == 32)) tells.is ∙ after_space_in id tells.front (and_second (nat_le 1 (length id) && nat_le (length id) 32) (list_all is_letter_or_digit id) tells.legal)
 
--- a text is what stands before some place and what stands after it
+-- a text is the part before some place and the part after it
 split_at : (text : List ℕ) (m : ℕ) → m ≤ length text → take (length text - length (drop m text)) text ++ drop m text ≡ text
 split_at text m within =
     let place : length text - length (drop m text) ≡ m = rw (length-drop m text) (omega (arith, within)) in
@@ -70,7 +70,7 @@ split_at text m within =
 pub split_last : (text : List ℕ) → take (length text - length (after_last (λ b. b == 32) text)) text ++ after_last (λ b. b == 32) text ≡ text
 split_last text = split_at text (length text - suffix_len (λ b. not (b == 32)) text) (omega arith)
 
--- what stands before a queue id ends as Postfix writes it
+-- the text before a queue id ends as Postfix writes it
 pub ends_before : (text id last before : List ℕ) → TellsQueueId text id → last ≡ after_last (λ b. b == 32) text → before ≡ take (length text - length last) text → ends_with eqb before queued_as ≡ true
 ends_before text id last before tells is before_is =
     let whole : before ++ id ≡ text = rw (before_is, is, after_space text id tells) (let s = split_last text in rw (after_space text id tells) at s) in
@@ -87,7 +87,7 @@ tells text last before legal is before_is ends =
       is = sym whole ∙ ap (λ (b : List ℕ). b ++ last) split ∙ append_assoc (take (length before - length queued_as) before) queued_as last;
     }
 
--- ---- what making an id of a text came to
+-- ---- the result of making an id of a text
 
 pub found_in : (r : Option (List ℕ)) (last : List ℕ) (P : List ℕ → Type 0) → (IsSome r ↔ IsQueueId last) → IfSome r (λ id. id ≡ last) → (IsQueueId last → P last) → IfSome r P
 found_in None last P some kept holds = kept

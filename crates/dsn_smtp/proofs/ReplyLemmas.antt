@@ -1,4 +1,4 @@
--- Which bytes are a reply: just those that reading takes for one.
+-- Which bytes are a reply: exactly those that reading accepts as one.
 use Rattle.std.proofs.Common.{◌≡◌, ◌≢◌, ℕ, ◌<◌, Bool, true, false, ◌&&◌, ◌==◌, not, List, [], ◌∷◌, ◌++◌, length, Option, Some, None, refl, sym, ap, subst, ◌∙◌, arith, eq-eqb, zero-lt-suc}
 use Rattle.std.specs.Prelude.{IsTrue, slice_index, if◌then◌else◌}
 use Rattle.std.specs.List.{list_all}
@@ -18,7 +18,7 @@ use Rattle.dsn_smtp.specs.declared.reply_state.ReplyScan.TheVariants.{Open, Whol
 
 -- ---- what reading takes for a reply is one
 
--- what makes the bytes after a place a reply
+-- the bytes after a place complete a reply
 abbrev GoesOn : ReplyState → (bytes code : List ℕ) → Type 0
 GoesOn Front bytes code = IsServerReply code bytes
 GoesOn (Second first) bytes code = IsServerReply code (first ∷ bytes)
@@ -54,11 +54,11 @@ three (a ∷ b ∷ []) legal = absurd cc
 three (a ∷ b ∷ d ∷ []) legal = refl
 three (a ∷ b ∷ d ∷ e ∷ rest) legal = absurd cc
 
--- a reply of one line, with no text
+-- a reply of one line, without text
 shortest : (c : List ℕ) → IsReplyCode c → IsServerReply c (c ++ 13 ∷ 10 ∷ [])
 shortest c legal = record { earlier = []; last = None; legal = legal; texts = tt; last_text = tt; is = refl }
 
--- one with a line more before it
+-- a reply with one more line before it
 one_line_more : (c bytes : List ℕ) → IsServerReply c bytes → IsServerReply c (c ++ 45 ∷ 13 ∷ 10 ∷ bytes)
 one_line_more c bytes reply = record {
   earlier = [] ∷ reply.earlier;
@@ -83,7 +83,7 @@ abbrev tail_of : List ℕ → List ℕ
 tail_of [] = []
 tail_of (x ∷ xs) = xs
 
--- the text of a line that isn't the last may have a byte more
+-- the text of a line that isn't the last may have one more byte
 longer_from : (c rest : List ℕ) (byte : ℕ) (earlier : List (List ℕ)) (last : Option (List ℕ)) → is_text_byte byte ≡ true → IsReplyCode c → AreReplyTexts earlier → IsLastText last
     → 45 ∷ rest ≡ after_code c earlier last → IsServerReply c (c ++ 45 ∷ byte ∷ rest)
 longer_from c rest byte [] None legal code texts last_text e = absurd (other_head 45 13 rest (10 ∷ []) (omega arith) e)
@@ -104,7 +104,7 @@ longer_text : (c rest : List ℕ) (byte : ℕ) → is_text_byte byte ≡ true �
 longer_text c rest byte legal reply =
     longer_from c rest byte reply.earlier reply.last legal reply.legal reply.texts reply.last_text (append_cancel_left c (45 ∷ rest) (after_code c reply.earlier reply.last) reply.is)
 
--- so may that of the last
+-- the text of the last line may have one more byte
 longer_last_from : (c rest : List ℕ) (byte : ℕ) (earlier : List (List ℕ)) (last : Option (List ℕ)) → is_text_byte byte ≡ true → IsReplyCode c → AreReplyTexts earlier → IsLastText last
     → 32 ∷ rest ≡ after_code c earlier last → IsServerReply c (c ++ 32 ∷ byte ∷ rest)
 longer_last_from c rest byte [] None legal code texts last_text e = absurd (other_head 32 13 rest (10 ∷ []) (omega arith) e)
@@ -270,14 +270,14 @@ record Found (place : ReplyState) (bytes : List ℕ) : Type 0 where
   some : 0 < length rest
   on : GoesOn place front code
 
--- what is known of bytes that come to this
+-- what is known of bytes with this result
 abbrev Known : ReplyState → List ℕ → ReplyScan → Type 0
 Known place bytes Open = (rest code : List ℕ) × GoesOn place (bytes ++ rest) code
 Known place bytes (Whole code) = GoesOn place bytes code
 Known place bytes Behind = Found place bytes
 Known place bytes Wrong = Unit {0}
 
--- each place can be gone on from
+-- a reply can be completed from each place
 completed : (place : ReplyState) → IsPlace place → Known place [] Open
 completed Front good = (50 ∷ 48 ∷ 48 ∷ 13 ∷ 10 ∷ [], 50 ∷ 48 ∷ 48 ∷ [], shortest (50 ∷ 48 ∷ 48 ∷ []) refl)
 completed (Second a) good = (48 ∷ 48 ∷ 13 ∷ 10 ∷ [], a ∷ 48 ∷ 48 ∷ [], shortest (a ∷ 48 ∷ 48 ∷ []) (rw good refl))
@@ -413,7 +413,7 @@ stays_wrong [] more place h = absurd h
 stays_wrong (byte ∷ bytes) more place h =
     wrong_after (λ next. scan next bytes) (λ next. scan next (bytes ++ more)) (are_none bytes) (are_none (bytes ++ more)) (reply_state_after place byte) (λ next h. stays_wrong bytes more next h) h
 
--- ---- what reading comes to
+-- ---- the result of reading
 
 no_reply_in : (bytes : List ℕ) (s : ReplyScan) → scan Front bytes ≡ s → (HasEnded s → ⊥) → HasNoReply bytes
 no_reply_in bytes s e never front rest code split reply =

@@ -1,4 +1,4 @@
--- What was read of a reply piece by piece, at the front of a buffer, is what was read in one.
+-- A reply that is read in pieces to the front of a buffer is the same as one that is read in one piece.
 use Rattle.std.proofs.Common.{◌≡◌, ℕ, ◌+◌, ◌<◌, ◌≤◌, List, [], ◌++◌, length, take, drop, Option, sym, ap, subst, ◌∙◌, append-nil, length-take-le, arith}
 use Rattle.std.specs.Io.KnownBytes.{Consumes}
 use Rattle.std.proofs.KnownBytes.{Consumes-trans}
@@ -14,7 +14,7 @@ use Rattle.dsn_smtp.specs.declared.reply_state.ReplyState.TheVariants.{Front}
 use Rattle.dsn_smtp.specs.declared.reply_state.ReplyScan.TheVariants.{Open, Whole, Behind, Wrong}
 use Rattle.dsn_smtp.proofs.ReplyLemmas.{no_front, no_reply, reply_and_more, unended, whole_reply}
 
--- what is known of a buffer once a piece was read into it, after so many bytes that were read
+-- what is known of a buffer once a piece was read into it, behind `filled` bytes
 pub record ReadOn (a b c : Option (List ℕ)) (filled : ℕ) (old new : List ℕ) (count : ℕ) : Type 0 where
   pub within : filled ≤ length old
   pub front : take filled new ≡ take filled old
@@ -42,7 +42,7 @@ reply_read a b c filled old new count code on is = record {
   consumed = consumed_on a b c filled old new count on;
 }
 
--- it ends within the piece
+-- the reply ends within the piece
 pub more_read : (a b c : Option (List ℕ)) (filled : ℕ) (old new : List ℕ) (count : ℕ) → ReadOn a b c filled old new count → scan Front (take (filled + count) new) ≡ Behind → ReadsNoReply a c Trailing
 more_read a b c filled old new count on is = record {
   part = take (filled + count) new;
@@ -52,7 +52,7 @@ more_read a b c filled old new count on is = record {
   ends = tt;
 }
 
--- a byte of the piece stands where no reply has it
+-- a byte of the piece is at a place where no reply has it
 pub other_read : (a b c : Option (List ℕ)) (filled : ℕ) (old new : List ℕ) (count : ℕ) → ReadOn a b c filled old new count → scan Front (take (filled + count) new) ≡ Wrong → ReadsNoReply a c NoReply
 other_read a b c filled old new count on is = record {
   part = take (filled + count) new;
@@ -62,7 +62,7 @@ other_read a b c filled old new count on is = record {
   ends = tt;
 }
 
--- what a fault says of a piece, it says of the bytes before
+-- a fault at a piece says the same of the bytes before it
 stops_on : (fault : ReplyFault) (filled : ℕ) (part : List ℕ) → length part ≡ filled → filled < longest_server_reply → scan Front part ≡ Open → StopsAtReplyPiece fault filled → StopsReply fault part
 stops_on Nothing filled part long short scanned none = nil_from_length part (omega (arith, long, none))
 stops_on CutShort filled part long short scanned some = (unended part scanned, omega (arith, long, some))
@@ -83,7 +83,7 @@ no_piece a b c filled bytes fault within short consumed scanned none =
       ends = none.ends;
     }
 
--- no reply ends in as many bytes as one may have
+-- no reply ends within the longest size
 pub too_long : (a b : Option (List ℕ)) (filled : ℕ) (bytes : List ℕ) → filled ≡ longest_server_reply → filled ≤ length bytes → Consumes a b (take filled bytes) → scan Front (take filled bytes) ≡ Open → ReadsNoReply a b TooLong
 too_long a b filled bytes full within consumed scanned =
     let long = length-take-le filled bytes within in

@@ -1,4 +1,4 @@
--- Sessions that are kept: one that was begun, and a notice that is handed in over it.
+-- Sessions that are kept: one that was begun, and a notice that is submitted over it.
 use Rattle.std.proofs.Common.{ℕ, List, [], ◌∷◌, Some, None, Result, Ok, Err}
 use Rattle.dsn_device.specs.declared.drain.Drain
 use Rattle.dsn_device.specs.declared.source.Source
@@ -10,7 +10,7 @@ use Rattle.dsn_smtp.specs.declared.hand_in_fault.HandInFault.{HandInFault}
 use Rattle.dsn_smtp.specs.declared.hand_in_step.HandInStep.TheVariants.{Greeting, Hello}
 use Rattle.dsn_smtp.proofs.TransactionLemmas.{asked_after, not_asked_after}
 
--- commands that are asked in a session that was just begun are one dialogue with its beginning
+-- commands that are sent in a session that was just begun are one dialogue with its beginning
 pub asked_in_new : {S : Type 0} → (source : Source.Ghosts S) (drain : Drain.Ghosts S) (old session : S) (host : List ℕ) (commands : List Command) (first held after : List ℕ) (result : Result S HandInFault)
     → TurnsOver source drain old session (Greets host) first held None → Continues source drain session (AsksAll commands) held after result
     → Continues source drain old (GreetsAndAsks host commands) first after result
@@ -22,7 +22,7 @@ asked_in_new source drain old session host commands first held after (Err why) b
   ended = stops.ended;
 }
 
--- where none was begun they aren't asked
+-- if no session was begun, no command is sent
 pub asked_in_none : {S : Type 0} → (source : Source.Ghosts S) (drain : Drain.Ghosts S) (old : S) (host : List ℕ) (commands : List Command) (first after : List ℕ) (why : HandInFault)
     → Continues source drain old (Greets host) first after (Err why) → Continues source drain old (GreetsAndAsks host commands) first after (Err why)
 asked_in_none source drain old host commands first after why stops = record {

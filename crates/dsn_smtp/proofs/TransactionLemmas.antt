@@ -1,4 +1,4 @@
--- The turns of a session, put together from those of its steps.
+-- The turns of a session, composed of those of its steps.
 use Rattle.std.proofs.Common.{◌≡◌, ℕ, Bool, true, false, List, [], ◌∷◌, ◌++◌, Option, Some, None, refl, sym, ap, subst, ◌∙◌, append_assoc, append-nil, drop, drop-cons, get_or, length, suc, ◌<◌, ◌+◌, ◌≤◌, arith}
 use Rattle.std.proofs.lemmas.List.{drop_all}
 use Rattle.std.specs.Prelude.{MatchBool}
@@ -119,14 +119,14 @@ asks_on command First Next (SaidPart text ∷ rest) after outcome follow h = abs
 asks_on command First Next (Heard code bytes ∷ rest) after outcome follow h = absurd h
 asks_on command First Next (HeardNone why ∷ rest) after outcome follow h = absurd h
 
--- more commands are asked after some that went well
+-- more commands are sent after some that succeeded
 pub asks_more : (commands more : List Command) (turns after : List Turn) (outcome : Option HandInFault)
     → AsksAll commands turns None → AsksAll more after outcome → AsksAll (commands ++ more) (turns ++ after) outcome
 asks_more [] more turns after outcome h next = subst (λ (ts : List Turn). AsksAll more (ts ++ after) outcome) (sym h.0) next
 asks_more (command ∷ commands) more turns after outcome h next =
     asks_on command (AsksAll commands) (AsksAll (commands ++ more)) turns after outcome (λ rest went. asks_more commands more rest after outcome went next) h
 
--- the same, after a reply that was heard before them
+-- more commands are sent after a reply that was received, and after commands that succeeded
 pub listens_more : (step : HandInStep) (commands more : List Command) (turns after : List Turn) (outcome : Option HandInFault)
     → Listens step (AsksAll commands) turns None → AsksAll more after outcome → Listens step (AsksAll (commands ++ more)) (turns ++ after) outcome
 listens_more step commands more turns after outcome h next =
@@ -153,7 +153,7 @@ asks_to_fault command First Next (SaidPart text ∷ rest) why follow h = h
 asks_to_fault command First Next (Heard code bytes ∷ rest) why follow h = absurd h
 asks_to_fault command First Next (HeardNone other ∷ rest) why follow h = absurd h
 
--- no more commands are asked after a fault
+-- no more commands are sent after a fault
 pub asks_no_more : (commands more : List Command) (turns : List Turn) (why : HandInFault) → AsksAll commands turns (Some why) → AsksAll (commands ++ more) turns (Some why)
 asks_no_more [] more turns why h = absurd (never_none why h.1)
 asks_no_more (command ∷ commands) more turns why h =
@@ -166,7 +166,7 @@ listens_no_more step commands more turns why h =
 
 -- ---- one command more
 
--- the commands that are left from a place
+-- the commands from an index on
 pub left_from : (commands : List Command) (i : ℕ) (command : Command) → i < length commands → command ≡ get_or commands i command → drop i commands ≡ command ∷ drop (i + 1) commands
 left_from commands i command within is =
     let next : suc i ≡ i + 1 = omega arith in
@@ -174,7 +174,7 @@ left_from commands i command within is =
     ∙ ap (λ (x : Command). x ∷ drop (suc i) commands) (sym is)
     ∙ ap (λ (n : ℕ). command ∷ drop n commands) next
 
--- what is left goes on from these turns
+-- the commands that are left go on from these turns
 abbrev GoesOnFrom : List Command → List Command → List Turn → Type 0
 GoesOnFrom commands left turns = (after : List Turn) (outcome : Option HandInFault) → AsksAll left after outcome → AsksAll commands (turns ++ after) outcome
 
@@ -203,13 +203,13 @@ ended source drain old new commands i turns before after all taken goes_on last 
   last = λ e. last;
 }
 
--- the reply that was heard last, after more turns
+-- the reply that was received last, after more turns
 pub last_after_more : (first between after : List ℕ) (turns more : List Turn) → last_heard_after first turns ≡ between → last_heard_after between more ≡ after → last_heard_after first (turns ++ more) ≡ after
 last_after_more first between after turns more one two = last-append first turns more ∙ ap (λ (bytes : List ℕ). last_heard_after bytes more) one ∙ two
 
 -- ---- how a session begins
 
--- turns that went well, and others after them
+-- turns that succeeded, and others after them
 joined : {S : Type 0} → (source : Source.Ghosts S) (drain : Drain.Ghosts S) (old between new : S) (First Second Go : Goes) (first held after : List ℕ) (outcome : Option HandInFault)
     → ((turns more : List Turn) → First turns None → Second more outcome → Go (turns ++ more) outcome)
     → TurnsOver source drain old between First first held None → TurnsOver source drain between new Second held after outcome
@@ -221,7 +221,7 @@ joined source drain old between new First Second Go first held after outcome go 
   last = λ e. last_after_more first held after one.turns two.turns (one.last refl) (two.last e);
 }
 
--- commands that are asked after a reply was heard, and maybe others
+-- commands, if there are any, are sent after a reply was received
 pub asked_after : {S : Type 0} → (source : Source.Ghosts S) (drain : Drain.Ghosts S) (old between new : S) (step : HandInStep) (commands more : List Command) (first held after : List ℕ) (outcome : Option HandInFault)
     → TurnsOver source drain old between (Listens step (AsksAll commands)) first held None → TurnsOver source drain between new (AsksAll more) held after outcome
     → TurnsOver source drain old new (Listens step (AsksAll (commands ++ more))) first after outcome
@@ -229,7 +229,7 @@ asked_after source drain old between new step commands more first held after out
     joined source drain old between new (Listens step (AsksAll commands)) (AsksAll more) (Listens step (AsksAll (commands ++ more))) first held after outcome
     (λ turns others went next. listens_more step commands more turns others outcome went next) one two
 
--- none is asked after a fault
+-- no command is sent after a fault
 pub not_asked_after : {S : Type 0} → (source : Source.Ghosts S) (drain : Drain.Ghosts S) (old new : S) (step : HandInStep) (commands more : List Command) (first after : List ℕ) (why : HandInFault)
     → TurnsOver source drain old new (Listens step (AsksAll commands)) first after (Some why) → TurnsOver source drain old new (Listens step (AsksAll (commands ++ more))) first after (Some why)
 not_asked_after source drain old new step commands more first after why over = record {

@@ -1,4 +1,4 @@
--- The turns of a dialogue over a stream: what is said and what is heard, in the order in which it was.
+-- The turns of a dialogue over a stream: what was sent and what was received, in this order.
 use Rattle.std.specs.Prelude.{◌≡◌, ℕ, Bool, true, false, List, [], ◌∷◌}
 use Rattle.std.specs.Io.KnownBytes.{Appends, Keeps}
 use Rattle.dsn_device.specs.Failures.{counted}
@@ -10,14 +10,14 @@ use Rattle.dsn_smtp.specs.ReplyReading.{ReadsNoReply, ReadsReply}
 use Rattle.dsn_smtp.specs.declared.reply_fault.ReplyFault.{ReplyFault}
 use Rattle.dsn_smtp.specs.declared.reply_fault.ReplyFault.TheVariants.{Nothing, CutShort, NoReply, TooLong, Trailing, Read}
 
--- one turn: a reply with this code was heard, all these bytes, or none could be; a text was said whole, or it wasn't
+-- one turn: a reply was received, with its code and all its bytes, or couldn't be; a text was sent whole, or wasn't
 pub data Turn : Type 0 where
   Heard : List ℕ → List ℕ → Turn
   HeardNone : ReplyFault → Turn
   Said : List ℕ → Turn
   SaidPart : List ℕ → Turn
 
--- whether a fault of reading is the device's
+-- whether a fault of reading is a failure of the device
 abbrev pub is_of_device : ReplyFault → Bool
 is_of_device Nothing = false
 is_of_device CutShort = false
@@ -26,7 +26,7 @@ is_of_device TooLong = false
 is_of_device Trailing = false
 is_of_device Read = true
 
--- a stream was read from, and not written to; it failed once or not
+-- a stream was read from, and not written to; `failed` says whether it failed once
 pub record OnlyReads {S : Type 0} (source : Source.Ghosts S) (failed : Bool) (old new : S) : Type 0 where
   pub held : Keeps (source.holds old) (source.holds new)
   pub no_flush : source.flushes new ≡ source.flushes old
@@ -56,7 +56,7 @@ pub record FailsToSay {S : Type 0} (drain : Drain.Ghosts S) (old new : S) (text 
   pub count : drain.failures new ≡ counted true (drain.failures old)
   pub stays_steady : drain.steady old → drain.steady new × (drain.failures new ≡ drain.failures old)
 
--- one turn took a stream from the one state to the other
+-- one turn took a stream from one state to the other
 abbrev pub TakesTurn : {S : Type 0} → Source.Ghosts S → Drain.Ghosts S → S → S → Turn → Type 0
 TakesTurn source drain old new (Heard code bytes) =
     ReadsReply (source.remaining old) (source.remaining new) code bytes × OnlyReads source false old new
@@ -65,7 +65,7 @@ TakesTurn source drain old new (HeardNone fault) =
 TakesTurn source drain old new (Said text) = Says drain old new text
 TakesTurn source drain old new (SaidPart text) = FailsToSay drain old new text
 
--- these turns, in this order and no others, took a stream from the one state to the other
+-- exactly these turns, in this order, took a stream from one state to the other
 abbrev pub TakesTurns : {S : Type 0} → Source.Ghosts S → Drain.Ghosts S → S → S → List Turn → Type 0
 TakesTurns source drain old new [] = new ≡ old
 TakesTurns {S} source drain old new (turn ∷ turns) =

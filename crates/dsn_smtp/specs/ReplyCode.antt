@@ -16,7 +16,7 @@ is_reply_code (first ∷ second ∷ third ∷ more ∷ rest) = false
 abbrev pub IsReplyCode : List ℕ → Type 0
 IsReplyCode code = IsTrue (is_reply_code code)
 
--- what a code's first digit says (RFC 5321 section 4.2.1)
+-- the class of a code, by its first digit (RFC 5321 section 4.2.1)
 abbrev pub class_of : List ℕ → ReplyClass
 class_of [] = RefusedForGood
 class_of (first ∷ rest) =

@@ -1,18 +1,18 @@
--- Replies that are read from a device in pieces: what was read, and how reading ends. Of a device that doesn't tell its bytes
--- it is said what the reply is, and not where it came from.
+-- Replies that are read from a device in pieces: what was read, and how reading ends. If a device doesn't expose its
+-- bytes, this says what the reply is, and not where it came from.
 use Rattle.std.specs.Prelude.{◌≡◌, ℕ, ◌<◌, ◌≤◌, Bool, true, false, List, [], length, Option, Result, Ok, Err}
 use Rattle.std.specs.Io.KnownBytes.{Consumes, IsAtEnd}
 use Rattle.dsn_smtp.specs.Reply.{HasFurtherBytes, HasNoReply, IsFrontOfReply, IsNoFrontOfReply, IsServerReply, longest_server_reply}
 use Rattle.dsn_smtp.specs.declared.reply_fault.ReplyFault.{ReplyFault}
 use Rattle.dsn_smtp.specs.declared.reply_fault.ReplyFault.TheVariants.{Nothing, CutShort, NoReply, TooLong, Trailing, Read}
 
--- a reply that was read, and nothing after it
+-- a reply was read, and nothing after it
 pub record ReadsReply (old new : Option (List ℕ)) (code bytes : List ℕ) : Type 0 where
   pub reply : IsServerReply code bytes
   pub short : length bytes ≤ longest_server_reply
   pub consumed : Consumes old new bytes
 
--- bytes that are a part of a reply, its front, and not all of it
+-- bytes that begin a reply, and in which no reply ends
 pub record IsUnended (bytes : List ℕ) : Type 0 where
   pub front : IsFrontOfReply bytes
   pub none : HasNoReply bytes
@@ -26,7 +26,7 @@ StopsReply TooLong part = IsUnended part × (length part ≡ longest_server_repl
 StopsReply Trailing part = HasFurtherBytes part
 StopsReply Read part = IsUnended part × (length part < longest_server_reply)
 
--- the input's end is met where a reply isn't there or isn't whole
+-- the input is at its end if the fault says so
 abbrev pub EndsBeforeReply : ReplyFault → Option (List ℕ) → Type 0
 EndsBeforeReply Nothing new = IsAtEnd new
 EndsBeforeReply CutShort new = IsAtEnd new
@@ -35,7 +35,7 @@ EndsBeforeReply TooLong new = Unit {0}
 EndsBeforeReply Trailing new = Unit {0}
 EndsBeforeReply Read new = Unit {0}
 
--- no reply could be read: these bytes were
+-- no reply could be read, but `part` was
 pub record ReadsNoReply (old new : Option (List ℕ)) (fault : ReplyFault) : Type 0 where
   pub part : List ℕ
   pub short : length part ≤ longest_server_reply

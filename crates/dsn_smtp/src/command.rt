@@ -1,10 +1,10 @@
-//! A step of a mail transaction, with what is said at it.
+//! A step of a mail transaction, with the text that is sent at it.
 ghost use Rattle.std.specs.Prelude.{◌≡◌};
 
 use crate::hand_in_step::HandInStep;
 use std::marker::Model;
 
-/// What is said at a step of a mail transaction, before a reply is heard.
+/// The text that is sent at a step of a mail transaction, before its reply is received.
 #[derive(Drop)]
 pub(crate) struct Command<'a> {
     step: HandInStep,
@@ -20,21 +20,20 @@ impl<'a> Model for Command<'a> {
 }
 
 impl<'a> Command<'a> {
-    /// The step at which this text is said.
+    /// The command that sends this text at this step.
     pub(crate) fn new(step: HandInStep, text: &'a [u8]) -> Command<'a>
         ensures { result ≡ record { step = step; text = text.now } }
     {
         Command { step, text }
     }
 
-    /// The step.
     pub(crate) fn step(&self) -> HandInStep
         ensures { result ≡ self.now.step }
     {
         self.step
     }
 
-    /// What is said at it.
+    /// The text that is sent.
     pub(crate) fn text(&self) -> &[u8]
         ensures { result.now ≡ self.now.text }
     {

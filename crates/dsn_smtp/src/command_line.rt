@@ -10,14 +10,14 @@ use std::marker::Model;
 /// The longest command line, in bytes, with its CRLF (RFC 5321 section 4.5.3.1.4).
 const LONGEST_COMMAND_LINE: usize = 512;
 
-/// What is said for DATA, for MAIL from the null sender and for QUIT (RFC 5321 section 4.1.1).
+/// The lines of DATA, of MAIL from the null sender and of QUIT (RFC 5321 section 4.1.1).
 pub(crate) const DATA_LINE: &[u8] = b"DATA\r\n";
 
 pub(crate) const SENDER_LINE: &[u8] = b"MAIL FROM:<>\r\n";
 
 pub(crate) const QUIT_LINE: &[u8] = b"QUIT\r\n";
 
-/// A command line, held in place.
+/// A command line, stored in place.
 #[derive(Drop)]
 pub(crate) struct CommandLine {
     buffer: [u8; LONGEST_COMMAND_LINE],
@@ -64,7 +64,6 @@ impl CommandLine {
         line
     }
 
-    /// A line with nothing in it.
     fn empty() -> CommandLine
         ensures { result ≡ [] }
     {
@@ -74,7 +73,7 @@ impl CommandLine {
         }
     }
 
-    /// Puts a text behind what the line has. There must be room for it.
+    /// Appends a text to the line. Requires that the line has room for it.
     fn push(&mut self, text: &[u8])
         requires { length self.old + length text.now ≤ longest_command_line }
         ensures { self.new ≡ self.old ++ text.now }

@@ -1,4 +1,4 @@
-//! Where new connections to a mail server come from.
+//! The source of new connections to a mail server.
 use crate::hand_in_fault::HandInFault;
 
 /// A mail server to which connections can be made.
@@ -6,11 +6,12 @@ pub trait Connect<S> {
     ghost use Rattle.std.specs.Prelude.{Result};
     ghost use Rattle.dsn_smtp.specs.declared.hand_in_fault.HandInFault.{HandInFault};
 
-    // What it may give where it is asked once for a connection, and what becomes of it: no contract can tell what comes of
-    // asking a socket for one.
+    // The possible results of one `connect`, with the state before and after it. Each
+    // implementation defines them, since no contract can describe what a socket does.
     ghost gives: { Self → Self → Result S HandInFault → Type 0 };
 
-    /// A new connection, over which nothing was said or heard.
+    /// Makes a new connection, over which nothing was sent or received. Returns a fault if that
+    /// fails.
     fn connect(&mut self) -> Result<S, HandInFault>
         ensures { gives self.old self.new result };
 }

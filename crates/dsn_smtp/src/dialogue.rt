@@ -1,4 +1,4 @@
-//! The two turns of a dialogue with a mail server: a reply is heard, or a text is said.
+//! The two turns of a dialogue with a mail server: a reply is received, or a text is sent.
 ghost use Rattle.std.specs.Prelude.{◌≡◌, [], IfOk, IfErr, OnOk, OnErr};
 ghost use Rattle.dsn_smtp.specs.Dialogue.{TakesTurn, Heard, HeardNone, Said, SaidPart};
 
@@ -7,7 +7,8 @@ use crate::reply_code::ReplyCode;
 use crate::reply_fault::ReplyFault;
 use dsn_device::{Broken, Stream, send};
 
-/// Hears one reply, as [`ReplyBuffer::read_next`] reads it, and says its code. The buffer then holds it.
+/// Receives one reply, as [`ReplyBuffer::read_next`] reads it, and returns its code. The buffer
+/// then holds the reply.
 pub(crate) fn hear<S: Stream>(
     stream: &mut S,
     buffer: &mut ReplyBuffer,
@@ -20,7 +21,8 @@ pub(crate) fn hear<S: Stream>(
     buffer.read_next(stream)
 }
 
-/// Says a text: writes all of it, and flushes once.
+/// Sends a text: writes all of it, and flushes once. Returns `Broken` if the device failed within
+/// the text or at the flush.
 pub fn say<S: Stream>(stream: &mut S, text: &[u8]) -> Result<(), Broken>
     ensures said { OnOk result (TakesTurn S.Source S.Drain stream.old stream.new (Said text.now)) }
     ensures part { OnErr result

@@ -1,4 +1,4 @@
-//! Why a notice wasn't handed in.
+//! Why a submission failed.
 ghost use Rattle.std.specs.Prelude.{◌≡◌};
 ghost use Rattle.dsn_smtp.specs.HandIn.{is_at_sender, is_broken, may_be_taken, is_refused_for_good};
 
@@ -8,23 +8,23 @@ use crate::reply_code::ReplyCode;
 use crate::reply_fault::ReplyFault;
 use thiserror::Error;
 
-/// Why a notice wasn't handed in: the first step that went wrong, and why.
+/// Why a submission failed: the first step that went wrong, and the reason.
 #[derive(Clone, Copy, Debug, PartialEq, Eq, Error)]
 pub enum HandInFault {
-    /// The reply at the step was of another class than is wanted.
+    /// The reply at the step was of another class than the step wants.
     #[error("refused")]
     Refused(HandInStep, ReplyCode),
-    /// No reply could be heard at the step.
+    /// No reply could be received at the step.
     #[error("no reply was heard")]
     Unheard(HandInStep, ReplyFault),
-    /// The device failed before the step's command was said whole.
+    /// The device failed before the step's command was sent whole.
     #[error("a command was not said")]
     Unsaid(HandInStep),
 }
 
 impl HandInFault {
-    /// Whether the server may have taken the message although this came in place of its acceptance (RFC 5321 section
-    /// 4.2.5): it was said, in whole or in part, and no refusal was heard.
+    /// Whether the server may have accepted the message despite this fault (RFC 5321 section
+    /// 4.2.5): it was sent, in whole or in part, and no refusal was received.
     pub fn may_be_taken(&self) -> bool
         ensures { result ≡ may_be_taken self.now }
     {
@@ -34,7 +34,8 @@ impl HandInFault {
         )
     }
 
-    /// Whether the server refused for good: by 5yz. Every other fault may be another one later.
+    /// Whether the server refused for good, by 5yz. After every other fault, a later attempt may
+    /// end differently.
     pub fn is_refused_for_good(&self) -> bool
         ensures { result ≡ is_refused_for_good self.now }
     {
@@ -45,7 +46,7 @@ impl HandInFault {
         }
     }
 
-    /// Whether a transaction went wrong at its first command: nothing but MAIL was said in it, if that was.
+    /// Whether a transaction failed at its first command: nothing after MAIL was sent in it.
     pub fn is_at_sender(&self) -> bool
         ensures { result ≡ is_at_sender self.now }
     {
@@ -57,7 +58,7 @@ impl HandInFault {
         )
     }
 
-    /// Whether the device failed, so that nothing more is said over it.
+    /// Whether the device failed, so that nothing more can be sent over it.
     pub(crate) fn is_broken(&self) -> bool
         ensures { result ≡ is_broken (Some self.now) }
     {

@@ -4,10 +4,10 @@ ghost use Rattle.dsn_smtp.specs.HandIn.{is_wanted_reply};
 
 use crate::reply_class::ReplyClass;
 
-/// A step of a mail transaction (RFC 5321 section 3.3), named by what a reply is heard to.
+/// A step of a mail transaction (RFC 5321 section 3.3), named after what its reply answers.
 #[derive(Clone, Copy, Debug, PartialEq, Eq)]
 pub enum HandInStep {
-    /// The connection: the server greets.
+    /// The connection, which the server greets.
     Greeting,
     /// EHLO.
     Hello,
@@ -22,7 +22,7 @@ pub enum HandInStep {
 }
 
 impl HandInStep {
-    /// Whether a reply of this class lets the step be followed by the next: DATA wants 3yz, all others 2yz (RFC 5321
+    /// Whether a reply of this class allows the next step: DATA needs 3yz, all others 2yz (RFC 5321
     /// section 4.3.2).
     pub(crate) fn wants(self, class: ReplyClass) -> bool
         ensures { result ≡ is_wanted_reply self class }

@@ -12,8 +12,8 @@ use crate::submission::Submission;
 use dsn_device::Stream;
 use dsn_text::MtaName;
 
-/// Submits in the kept session, if there is one. If there is none, or if the kept one fails before the server accepted the
-/// sender, a new session is begun. Returns the session that was used last, if it had no fault.
+/// Submits in the kept session, if there is one. Begins a new session otherwise, and also if the
+/// kept one fails at MAIL. Returns the session that was used last, or the fault that ended it.
 pub fn hand_in_over<S: Stream + Drop, C: Connect<S>>(
     server: &mut C,
     kept: Option<Session<S>>,
@@ -32,7 +32,7 @@ pub fn hand_in_over<S: Stream + Drop, C: Connect<S>>(
         Ok(session) => Ok(session),
         // No message was sent in it yet.
         Err(fault) if fault.is_at_sender() => {
-            // none of its replies is left
+            // The buffer must not hold a reply of the failed session.
             *buffer = ReplyBuffer::new();
             hand_in_anew(server, host, submission, buffer)
         }

@@ -1,4 +1,4 @@
-//! The sessions with the mail server that are kept from one notice to another.
+//! The sessions with the mail server that are kept from one notice to the next.
 //! Implements docs/FORMATS.md, "A connection".
 use crate::hand_in_fault::HandInFault;
 use crate::hand_in_step::HandInStep;
@@ -15,21 +15,21 @@ use std::net::TcpStream;
 use std::sync::Wait;
 use std::time::{Clock, Duration};
 
-/// How many notices are submitted at once. Others wait: if the process is killed between the
-/// server's reply and the removal of the log, the sender is notified twice, and the more notices the
+/// How many notices are submitted at once; others wait. If the process is killed between the
+/// server's reply and the removal of the log, the sender is notified twice. The more notices the
 /// server writes at once, the longer each takes.
-// Two keep a server busy: the rate at load is the queue manager's. A notice that waits has its log
-// locked, so an append to that log waits too, and fails after 20 seconds, as with bounce(8).
+// Two keep a server busy: under load, the queue manager sets the rate. A notice that waits has its
+// log locked. So an append to that log waits too, and fails after 20 seconds, as with bounce(8).
 const MOST_AT_ONCE: usize = 2;
 
-/// For how many seconds a notice waits for its turn, so that a server that doesn't answer holds up
+/// For how many seconds a notice waits for its turn, so that a server that doesn't answer delays
 /// only the requests of that time.
 const SECONDS_FOR_TURN: u64 = 60;
 
 /// A session over a socket.
 type MailSession = Session<Plain<Connection<TcpStream>>>;
 
-/// The turn to submit one notice, with the session that the last one has left.
+/// The turn to submit one notice, with the session that the last notice left.
 #[derive(Drop)]
 struct KeptSession {
     session: Option<MailSession>,
@@ -37,7 +37,7 @@ struct KeptSession {
     is_fresh: bool,
 }
 
-/// The turns that no thread has. A thread submits a notice only while it has one.
+/// The turns that no thread has. A thread submits a notice only while it has a turn.
 #[derive(Drop)]
 pub struct KeptSessions {
     back: Sender<KeptSession>,
@@ -45,7 +45,7 @@ pub struct KeptSessions {
 }
 
 impl KeptSessions {
-    /// All turns, without a session.
+    /// All turns, without a session. Returns `AllocError` if memory was refused.
     pub fn new<W: Wait>(alloc: Global, waiting: &W) -> Result<KeptSessions, AllocError> {
         let (back, turns) = bounded(alloc, MOST_AT_ONCE)?;
         let kept = KeptSessions { back, turns };
@@ -57,13 +57,13 @@ impl KeptSessions {
 
     /// Returns a turn, with the session to be kept.
     fn put_back<W: Wait>(&self, waiting: &W, session: Option<MailSession>, is_fresh: bool) {
-        // there is room: no more turns are taken than there are
+        // The channel has room for all turns.
         let _ = self
             .back
             .try_send(waiting, KeptSession { session, is_fresh });
     }
 
-    /// The session of a turn, or else that of another turn that no thread has.
+    /// The session of a turn, or else that of another free turn.
     fn session_for<W: Wait>(&self, waiting: &W, turn: KeptSession) -> Option<MailSession> {
         if turn.session.is_some() {
             return turn.session;
@@ -73,8 +73,8 @@ impl KeptSessions {
         other.session
     }
 
-    /// Submits a notice in a kept session, or else in a new one. Returns `Unheard` at the greeting if it
-    /// waited too long for its turn.
+    /// Submits a notice in a kept session, or else in a new one. Returns the fault of the
+    /// submission, or `Unheard` at the greeting if no turn was free for 60 seconds.
     pub fn hand_in<W: Wait + Clock>(
         &self,
         waiting: &W,
@@ -102,7 +102,7 @@ impl KeptSessions {
         handed
     }
 
-    /// Ends the sessions that weren't used since the last call.
+    /// Ends the sessions of free turns that weren't used since the last call.
     pub fn end_stale<W: Wait>(&self, waiting: &W) {
         for _ in 0..MOST_AT_ONCE {
             let Ok(turn) = self.turns.try_recv(waiting) else {
@@ -119,7 +119,6 @@ impl KeptSessions {
     }
 }
 
-/// Ends a session, if there is one.
 fn end(session: Option<MailSession>) {
     if let Some(session) = session {
         session.end();

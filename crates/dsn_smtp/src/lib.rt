@@ -1,4 +1,4 @@
-//! Handing notices to a mail server: a client of SMTP (RFC 5321) that waits for each reply.
+//! Submits notices to a mail server: a client of SMTP (RFC 5321) that waits for each reply.
 #![tactic(auto)]
 
 mod command;

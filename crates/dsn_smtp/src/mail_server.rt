@@ -1,4 +1,4 @@
-//! Connections to the mail server that notices are handed to.
+//! Connections to the mail server to which notices are submitted.
 //! Implements RFC 5321 section 4.5.3.2 and docs/FORMATS.md, "A connection".
 use crate::connect::Connect;
 use crate::hand_in_fault::HandInFault;
@@ -10,26 +10,26 @@ use std::io;
 use std::net::{SocketAddr, TcpStream};
 use std::time::Duration;
 
-/// For how many seconds is waited for a connection.
+/// The time limit for making a connection, in seconds.
 const SECONDS_TO_CONNECT: u64 = 30;
 
-/// For how many seconds is waited for each piece of a reply, and for the server to take a piece: what
-/// RFC 5321 section 4.5.3.2 gives the reply to a message's end, the longest there.
+/// The time limit for receiving a piece of a reply and for sending a piece, in seconds. RFC 5321
+/// section 4.5.3.2 sets it for the reply to a message's end, the longest limit there.
 const SECONDS_FOR_PIECE: u64 = 600;
 
-/// A mail server that connections are made to.
+/// A mail server to which connections are made.
 #[derive(Drop)]
 pub struct MailServer<'a> {
     rt: &'a HostRuntime,
     address: &'a SocketAddr,
     /// The name by which it knows the client.
     pub(crate) host: &'a MtaName,
-    /// Why the last connection could not be made, if it could not.
+    /// The error of the last connection that failed, if one failed.
     pub unconnected: Option<io::Error>,
 }
 
 impl<'a> MailServer<'a> {
-    /// The server at this address, which knows the client by this name.
+    /// The server at this address; `host` is the client's name in EHLO.
     pub fn new(rt: &'a HostRuntime, address: &'a SocketAddr, host: &'a MtaName) -> MailServer<'a> {
         MailServer {
             rt,
@@ -43,7 +43,7 @@ impl<'a> MailServer<'a> {
 impl Connect<Plain<Connection<TcpStream>>> for MailServer<'_> {
     ghost gives = { λ _ _ _. Unit {0} };
 
-    // If no connection could be made, that is a greeting that wasn't heard.
+    // A connection that can't be made counts as a greeting that wasn't received.
     fn connect(&mut self) -> Result<Plain<Connection<TcpStream>>, HandInFault> {
         match connect_with_limits(self.rt, self.address) {
             Ok(stream) => Ok(Plain::new(Connection::new(stream))),
@@ -55,7 +55,7 @@ impl Connect<Plain<Connection<TcpStream>>> for MailServer<'_> {
     }
 }
 
-/// Connects to an address, with time limits.
+/// Connects to an address, with time limits for the connection and on it.
 fn connect_with_limits(rt: &HostRuntime, address: &SocketAddr) -> io::Result<TcpStream> {
     let to_connect = Duration::from_secs(SECONDS_TO_CONNECT);
     let for_piece = Duration::from_secs(SECONDS_FOR_PIECE);

@@ -1,4 +1,4 @@
-//! The queue id that a mail server tells with its acceptance.
+//! The queue id that a mail server reports when it accepts a message.
 //! Implements docs/FORMATS.md, "Lines on standard error".
 ghost use Rattle.std.specs.Prelude.{◌≡◌, ◌==◌, ℕ, List, Some, IfSome};
 ghost use Rattle.std.specs.List.{after_last};
@@ -6,11 +6,12 @@ ghost use Rattle.dsn_smtp.specs.QueueIdIn.{TellsQueueId};
 
 use dsn_text::QueueId;
 
-/// What stands before the queue id in the text of a reply, as Postfix writes it.
+/// The text before the queue id in a reply, as Postfix writes it.
 const QUEUED_AS: &[u8] = b"queued as ";
 
-/// The queue id at the end of a reply's text, behind `queued as `, as Postfix writes it (`2.0.0 Ok: queued as 4F9D195432C`):
-/// 1 to 32 letters and digits. None where there is no such id, as with other mail servers.
+/// The queue id at the end of a reply's text: 1 to 32 letters and digits behind `queued as `, as
+/// Postfix writes it (`2.0.0 Ok: queued as 4F9D195432C`). Returns `None` if there is no such id, as
+/// with other mail servers.
 pub fn queue_id_in(text: &[u8]) -> Option<QueueId>
     ensures found { IfSome result (λ id. TellsQueueId text.now id) }
     ensures only { (id : List ℕ) → TellsQueueId text.now id → result ≡ Some id }
@@ -23,7 +24,7 @@ pub fn queue_id_in(text: &[u8]) -> Option<QueueId>
     QueueId::new(id)
 }
 
-/// What stands after the last of these bytes, or all where there is none.
+/// The bytes after the last occurrence of `byte`, or all bytes if it doesn't occur.
 pub fn after_last_byte(bytes: &[u8], byte: u8) -> &[u8]
     ensures { result.now ≡ after_last (λ b. b == byte) bytes.now }
 {

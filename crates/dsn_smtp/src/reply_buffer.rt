@@ -1,4 +1,4 @@
-//! A buffer for one reply, into which replies are read from a device in the pieces that it gives.
+//! A buffer for one reply, which is read from a device in the pieces that the device gives.
 //! Implements RFC 5321 section 4.2.
 ghost use Rattle.std.specs.Prelude.{◌≡◌, ◌<◌, ◌≤◌, [], length, take, IfOk, IfErr, OnErr};
 ghost use Rattle.std.specs.Io.KnownBytes.{Keeps};
@@ -17,12 +17,13 @@ use std::marker::Model;
 /// The longest reply that is read, in bytes (this project's profile).
 pub const LONGEST_REPLY: usize = 8_192;
 
-/// Room for one reply at a time. It takes no memory.
+/// Room for one reply at a time, without allocation.
 #[derive(Drop)]
 pub struct ReplyBuffer {
-    /// The reply that was read last stands at the front; what follows it is left of longer ones.
+    /// The reply that was read last is at the front. The bytes behind it are remains of longer
+    /// ones.
     bytes: [u8; LONGEST_REPLY],
-    /// How many bytes that reply has; none where there is no reply.
+    /// The size of that reply in bytes; 0 if there is no reply.
     size: usize,
 }
 
@@ -38,7 +39,7 @@ impl Model for ReplyBuffer {
 }
 
 impl ReplyBuffer {
-    /// A buffer with no reply.
+    /// A buffer without a reply.
     pub fn new() -> ReplyBuffer
         ensures { result ≡ [] }
     {
@@ -48,9 +49,10 @@ impl ReplyBuffer {
         }
     }
 
-    /// Reads one reply of at most [`LONGEST_REPLY`] bytes, holds it in place of the last one, and says its code; after a
-    /// fault there is none. It asks the device for nothing once the reply's end is there: so what follows a reply is a fault
-    /// (`Trailing`) only where it came in one piece with the end.
+    /// Reads one reply of at most [`LONGEST_REPLY`] bytes, holds it in place of the last one, and
+    /// returns its code. After a fault the buffer holds no reply.
+    /// Doesn't read past the end of the reply. So bytes behind it are a fault (`Trailing`) only if
+    /// they came in one piece with the end.
     pub fn read_next<S: Source>(&mut self, source: &mut S) -> Result<ReplyCode, ReplyFault>
         ensures reply { IfOk result
             (λ code. ReadsReply (S.remaining source.old) (S.remaining source.new) code self.new) }
@@ -71,14 +73,15 @@ impl ReplyBuffer {
         Ok(read.code)
     }
 
-    /// The reply that was read last, all its bytes; none where there is no reply.
+    /// All bytes of the reply that was read last; empty if there is no reply.
     pub fn bytes(&self) -> &[u8]
         ensures { result.now ≡ self.now }
     {
         &self.bytes[..self.size]
     }
 
-    /// The text of the last line of the reply that was read last, without its code: nothing where there is none.
+    /// The text of the last line of the reply that was read last, without its code; empty if there
+    /// is no text or no reply.
     pub fn last_text(&self) -> &[u8]
         ensures { result.now ≡ last_text_of self.now }
     {
@@ -89,15 +92,15 @@ impl ReplyBuffer {
     }
 }
 
-/// A reply that stands at the front of a buffer.
+/// A reply at the front of a buffer.
 #[derive(Clone, Copy)]
 struct ReadReply {
-    /// How many bytes it has.
+    /// Its size in bytes.
     size: usize,
     code: ReplyCode,
 }
 
-/// Reads a reply to the front of a buffer.
+/// Reads a reply to the front of a buffer. Requires a buffer of [`LONGEST_REPLY`] bytes.
 fn read_into<S: Source>(bytes: &mut [u8], source: &mut S) -> Result<ReadReply, ReplyFault>
     requires room { length bytes.old ≡ longest_server_reply }
     ensures reply { IfOk result
@@ -127,7 +130,8 @@ fn read_into<S: Source>(bytes: &mut [u8], source: &mut S) -> Result<ReadReply, R
     Err(ReplyFault::TooLong)
 }
 
-/// Reads a piece into a buffer after so many bytes at its front, which stay, and says how many bytes it has, one or more.
+/// Reads a piece into a buffer, behind its first `filled` bytes, which stay. Returns the size of
+/// the piece in bytes, 1 or more. Requires room for one byte.
 fn read_piece<S: Source>(
     bytes: &mut [u8],
     filled: usize,

@@ -6,7 +6,8 @@ ghost use Rattle.dsn_smtp.specs.ReplyCode.{IsReplyCode, class_of, is_reply_code}
 use crate::reply_class::ReplyClass;
 use std::marker::Model;
 
-/// The code of a reply: three ASCII digits, the first 2 to 5, the second 0 to 5, the third 0 to 9 (RFC 5321 section 4.2).
+/// The code of a reply: three ASCII digits, the first 2 to 5, the second 0 to 5, the third 0 to 9
+/// (RFC 5321 section 4.2).
 #[derive(Clone, Copy, Debug, PartialEq, Eq)]
 pub struct ReplyCode {
     digits: [u8; 3],
@@ -26,7 +27,7 @@ impl Model for ReplyCode {
 }
 
 impl ReplyCode {
-    /// The code that three bytes are, if they are one.
+    /// The code of these three bytes. Returns `None` if they are not a valid code.
     pub fn new(digits: [u8; 3]) -> Option<ReplyCode>
         ensures some { IsSome result ↔ IsReplyCode digits }
         ensures kept { IfSome result (λ code. code ≡ digits) }
@@ -45,7 +46,7 @@ impl ReplyCode {
         self.digits
     }
 
-    /// What the code says of the command before it.
+    /// The class of the code, by its first digit.
     pub fn class(self) -> ReplyClass
         ensures { result ≡ class_of self }
     {
@@ -58,7 +59,6 @@ impl ReplyCode {
     }
 }
 
-/// Whether three bytes are a code.
 fn is_code(digits: [u8; 3]) -> bool
     ensures { result ≡ is_reply_code digits }
 {

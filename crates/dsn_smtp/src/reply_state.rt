@@ -40,25 +40,25 @@ pub(crate) enum ReplyStep {
     Within(ReplyState),
     /// The reply ends with the byte, and has this code.
     Ended(ReplyCode),
-    /// No reply has the byte there.
+    /// No reply has the byte at this place.
     Misplaced,
 }
 
 /// The result of some bytes.
 #[derive(Clone, Copy)]
 pub(crate) enum ReplyScan {
-    /// More bytes may make them a reply.
+    /// More bytes may complete them to a reply.
     Open,
     /// They are a reply with this code.
     Whole(ReplyCode),
-    /// They begin with a reply, and there are more.
+    /// They begin with a reply, and more bytes follow it.
     Behind,
     /// No reply begins with them.
     Wrong,
 }
 
 impl ReplyState {
-    /// What a byte comes to there.
+    /// The step for a byte in this state.
     fn after(&self, byte: u8) -> ReplyStep
         ensures { result ≡ reply_state_after self.now byte }
     {
@@ -104,14 +104,14 @@ impl ReplyState {
     }
 }
 
-/// The step, where a test holds.
+/// The step if a test holds, or else `Misplaced`.
 fn step_if(test: bool, step: ReplyStep) -> ReplyStep
     ensures { result ≡ step_if test step }
 {
     if test { step } else { ReplyStep::Misplaced }
 }
 
-/// What the third digit of a code comes to, with the two before it.
+/// The step for the third digit of a code, after the two before it.
 fn after_digits(digits: [u8; 3]) -> ReplyStep
     ensures { result ≡ step_if (is_reply_code digits) (ReplyStep.Within (ReplyState.Mark digits)) }
 {
@@ -121,7 +121,7 @@ fn after_digits(digits: [u8; 3]) -> ReplyStep
     }
 }
 
-/// What the byte after a line's code comes to.
+/// The step for the byte after a line's code.
 fn after_code(code: ReplyCode, byte: u8) -> ReplyStep
     ensures { result ≡ reply_state_after (ReplyState.Mark code) byte }
 {
@@ -133,7 +133,7 @@ fn after_code(code: ReplyCode, byte: u8) -> ReplyStep
     }
 }
 
-/// What a byte within a text comes to, at a state, before the state of its LF.
+/// The step for a byte within a text: stays in state `text`, or goes to `line_feed` after CR.
 fn within_text(byte: u8, text: ReplyState, line_feed: ReplyState) -> ReplyStep
     ensures { result ≡ (if byte == 13 then ReplyStep.Within line_feed
         else (if byte == 10 then ReplyStep.Misplaced else ReplyStep.Within text)) }
@@ -145,7 +145,7 @@ fn within_text(byte: u8, text: ReplyState, line_feed: ReplyState) -> ReplyStep
     }
 }
 
-/// The result of some bytes.
+/// Scans bytes from the front of a reply.
 pub(crate) fn scan(bytes: &[u8]) -> ReplyScan
     ensures { result ≡ scan ReplyState.Front bytes.now }
 {

@@ -1,4 +1,4 @@
-//! A session with a mail server that may be kept: it goes on as long as nothing goes wrong in it.
+//! A session with a mail server. It may be kept as long as nothing goes wrong in it.
 //! Implements docs/FORMATS.md, "A connection".
 //! A connection, a greeting and EHLO for each notice would take more processor time than bounce(8),
 //! which writes straight to cleanup(8).
@@ -12,15 +12,15 @@ use dsn_device::Stream;
 use dsn_text::{Address, MtaName};
 use std::marker::Model;
 
-/// In how many transactions a session is used at most: a server that is given another configuration obeys it
-/// only in new sessions.
+/// The largest number of transactions in a session. A server applies a changed configuration only
+/// to new sessions.
 const MOST_USES: u32 = 100;
 
-/// A session that was begun, and in which nothing went wrong so far: a call in which something does ends it.
+/// A session that was begun, and in which nothing went wrong so far. A call that fails ends it.
 #[derive(Drop)]
 pub struct Session<S: Stream> {
     stream: S,
-    /// In how many transactions it was used.
+    /// The number of its transactions so far.
     uses: u32,
 }
 
@@ -35,7 +35,8 @@ impl<S: Stream> Model for Session<S> {
 }
 
 impl<S: Stream + Drop> Session<S> {
-    /// Begins a session over a new connection, as [`greet`] does. Where that goes wrong it is ended.
+    /// Begins a session over a new connection, as [`greet`] does. If that fails, ends the session
+    /// and returns the fault.
     pub fn begin(
         stream: S,
         buffer: &mut ReplyBuffer,
@@ -53,7 +54,8 @@ impl<S: Stream + Drop> Session<S> {
         }
     }
 
-    /// Hands in one notice, as [`hand_in_notice`] does. Where that goes wrong the session is ended.
+    /// Submits one notice, as [`hand_in_notice`] does. If that fails, ends the session and returns
+    /// the fault.
     pub fn hand_in(
         self,
         buffer: &mut ReplyBuffer,
@@ -75,12 +77,12 @@ impl<S: Stream + Drop> Session<S> {
         }
     }
 
-    /// Whether it may be used in one more transaction.
+    /// Whether it may be used for one more transaction.
     pub fn may_go_on(&self) -> bool {
         self.uses < MOST_USES
     }
 
-    /// Ends it: says QUIT, as [`leave`] does.
+    /// Ends it with QUIT, as [`leave`] does.
     pub fn end(self)
         ensures { Ends S.Source S.Drain self None }
     {
@@ -92,7 +94,7 @@ impl<S: Stream + Drop> Session<S> {
     }
 }
 
-/// Ends the session over a stream, after this went wrong in it.
+/// Ends the session over a stream, after this fault.
 fn end_failed<S: Stream + Drop>(stream: S, fault: &HandInFault)
     ensures { Ends S.Source S.Drain stream (Some fault.now) }
 {

@@ -6,6 +6,7 @@ use dsn_text::Address;
 pub struct Submission<'a> {
     /// Its only recipient.
     pub path: &'a Address,
-    /// Its text, with its dots doubled and with the line of one dot that ends it.
+    /// The message, with leading dots doubled and with the line of one dot that ends it (RFC 5321
+    /// section 4.5.2).
     pub message: &'a [u8],
 }

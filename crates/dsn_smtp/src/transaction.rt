@@ -1,9 +1,9 @@
-//! A session with a mail server: it begins, notices are handed in, one after another, and it ends.
+//! A session with a mail server: it begins, submits notices one after another, and ends.
 //! Implements RFC 5321 sections 3.1 to 3.3 and docs/FORMATS.md, "A connection".
-//! Nothing is pipelined (RFC 2920), so bytes behind a reply answer nothing that was said. Bytes
-//! that a server sends unasked between two notices are read as the reply to MAIL. Each reply is one
-//! step late then, and DATA gets a 2yz where 3yz is wanted: no reply to something else is taken for
-//! the message's.
+//! Nothing is pipelined (RFC 2920), so bytes behind a reply answer nothing that was sent. If a
+//! server sends bytes between two notices, they are read as the reply to MAIL. Each reply is then
+//! one step late, and DATA gets 2yz instead of 3yz. So no reply to another command is taken for the
+//! reply to the message.
 ghost use Rattle.std.specs.Prelude.{◌≡◌, List, [], ◌∷◌};
 ghost use Rattle.dsn_smtp.specs.Dialogue.{TakesTurns, Turn};
 ghost use Rattle.dsn_smtp.specs.HandIn.{AsksAll, Greets, GreetsWith, Leaves, Listens, SaysGoodbye, TurnsOver, commands_of, commands_with, fault_said};
@@ -17,9 +17,10 @@ use crate::reply_buffer::ReplyBuffer;
 use dsn_device::Stream;
 use dsn_text::{Address, MtaName};
 
-/// Begins a session over a new connection: hears the server's greeting, and then says EHLO with `host` as the client's
-/// name, and hears the reply (RFC 5321 section 3.2). Time limits are the stream's: one that ran out is a failure of the
-/// device, here and in the calls below.
+/// Begins a session over a new connection. Receives the server's greeting, sends EHLO with `host`
+/// as the client's name, and receives the reply (RFC 5321 section 3.2). Returns the first step that
+/// went wrong. Time limits are the stream's: one that expires is a failure of the device, here and
+/// in the calls below.
 pub fn greet<S: Stream>(
     stream: &mut S,
     buffer: &mut ReplyBuffer,
@@ -32,7 +33,7 @@ pub fn greet<S: Stream>(
     greet_with(stream, buffer, line.bytes())
 }
 
-/// The same, with what is said for EHLO.
+/// As [`greet`], with the line for EHLO.
 fn greet_with<S: Stream>(
     stream: &mut S,
     buffer: &mut ReplyBuffer,
@@ -45,10 +46,12 @@ fn greet_with<S: Stream>(
     ask(stream, buffer, &Command::new(HandInStep::Hello, line))
 }
 
-/// Hands one notice to a mail server in one transaction from the null sender (RFC 5321 section 3.3), in a session that was
-/// begun and in which nothing went wrong so far. Each command is said only after the reply before it was heard, and nothing
-/// more after one that isn't wanted. `message` is the message with its dots doubled and with the line of one dot that ends
-/// it. The buffer then holds the reply to the message, if the server took it.
+/// Submits one notice to a mail server in one transaction from the null sender (RFC 5321 section
+/// 3.3). Requires a session that was begun, and in which nothing went wrong so far. Sends each
+/// command only after the reply before it was received, and nothing more after a reply that isn't
+/// wanted. `message` has its leading dots doubled, and ends with the line of one dot.
+/// Returns the first step that went wrong. If the server accepted the notice, the buffer holds the
+/// reply to the message.
 pub fn hand_in_notice<S: Stream>(
     stream: &mut S,
     buffer: &mut ReplyBuffer,
@@ -62,7 +65,7 @@ pub fn hand_in_notice<S: Stream>(
     hand_in_with(stream, buffer, recipient.bytes(), message)
 }
 
-/// The same, with what is said for RCPT.
+/// As [`hand_in_notice`], with the line for RCPT.
 fn hand_in_with<'a, S: Stream>(
     stream: &mut S,
     buffer: &mut ReplyBuffer,
@@ -88,22 +91,23 @@ fn commands_for<'a>(recipient: &'a [u8], message: &'a [u8]) -> [Command<'a>; 4]
     ]
 }
 
-/// Ends a session after what came of its last step: says QUIT, unless the device failed. It doesn't wait for the reply to
-/// that (RFC 5321 section 4.1.1.10 says that a client should): nothing that is done depends on it.
+/// Ends a session after the outcome of its last step. Sends QUIT, unless the device failed. Doesn't
+/// wait for the reply, although RFC 5321 section 4.1.1.10 says that a client should: nothing
+/// depends on it.
 pub fn leave<S: Stream>(stream: &mut S, outcome: &Result<(), HandInFault>)
     ensures { (turns : List Turn) × TakesTurns S.Source S.Drain stream.old stream.new turns
         × Leaves (fault_said outcome.now) turns }
 {
     match outcome {
         Err(fault) if fault.is_broken() => {}
-        // The log is removed after the message's 250. If a 221 was waited for before, a process
+        // The log is removed after the message's 250. If this waited for the 221 first, a process
         // killed meanwhile would send the notice twice. Postfix's smtp(8) doesn't wait either
         // (`smtp_skip_quit_response`).
         _ => say_goodbye(stream),
     }
 }
 
-/// Says QUIT. Whether it was said changes nothing.
+/// Sends QUIT. Whether that succeeds changes nothing.
 fn say_goodbye<S: Stream>(stream: &mut S)
     ensures { (turns : List Turn) × TakesTurns S.Source S.Drain stream.old stream.new turns
         × SaysGoodbye turns }
@@ -114,7 +118,7 @@ fn say_goodbye<S: Stream>(stream: &mut S)
     }
 }
 
-/// Asks commands in their order, up to the first that goes wrong.
+/// Sends commands in their order, and receives the reply to each. Stops at the first that fails.
 fn ask_all<S: Stream>(
     stream: &mut S,
     buffer: &mut ReplyBuffer,
@@ -129,7 +133,7 @@ fn ask_all<S: Stream>(
     Ok(())
 }
 
-/// Says a command, and hears the reply to it, which must be of the class that is wanted.
+/// Sends a command, and receives its reply, which must be of the class that the step wants.
 fn ask<S: Stream>(
     stream: &mut S,
     buffer: &mut ReplyBuffer,
@@ -144,7 +148,7 @@ fn ask<S: Stream>(
     }
 }
 
-/// Hears a reply at a step, which must be of the class that is wanted there.
+/// Receives a reply at a step, which must be of the class that the step wants.
 fn listen<S: Stream>(
     stream: &mut S,
     buffer: &mut ReplyBuffer,

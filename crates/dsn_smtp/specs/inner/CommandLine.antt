@@ -6,7 +6,7 @@ use Rattle.dsn_smtp.specs.Reply.{IsReplyText}
 abbrev pub longest_command_line : ℕ
 longest_command_line = 512
 
--- bytes that are one line: no CR and no LF stands before the CRLF at their end
+-- bytes that are one line: no CR or LF precedes the CRLF at their end
 pub record IsCommandLine (bytes : List ℕ) : Type 0 where
   pub text : List ℕ
   pub one_line : IsReplyText text

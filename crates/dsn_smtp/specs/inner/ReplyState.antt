@@ -1,4 +1,4 @@
--- Where reading stands within a reply, and what it makes of some bytes.
+-- The state of reading within a reply, and the result of scanning some bytes.
 use Rattle.std.specs.Prelude.{Bool, true, false, ℕ, ◌==◌, [], ◌∷◌, slice_index, if◌then◌else◌, List, ◌≡◌, ◌<◌, Option, ◌+◌, ◌≤◌, length, take, drop}
 use Rattle.std.specs.Io.KnownBytes.{Consumes}
 use Rattle.dsn_smtp.specs.ReplyCode.{is_reply_code}
@@ -13,12 +13,12 @@ use Rattle.dsn_smtp.specs.declared.reply_state.ReplyStep.TheVariants.{Misplaced,
 use Rattle.dsn_smtp.specs.declared.reply_state.ReplyStep.{ReplyStep}
 use Rattle.dsn_text.specs.Text.{is_between}
 
--- the step that is made where a test holds; else the byte stands where none such can
+-- the step if a test holds, or else `Misplaced`
 abbrev pub step_if : Bool → ReplyStep → ReplyStep
 step_if true step = step
 step_if false step = Misplaced
 
--- what a byte comes to at a place
+-- the step for a byte at a place
 abbrev pub reply_state_after : ReplyState → ℕ → ReplyStep
 reply_state_after Front byte = step_if (is_between 50 53 byte) (Within (Second byte))
 reply_state_after (Second first) byte = step_if (is_between 48 53 byte) (Within (Third first byte))
@@ -42,19 +42,19 @@ abbrev pub are_none : List ℕ → Bool
 are_none [] = true
 are_none (byte ∷ rest) = false
 
--- what bytes come to after a step, of which it is known what they come to from a place
+-- the result for bytes after a step, given the results from each place
 abbrev pub scan_on : (ReplyState → ReplyScan) → Bool → ReplyStep → ReplyScan
 scan_on from none (Within place) = from place
 scan_on from true (Ended code) = Whole code
 scan_on from false (Ended code) = Behind
 scan_on from none Misplaced = Wrong
 
--- what bytes come to from a place
+-- the result for bytes from a place
 abbrev pub scan : ReplyState → List ℕ → ReplyScan
 scan place [] = Open
 scan place (byte ∷ rest) = scan_on (λ next. scan next rest) (are_none rest) (reply_state_after place byte)
 
--- no piece could be read after so many bytes
+-- no piece could be read after `size` bytes
 abbrev pub StopsAtReplyPiece : ReplyFault → ℕ → Type 0
 StopsAtReplyPiece Nothing size = size ≡ 0
 StopsAtReplyPiece CutShort size = 0 < size
@@ -68,7 +68,7 @@ pub record ReadsNoReplyPiece (old new : Option (List ℕ)) (size : ℕ) (fault :
   pub stops : StopsAtReplyPiece fault size
   pub ends : EndsBeforeReply fault new
 
--- a piece that was read after so many bytes at the front of a buffer
+-- a piece of `count` bytes was read, behind `size` bytes at the front of a buffer
 pub record ReadsReplyPiece (old new : Option (List ℕ)) (size : ℕ) (bytes : List ℕ) (count : ℕ) : Type 0 where
   pub some : 0 < count
   pub fits : size + count ≤ length bytes

@@ -5,7 +5,7 @@ use Rattle.dsn_smtp.specs.Session.{connected, unconnected}
 use Rattle.dsn_smtp.proofs.SessionLemmas.{asked_in_new, asked_in_none}
 use Rattle.dsn_smtp.proofs.kept_or_new.hand_in_anew.Goals as goal
 
--- there was no connection
+-- no connection was made
 pub returns-in_err-stream : goal.returns-in_err-stream
 returns-in_err-stream g c =
     let exit = err_from_is_err_and c.from_residual.result c.from_residual.ensures.1 in
@@ -19,7 +19,7 @@ returns-in_err-session g c =
     (asked_in_none g.S.Source g.S.Drain c.in_ok-stream.stream c.args.host.now (commands_of c.args.submission.now.path.now c.args.submission.now.message.now)
     c.args.buffer.now c.begin.new.buffer c.in_err-session.field-0.0 c.in_err-session.ensures))
 
--- one was
+-- a session was begun
 pub returns : goal.returns
 returns g c =
     connected c.in_ok-stream.stream c.in_ok-stream.ensures

@@ -2,15 +2,15 @@ use Rattle.std.proofs.Common.{refl, sym, ◌∙◌}
 use Rattle.dsn_smtp.specs.Session.{anew, over_kept}
 use Rattle.dsn_smtp.proofs.kept_or_new.hand_in_over.Goals as goal
 
--- none was kept
+-- no session was kept
 pub returns-in_default-clause-over : goal.returns-in_default-clause-over
 returns-in_default-clause-over g c = rw c.in_default.is (anew c.args.buffer.now refl c.hand_in_anew.ensures)
 
--- all went well over the one that was
+-- the submission over the kept session succeeded
 pub returns-in-Ok-clause-over : goal.returns-in-Ok-clause-over
 returns-in-Ok-clause-over g c = over_kept c.in-Some.session c.in-Some.is refl c.in-Ok.ensures.over tt
 
--- it failed at MAIL
+-- the kept session failed at MAIL
 pub returns-in-Err-clause-over : goal.returns-in-Err-clause-over
 returns-in-Err-clause-over g c =
     rw c.in-Some.is (anew c.new.result (
@@ -24,7 +24,7 @@ returns-in-Err-clause-over g c =
     )
     c.hand_in_anew-in-Err.ensures)
 
--- it failed past MAIL
+-- the kept session failed after MAIL
 pub returns-in-Err-2-clause-over : goal.returns-in-Err-2-clause-over
 returns-in-Err-2-clause-over g c =
     over_kept c.in-Some.session c.in-Some.is refl c.in-Err.ensures.over (sym c.is_at_sender.ensures ∙ c.if-is_at_sender.false)

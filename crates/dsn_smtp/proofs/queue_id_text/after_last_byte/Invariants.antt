@@ -1,4 +1,4 @@
--- The byte stands nowhere from the place on.
+-- The byte doesn't occur from the place on.
 use Rattle.std.proofs.Common.{◌≡◌, ℕ, ◌≤◌, ◌<◌, length, not, get_or, true}
 use Rattle.std.specs.Prelude.{◌==◌}
 use Rattle.dsn_smtp.proofs.queue_id_text.after_last_byte.Given as goal

@@ -38,7 +38,7 @@ returns-in-Whole-clause-reply g c =
     reply_read _ _ _ c.loop-filled.filled c.loop-filled.bytes c.read_piece.new.bytes c.in_ok-count.count c.in-Whole.code
     (record { within = kept.in_range; front = read.front; consumed = kept.consumed; piece = read.piece; bounded = search rules }) (sym c.in-Whole.ensures)
 
--- it ends within the piece
+-- the reply ends within the piece
 pub returns-in-Behind-clause-refused : goal.returns-in-Behind-clause-refused
 returns-in-Behind-clause-refused g c =
     let kept = c.loop-filled.invariant in
@@ -46,7 +46,7 @@ returns-in-Behind-clause-refused g c =
     more_read _ _ _ c.loop-filled.filled c.loop-filled.bytes c.read_piece.new.bytes c.in_ok-count.count
     (record { within = kept.in_range; front = read.front; consumed = kept.consumed; piece = read.piece; bounded = search rules }) (sym c.in-Behind.ensures)
 
--- a byte stands where no reply has it
+-- a byte is at a place where no reply has it
 pub returns-in-Wrong-clause-refused : goal.returns-in-Wrong-clause-refused
 returns-in-Wrong-clause-refused g c =
     let kept = c.loop-filled.invariant in
@@ -54,7 +54,7 @@ returns-in-Wrong-clause-refused g c =
     other_read _ _ _ c.loop-filled.filled c.loop-filled.bytes c.read_piece.new.bytes c.in_ok-count.count
     (record { within = kept.in_range; front = read.front; consumed = kept.consumed; piece = read.piece; bounded = search rules }) (sym c.in-Wrong.ensures)
 
--- no reply ends in so many bytes
+-- no reply ends within the longest size
 pub returns-clause-refused : goal.returns-clause-refused
 returns-clause-refused g c =
     let kept = c.loop-filled.invariant in

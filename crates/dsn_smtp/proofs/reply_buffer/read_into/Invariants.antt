@@ -1,4 +1,4 @@
--- What stands at the front of the buffer was read, and more bytes may make it a reply.
+-- The front of the buffer was read, and further bytes may complete it to a reply.
 use Rattle.std.proofs.Common.{◌≡◌, ◌≤◌, ◌-◌, length, take}
 use Rattle.std.specs.Io.KnownBytes.{Consumes, Keeps}
 use Rattle.dsn_smtp.specs.Reply.{longest_server_reply}

@@ -1,4 +1,4 @@
--- The bytes come to what those that are left come to from the state.
+-- The result for all bytes is the result for the rest from the state.
 use Rattle.std.proofs.Common.{◌≡◌, length}
 use Rattle.dsn_smtp.specs.inner.ReplyState.{scan}
 use Rattle.dsn_smtp.specs.declared.reply_state.ReplyState.TheVariants.{Front}

@@ -3,7 +3,7 @@ use Rattle.std.proofs.lemmas.Result.{err_from_is_err_and}
 use Rattle.dsn_smtp.proofs.TransactionLemmas.{asked_on, ended, last_after_more, left_from, stopped, takes_more}
 use Rattle.dsn_smtp.proofs.transaction.ask_all.Goals as goal
 
--- a command went wrong
+-- a command failed
 pub returns-in_err-ask : goal.returns-in_err-ask
 returns-in_err-ask g c =
     let kept = c.loop-command.invariant in
@@ -11,7 +11,7 @@ returns-in_err-ask g c =
     rw (exit.1, exit.2) (stopped g.S.Source g.S.Drain _ _ _ c.args.commands.now (drop c.loop-command.command-index c.args.commands.now) (drop (c.loop-command.command-index + 1) c.args.commands.now)
     c.command-item.result kept.turns _ _ _ c.in_err-ask.field-0.0 (left_from _ _ _ c.loop-command-test.true c.command-item.is) kept.taken kept.goes_on c.in_err-ask.ensures)
 
--- a command went well
+-- a command succeeded
 pub loop-command-preserved : goal.loop-command-preserved
 loop-command-preserved g c =
     let kept = c.loop-command.invariant in
@@ -24,7 +24,7 @@ loop-command-preserved g c =
       last = last_after_more _ _ _ kept.turns asked.turns kept.last (asked.last refl);
     }
 
--- all did
+-- all commands succeeded
 pub returns : goal.returns
 returns g c =
     let kept = c.loop-command.invariant in

@@ -1,4 +1,4 @@
--- The turns so far went well, and the commands that are left go on from them.
+-- The turns so far succeeded, and the commands that are left go on from them.
 use Rattle.std.proofs.Common.{◌≡◌, ℕ, List, ◌++◌, Option, drop}
 use Rattle.dsn_smtp.specs.Dialogue.{TakesTurns, Turn}
 use Rattle.dsn_smtp.specs.HandIn.{AsksAll, last_heard_after}

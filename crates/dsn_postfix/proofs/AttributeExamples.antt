@@ -1,4 +1,5 @@
--- Worked examples of attributes: the announcement and an answer of Postfix's bounce(8), and lists that are none.
+-- Worked examples of attributes: the announcement and an answer of Postfix's bounce(8), and bytes that are not a valid
+-- list.
 use Rattle.std.proofs.Common.{◌≡◌, ℕ, List, [], ◌∷◌, ◌++◌, Some, None, refl}
 use Rattle.std.specs.Prelude.{codes}
 use Rattle.std.specs.Fmt.{digits}

@@ -10,7 +10,7 @@ use Rattle.dsn_postfix.specs.declared.request_fault.RequestFault.{RequestFault}
 use Rattle.dsn_postfix.specs.declared.request_fault.RequestFault.TheVariants.{Unended, Name, Number}
 use Rattle.dsn_postfix.proofs.NumberLemmas.{compared_same, decimal_free, number_again, number_takes, same_bytes}
 
--- ---- readings that met no fault
+-- ---- readings without a fault
 
 pub bind_ok : {A B : Type 0} (r : Result A RequestFault) (f : A → Result B RequestFault) (y : B) → (r >>> f) ≡ Ok y → (x : A) × (r ≡ Ok x) × (f x ≡ Ok y)
 bind_ok (Ok x) f y e = (x, refl, e)
@@ -84,7 +84,7 @@ named_again : (name : List ℕ) → 0 < length name → named name name ≡ Ok t
 named_again [] some = absurd (omega (arith, some))
 named_again (byte ∷ name) some = rw (compared_same (byte ∷ name) (byte ∷ name) refl) refl
 
--- what the name of a layout's attribute is
+-- the name of a layout's attribute
 pub record IsName (name : List ℕ) : Type 0 where
   pub some : 0 < length name
   pub free : IsZeroFree name

@@ -1,4 +1,4 @@
--- Texts that a zero ends: where the first zero of some bytes is, so ends the text.
+-- Texts that end with a zero: the first zero of some bytes is the end of the text.
 use Rattle.std.proofs.Common.{◌≡◌, ℕ, zero, suc, ◌+◌, ◌<◌, ◌≤◌, List, [], ◌∷◌, length, take, drop, Some, None, refl, arith}
 use Rattle.std.proofs.Math.Dec.{eqb-suc-zero}
 use Rattle.std.proofs.lemmas.Bool.{eqb-true}
@@ -7,7 +7,7 @@ use Rattle.memchr.specs.Find.{NoneBefore, Nowhere, Passes, is_byte}
 use Rattle.dsn_postfix.specs.Attribute.{zero_ended_at}
 use Rattle.dsn_postfix_files.specs.ZeroFree.{IsZeroFree}
 
--- what stands after a first byte that isn't zero
+-- the bytes after a first byte that isn't zero
 later : (byte : ℕ) (bytes : List ℕ) (j : ℕ) → Nowhere (Passes (is_byte 0) (byte ∷ bytes)) 0 (suc j) → Nowhere (Passes (is_byte 0) bytes) 0 j
 later byte bytes j none k low high passes = none (suc k) (omega arith) (omega (arith, high)) passes
 

@@ -1,4 +1,4 @@
--- What requests are made of: what was read is what was written, and what was written is read again.
+-- The parts of requests: what was read is what was written, and what was written is read again.
 use Rattle.std.proofs.Common.{◌≡◌, ℕ, zero, suc, ◌<◌, ◌≤◌, ◌^◌, Bool, true, false, ◌&&◌, List, [], ◌∷◌, ◌++◌, drop, Result, Ok, Err, refl, ap, subst, ◌∙◌, sym, append_assoc, arith}
 use Rattle.std.specs.Prelude.{codes}
 use Rattle.std.specs.List.{flat_map, list_all}
@@ -61,7 +61,7 @@ pub send_options_is_name : (newer : Bool) → IsName (send_options_name newer)
 send_options_is_name false = record { some = omega arith; free = refl }
 send_options_is_name true = record { some = omega arith; free = refl }
 
--- the name that the send options have is the one that is looked for
+-- the name of the send options is the one that is looked for
 sendopts_listed : (newer : Bool) (n : ℕ) (attributes : List Attribute) (rest : List ℕ) → is_sendopts_next (listed (number_attribute (send_options_name newer) n ∷ attributes) rest) ≡ newer
 unfolding is_sendopts_next attribute_bytes
 sendopts_listed false n attributes rest = refl

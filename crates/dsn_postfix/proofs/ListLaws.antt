@@ -1,4 +1,4 @@
--- RecordsFrom of attributes: what was written is read, and what is read was written.
+-- Lists of attributes: what was written is read, and what is read was written.
 use Rattle.std.proofs.Common.{◌≡◌, ℕ, zero, suc, ◌<◌, List, [], ◌∷◌, ◌++◌, length, Option, Some, None, refl, ap, subst, ◌∙◌, append_assoc, arith}
 use Rattle.std.specs.List.{AllByRecursion, flat_map}
 use Rattle.std.specs.Option.{option_map}
@@ -10,7 +10,7 @@ use Rattle.dsn_postfix_files.specs.ZeroFree.{IsZeroFree}
 abbrev Read : Type 0
 Read = Option (List Attribute × List ℕ)
 
--- what reading gives where an attribute was read before
+-- the result of reading after an attribute was read
 abbrev with_attribute : List ℕ → List ℕ → Read → Read
 with_attribute name value read = option_map {U = List Attribute × List ℕ} (λ (x : List Attribute × List ℕ). (text_attribute name value ∷ x.0, x.1)) read
 
@@ -62,7 +62,7 @@ abbrev before : Option (List ℕ) → List ℕ → List ℕ
 before None front = front
 before (Some name) front = name ++ 0 ∷ front
 
--- a name that was read has bytes, and none of them is 0
+-- a name that was read is not empty, and no byte of it is 0
 abbrev IsReadName : Option (List ℕ) → Type 0
 IsReadName None = Unit {0}
 IsReadName (Some name) = (0 < length name) × IsZeroFree name

@@ -1,4 +1,4 @@
--- What was read of a list piece by piece, at the front of a buffer, is what was read in one.
+-- A list that is read in pieces to the front of a buffer is the same as one that is read in one piece.
 use Rattle.std.proofs.Common.{◌≡◌, ℕ, ◌+◌, ◌-◌, ◌<◌, ◌≤◌, List, [], ◌++◌, length, take, drop, Option, sym, ap, subst, ◌∙◌, append-nil, length-take-le, arith}
 use Rattle.std.specs.Io.KnownBytes.{Consumes}
 use Rattle.std.proofs.KnownBytes.{Consumes-trans}
@@ -26,7 +26,7 @@ room_on before now after size more longer first second = record {
 
 -- ---- a piece after what was read
 
--- what is known of a buffer once a piece was read into it, after so many bytes in which no list ends
+-- what is known of a buffer once a piece was read into it, behind `filled` bytes in which no list ends
 pub record ReadOn (a b c : Option (List ℕ)) (filled : ℕ) (old new : List ℕ) (place : ListState) (count : ℕ) : Type 0 where
   pub within : filled ≤ length old
   pub front : take filled new ≡ take filled old
@@ -92,7 +92,7 @@ more_read a b c before filled old new place count size on ends some bounded room
 
 -- ---- no piece after what was read
 
--- what a fault says of a piece, it says of the bytes before
+-- a fault at a piece says the same of the bytes before it
 stops_on : (fault : ListFault) (place : ListState) (filled room : ℕ) (part : List ℕ) → length part ≡ filled → filled < longest_list → step_over Front part ≡ Within place
     → StopsAtPiece fault filled room → StopsReading fault room part
 stops_on NoMemory place filled room part long short scanned full = (no_list part place scanned, (omega (arith, long, short), omega (arith, long, full)))
@@ -116,7 +116,7 @@ no_piece a b c before now after filled bytes place fault within short consumed s
       room = rw long (room_on before now after filled filled (omega arith) first second);
     }
 
--- no list ends in as many bytes as one may have
+-- no list ends within the longest size
 pub too_long : (a b : Option (List ℕ)) (before after filled : ℕ) (bytes : List ℕ) (place : ListState) → filled ≡ longest_list → filled ≤ length bytes
     → Consumes a b (take filled bytes) → step_over Front (take filled bytes) ≡ Within place → RoomAfterBytes filled before after → ReadsNoList a b before after TooLong
 too_long a b before after filled bytes place full within consumed scanned room =

@@ -1,4 +1,4 @@
--- Worked examples of where a list ends, and of bytes that have no list's end.
+-- Worked examples of where a list ends, and of bytes in which no list ends.
 use Rattle.std.proofs.Common.{◌≡◌, ℕ, List, [], ◌∷◌, ◌++◌, refl}
 use Rattle.std.specs.Prelude.{codes}
 use Rattle.dsn_postfix.specs.ListBuffer.{HasNoList}
@@ -13,7 +13,7 @@ answer = codes "status" ++ 0 ∷ codes "0" ++ 0 ∷ 0 ∷ []
 whole : step_over Front answer ≡ Ended 10
 whole = refl
 
--- an empty value ends nothing
+-- an empty value doesn't end a list
 empty_value : step_over Front (codes "sender" ++ 0 ∷ 0 ∷ 0 ∷ []) ≡ Ended 9
 empty_value = refl
 

@@ -1,4 +1,4 @@
--- Where bytes end a list: just where reading them as a list ends.
+-- Bytes end a list exactly if reading them as a list ends.
 use Rattle.std.proofs.Common.{◌≡◌, ℕ, zero, suc, ◌<◌, List, [], ◌∷◌, ◌++◌, length, drop, Option, Some, None, refl, sym, ap, subst, ◌∙◌, arith}
 use Rattle.std.specs.Option.{option_map}
 use Rattle.std.proofs.lemmas.List.{drop_all, length-drop}
@@ -21,7 +21,7 @@ further_within : (n : ℕ) (s : ListStep) (place : ListState) → further n s �
 further_within n (Ended size) place e = absurd cc
 further_within n (Within other) place e = e
 
--- what follows bytes that end no list goes on from the place that they leave
+-- the result of bytes that end no list, and of more bytes, is that of the latter from the place that the former leave
 pub step_over-append : (place next : ListState) (xs ys : List ℕ) → step_over place xs ≡ Within next
     → step_over place (xs ++ ys) ≡ further (length xs) (step_over next ys)
 step_over-append place next [] ys e = moved place next ys e
@@ -50,7 +50,7 @@ step_over-append Value next (suc byte ∷ xs) ys e =
 
 -- ---- reading that is within an attribute
 
--- the place where reading stands after a name, if it was read, and the front of a text
+-- the place of reading after a name, if it was read, and the front of a text
 abbrev place_of : Option (List ℕ) → List ℕ → ListState
 place_of None [] = Front
 place_of None (byte ∷ front) = Name
@@ -78,11 +78,11 @@ none_from (suc byte ∷ bytes) within front place e =
     none_from bytes within (front ++ suc byte ∷ []) place
     (further_within 1 (step_over (place_of within (front ++ suc byte ∷ [])) bytes) place (sym (place_of-more within front byte bytes) ∙ e))
 
--- bytes that end no list have none
+-- bytes that end no list contain no list
 pub no_list : (bytes : List ℕ) (place : ListState) → step_over Front bytes ≡ Within place → HasNoList bytes
 no_list bytes place e = none_from bytes None [] place e
 
--- a list was read, and what follows so many bytes is left
+-- a list was read, and the bytes after the first `size` are left
 record Ends (bytes : List ℕ) (size : ℕ) (read : Read) : Type 0 where
   attributes : List Attribute
   is : read ≡ Some (attributes, drop size bytes)
@@ -131,7 +131,7 @@ ends_from (suc byte ∷ bytes) within front size e =
     one_later (suc byte) bytes size found.0 (attributes_after bytes within (front ++ suc byte ∷ [])) found.2
     (ends_from bytes within (front ++ suc byte ∷ []) found.0 found.1)
 
--- bytes that end a list with the last of them are one
+-- bytes that end a list with the last of them are one list
 pub whole_list : (bytes : List ℕ) (size : ℕ) → step_over Front bytes ≡ Ended size → size ≡ length bytes → IsList bytes
 whole_list bytes size e long =
     let ends = ends_from bytes None [] size e in
@@ -141,7 +141,7 @@ whole_list bytes size e long =
       whole = subst (λ (rest : List ℕ). BeginsWithList bytes ends.attributes rest) none_left (read_was_written bytes ends.attributes (drop size bytes) ends.is);
     }
 
--- and those that end one before have more
+-- bytes that end a list before the last of them are a list and more bytes
 pub list_and_more : (bytes : List ℕ) (size : ℕ) → step_over Front bytes ≡ Ended size → size < length bytes → HasMore bytes
 list_and_more bytes size e short =
     let ends = ends_from bytes None [] size e in

@@ -1,6 +1,6 @@
--- Worked examples of the record that an append becomes, each computed. The request is `append-bounce.bin`, which smtp(8) of
--- Postfix 3.7.11 sent, but for its original recipient, which an alias had here. The bytes are those that bounce(8) of that
--- version has for it.
+-- Worked examples of the record of an append, each computed. The request is `append-bounce.bin`, which smtp(8) of
+-- Postfix 3.7.11 sent, except its original recipient, which an alias had here. The bytes are those that bounce(8) of
+-- that version writes for it.
 use Rattle.std.proofs.Common.{◌≡◌, ℕ, true, false, List, [], ◌∷◌, ◌++◌, Ok, Some, None, codes, refl}
 use Rattle.std.specs.Fmt.{digits}
 use Rattle.dsn_text.specs.declared.service.Service.TheVariants.{Bounce, Defer, Trace}
@@ -55,7 +55,7 @@ said_report = record {
 abbrev append_of : ReportedRecipient → DeliveryReport → AppendRequest
 append_of recipient report = record { flags = 0; queue_id = codes "6BB87A7E6A1"; recipient = recipient; report = report }
 
--- the original recipient stays apart from the recipient, in a request as in a log
+-- the original recipient differs from the recipient, in a request as in a log
 differing_is_read : postfix_request_at request_bytes ≡ Ok (Append (append_of said_recipient said_report))
 unfolding digits number_in postfix_request_at own_request_at append_only_at append_request_at recipient_at report_at tested_at attribute_at value_number_at
 differing_is_read = refl
@@ -72,9 +72,9 @@ differing_is_sayable : unlogged_field Bounce (append_of said_recipient said_repo
 unfolding logged_of needs_no_quotes unlogged_of unsayable_field
 differing_is_sayable = refl
 
--- what bounce(8) leaves out: an original recipient that is the recipient but for case, an offset of -1, flags that are no
--- sum of the known ones, a type of nothing, a name of no type; spaces around a text don't count, nor does a text of them
--- alone
+-- What bounce(8) leaves out: an original recipient that equals the recipient without regard to case, an offset of -1,
+-- and flags that are no sum of the known ones. Also a type without a text, and a name without a type. Spaces around a
+-- text don't count, nor does a text of spaces alone.
 abbrev scant_recipient : ReportedRecipient
 scant_recipient = record {
   original = codes "Carl@Example.org";
@@ -124,7 +124,7 @@ null_is_sayable : unlogged_field Trace (append_of null_recipient said_report) �
 unfolding logged_of needs_no_quotes unlogged_of unsayable_field
 null_is_sayable = refl
 
--- the first field that no line can say
+-- the first field that no line can express
 abbrev to : List ℕ → List ℕ → ReportedRecipient
 to original address = record { original = original; address = address; offset = 9; dsn_original = []; notify = 0 }
 
@@ -136,7 +136,7 @@ quoted_original : unlogged_field Bounce (append_of (to (codes "a b@example.org")
 unfolding logged_of needs_no_quotes unlogged_of unsayable_field
 quoted_original = refl
 
--- the recipient's fault comes first, whatever it is
+-- the recipient's fault is reported first, whatever it is
 line_feed_in_recipient : unlogged_field Bounce (append_of (to (codes "a b@example.org") (codes "b@example\n.org")) said_report) ≡ Some Recipient
 unfolding logged_of needs_no_quotes unlogged_of unsayable_field
 line_feed_in_recipient = refl

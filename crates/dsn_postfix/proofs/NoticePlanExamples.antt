@@ -58,7 +58,7 @@ became action recipient offset flags = record {
 abbrev failed : List ℕ → ℕ → LoggedFields
 failed recipient flags = became (codes "failed") recipient 0 flags
 
--- NOTIFY not said, NEVER, SUCCESS, FAILURE, SUCCESS and FAILURE, DELAY
+-- NOTIFY unspecified, NEVER, SUCCESS, FAILURE, SUCCESS and FAILURE, DELAY
 abbrev unasked : LoggedFields
 unasked = failed (codes "a@example.org") 0
 
@@ -83,7 +83,7 @@ logged = unasked ∷ never ∷ success ∷ failure ∷ both ∷ delay ∷ []
 abbrev double_bounce : List ℕ
 double_bounce = codes "double-bounce@mx.example.net"
 
--- ---- whom they tell of
+-- ---- the outcomes that they report
 
 of_failure : told_of Bounce (Flush asked) [] logged ≡ unasked ∷ failure ∷ both ∷ []
 of_failure = refl
@@ -94,7 +94,7 @@ of_delay = refl
 of_deliveries : told_of TraceLog (Trace asked) [] logged ≡ logged
 of_deliveries = refl
 
--- where a message expired, its delays are failures
+-- if a message expired, its delays are failures
 abbrev delayed : ℕ → LoggedFields
 delayed offset = became (codes "delayed") (codes "g@example.org") offset 0
 
@@ -104,8 +104,8 @@ expired = refl
 still_delayed : told_of Defer (Warn asked) [] (delayed 727 ∷ []) ≡ delayed 727 ∷ []
 still_delayed = refl
 
--- an outcome that a log has twice is told once, where its last record is. Two addresses of one alias are two recipients,
--- and so are two of which the queue file's records aren't known
+-- An outcome that a log has twice is reported once, at its last record. Two addresses of one alias are two recipients,
+-- and so are two whose records in the queue file aren't known.
 logged_twice : told_of Defer (Warn asked) [] (delayed 727 ∷ delayed 3 ∷ delayed 727 ∷ []) ≡ delayed 3 ∷ delayed 727 ∷ []
 logged_twice = refl
 
@@ -115,7 +115,7 @@ of_one_alias = refl
 without_places : told_of Defer (Warn asked) [] (delayed 0 ∷ delayed 0 ∷ []) ≡ delayed 0 ∷ delayed 0 ∷ []
 without_places = refl
 
--- the commands of one alias have its place and its address: both are told, also where one failed and the other didn't
+-- the commands of one alias have its place and its address: both are reported, even if one failed and the other didn't
 abbrev command : List ℕ → List ℕ → List ℕ → LoggedFields
 command status action reason = record (became action (codes "staff@example.org") 727 0) { status = status; reason = reason }
 
@@ -139,11 +139,11 @@ tried =
 of_tried_commands : told_of TraceLog (Trace asked) [] tried ≡ tried
 of_tried_commands = refl
 
--- a notice of failure has one action, so two records that differ in it alone are told once
+-- a notice of failure has one action, so two records that differ in the action alone are reported once
 of_one_failure : told_of Defer (Flush asked) [] (delayed 727 ∷ became (codes "failed") (codes "g@example.org") 727 0 ∷ []) ≡ became (codes "failed") (codes "g@example.org") 727 0 ∷ []
 of_one_failure = refl
 
--- a log of recipients that are tried again says nothing of one that is done; a log of failures does
+-- a log of recipients that are tried again reports nothing of one that is done; a log of failures does
 abbrev queued_as : ℕ → RecipientState → RecipientFacts
 queued_as place state = record { place = place; address = codes "g@example.org"; original = []; dsn_original = []; notify_flags = 0; state = state }
 
@@ -164,7 +164,7 @@ telling returned service outcomes = record { to = sender; delimiters = None; ser
 one_notice : notices_with Bounce (Flush asked) asked [] (Ok logged) ≡ Ok (telling Header Bounce (unasked ∷ failure ∷ both ∷ []) ∷ [])
 one_notice = refl
 
--- the whole message comes back where the sender didn't say what, and never with a warning
+-- the whole message is returned if the sender didn't specify what, and never with a warning
 abbrev whole_asked : NoticeRequest
 whole_asked = notice_with sender 0 0
 
@@ -174,7 +174,7 @@ whole_notice = refl
 warning : notices_with Defer (Warn whole_asked) whole_asked [] (Ok logged) ≡ Ok (telling Header Defer (unasked ∷ delay ∷ []) ∷ [])
 warning = refl
 
--- with a return path for each there are three
+-- with a return path for each there are three notices
 abbrev to_each : LoggedFields → NoticeFacts
 to_each fields = record { to = sender; delimiters = Some (codes "+="); service = Bounce; returned = Header; outcomes = fields ∷ [] }
 
@@ -202,7 +202,7 @@ in_one_portion = refl
 of_damage : whole_records (SaidLog unasked ∷ DamagedLog (record { place = 109; bytes = []; said = None }) ∷ SaidLog both ∷ []) ≡ Err (DamagedPart 109)
 of_damage = refl
 
--- a log's file, and none
+-- a log's file, and no file
 of_a_file : notices_of double_bounce Bounce (Flush asked) [] (Some (codes "<a@example.org>: no\n\n")) ≡ Ok (telling Header Bounce (record {
   recipient = codes "a@example.org";
   original_recipient = [];
@@ -249,7 +249,7 @@ of_a_double_bounce : notices_of double_bounce Bounce (Flush (notice_with (codes 
 unfolding notices_of
 of_a_double_bounce = refl
 
--- UTF-8 in the header, the sender and a recipient asks for nothing: a warning without a log tells of nobody
+-- UTF-8 in the header, the sender and a recipient requires nothing: a warning without a log reports nobody
 of_utf8_text : notices_of double_bounce Defer (Warn (notice_with sender 14 0)) [] None ≡ Ok []
 unfolding notices_of
 of_utf8_text = refl
@@ -258,7 +258,7 @@ of_smtputf8 : notices_of double_bounce Bounce (Flush (notice_with sender 1 0)) [
 unfolding notices_of
 of_smtputf8 = refl
 
--- `TLS-Required: no`, REQUIRETLS, and an option of which nothing is known; a message from nobody asks for nothing
+-- `TLS-Required: no`, REQUIRETLS, and an unknown option; a message from the null sender requires nothing
 of_tls_required : notices_of double_bounce Bounce (Flush (notice_with sender 16 0)) [] None ≡ Err (SendOptions 16)
 unfolding notices_of
 of_tls_required = refl
@@ -275,7 +275,7 @@ of_nobody_with_options : notices_of double_bounce Bounce (Flush (notice_with [] 
 unfolding notices_of
 of_nobody_with_options = refl
 
--- a request about one recipient tells of it, whatever the log
+-- a request about one recipient reports it, whatever the log
 abbrev reported_as : List ℕ → ReportedRecipient
 reported_as address = record { original = []; address = address; offset = 0; dsn_original = []; notify = 0 }
 

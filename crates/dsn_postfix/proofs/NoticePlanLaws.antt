@@ -1,4 +1,4 @@
--- Notices tell each outcome once: what portions have, and what is told.
+-- Notices report each outcome once: what portions contain, and what is reported.
 use Rattle.std.proofs.Common.{◌≡◌, ◌<◌, ◌≤◌, ◌∙◌, Bool, true, false, ℕ, zero, suc, List, [], ◌∷◌, ◌++◌, take, drop, length, map, Result, Ok, Err, refl, sym, ap, subst, arith}
 use Rattle.std.specs.Prelude.{◌==◌, ◌&&◌, ◌||◌, nat_lt, if◌then◌else◌}
 use Rattle.std.specs.List.{AllByRecursion, flat_map, list_all, list_any}
@@ -82,7 +82,7 @@ told_once (fields ∷ later) =
 same_text : (one other : List ℕ) → bytes_eq one other ≡ true → (text : List ℕ) → bytes_eq one text ≡ bytes_eq other text
 same_text one other same text = ap (λ (t : List ℕ). bytes_eq t text) (same_bytes one other same)
 
--- who says the same as one says it as the other does
+-- two records that say the same agree on which records say the same
 says_alike : (one other told : LoggedFields) → says_same one other ≡ true → says_same one told ≡ says_same other told
 says_alike one other told same =
     let place = and_parts (one.offset == other.offset) _ same in
@@ -98,7 +98,7 @@ any_alike : (one other : LoggedFields) (told : List LoggedFields) → says_same 
 any_alike one other [] same = refl
 any_alike one other (fields ∷ told) same = λ i. says_alike one other fields same i || any_alike one other told same i
 
--- what a later record says again is told where that one is
+-- an outcome that a later record repeats is reported if the later one is
 told_by_one : (same : Bool) (told : List LoggedFields) (fields other : LoggedFields) (later : Bool) → is_same_outcome fields other ≡ same → IsToldBy told other → (later ≡ true → IsToldBy told fields) → same || later ≡ true → IsToldBy told fields
 told_by_one true told fields other later is by_other by_later again = any_alike fields other told (and_parts (nat_lt 0 fields.offset) (says_same fields other) is).1 ∙ by_other
 told_by_one false told fields other later is by_other by_later again = by_later again

@@ -27,7 +27,7 @@ pub after_record_more : (before : List LogRecord) (log_record : LogRecord) (foun
 after_record_more before log_record found =
     ap (λ (xs : List LoggedFields). after_records xs found) (map-append logged_fields_in before (log_record ∷ [])) ∙ after_one_more (map logged_fields_in before) (logged_fields_in log_record) found
 
--- how many portions there may be doesn't matter, if it is enough
+-- the bound on the number of portions doesn't matter if it is large enough
 enough : {X : Type 0} (count other most : ℕ) (xs : List X) → 0 < most → length xs ≤ count → length xs ≤ other → portions_within count most xs ≡ portions_within other most xs
 enough zero zero most xs some one two = refl
 enough zero (suc other) most [] some one two = refl

@@ -1,4 +1,4 @@
--- The number that a text writes is the one whose decimal text it is.
+-- A text writes the number whose decimal text it is.
 use Rattle.std.proofs.Common.{◌≡◌, ℕ, zero, suc, ◌==◌, ◌<◌, ◌≤◌, ◌^◌, Bool, true, false, cond, ltb, ◌&&◌, List, [], ◌∷◌, decimal, Option, Some, None, refl, sym, ap, subst, ◌∙◌, arith}
 use Rattle.std.specs.Cmp.{unsigned_Decides}
 use Rattle.std.specs.Cmp.Lexicographic.{pointwise}
@@ -45,7 +45,7 @@ number_again limit n low few =
 pub number_known : (limit : ℕ) (text : List ℕ) (n : ℕ) → n < limit → limit ≤ 2 ^ 64 → text ≡ decimal n → number_in limit text ≡ Some n
 number_known limit text n low few is = rw is (number_again limit n low few)
 
--- a text of no number is read as none
+-- a text that is no number's is read as `None`
 pub number_unknown : (limit : ℕ) (text : List ℕ) → ((n : ℕ) → n < limit → text ≡ decimal n → ⊥) → number_in limit text ≡ None
 unfolding number_in
 number_unknown limit text refuted =

@@ -16,7 +16,7 @@ use Rattle.dsn_postfix.specs.NoticePlan.{is_same_outcome}
 use Rattle.dsn_postfix.specs.inner.RecipientSet.{HasOutcomes, OutcomeKey, is_of_outcome, outcome_cmp}
 use Rattle.dsn_postfix_files.specs.declared.log_record.LogRecord.{LogRecord}
 
--- without a place no other record is of the outcome
+-- no other record has the outcome of a record without a place
 pub no-place : (one : LoggedFields) (later : List LoggedFields) → one.offset ≡ 0 → list_any (is_same_outcome one) later ≡ false
 no-place one [] none = refl
 no-place one (other ∷ later) none =
@@ -27,7 +27,7 @@ pub twice_not : (one other : Bool) → one ≡ not other → not one ≡ other
 twice_not one true is = ap not is
 twice_not one false is = ap not is
 
--- ---- outcomes tie where they are the same
+-- ---- outcomes tie if they are the same
 
 tied-then : (first second : Ordering) → is_eq (ordering_then first second) ≡ (is_eq first && is_eq second)
 tied-then Less second = refl

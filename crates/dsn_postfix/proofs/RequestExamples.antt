@@ -1,5 +1,5 @@
--- Worked examples of requests: the bytes are those that programs of Postfix 3.7.11 sent (tests/postfix/), except for one
--- that is made by hand.
+-- Worked examples of requests: the bytes are those that programs of Postfix 3.7.11 sent (tests/postfix/), except for
+-- one request that is made by hand.
 use Rattle.std.proofs.Common.{◌≡◌, ℕ, false, List, [], ◌∷◌, ◌++◌, Result, Ok, Err, refl}
 use Rattle.std.specs.Prelude.{codes}
 use Rattle.std.specs.Fmt.{digits}
@@ -14,11 +14,11 @@ use Rattle.dsn_postfix.specs.declared.postfix_request.ReportedRecipient.{Reporte
 use Rattle.dsn_postfix.specs.declared.request_fault.RequestFault.{RequestFault}
 use Rattle.dsn_postfix.specs.declared.request_fault.RequestFault.TheVariants.{Unended, Missing, Name, Number, Command, QueueName, QueueId, Delimiters, Extra, Trailing}
 
--- what some bytes ask.
+-- the request in some bytes
 abbrev asked : List ℕ → Result PostfixRequest RequestFault
 asked bytes = postfix_request_at bytes
 
--- smtp(8) after a 550: the log of failures.
+-- smtp(8) after a 550: the log of failures
 abbrev append_bytes : List ℕ
 append_bytes =
     codes "nrequest" ++ (0 ∷ codes "0") ++ (0 ∷ codes "flags") ++ (0 ∷ codes "0") ++ (0 ∷ codes "queue_id")
@@ -63,7 +63,7 @@ append_is_written : postfix_request_bytes append_request ≡ append_bytes
 unfolding digits postfix_request_bytes attribute_bytes
 append_is_written = refl
 
--- qmgr(8) once all recipients are done.
+-- qmgr(8) once all recipients are done
 abbrev flush_bytes : List ℕ
 flush_bytes =
     codes "nrequest" ++ (0 ∷ codes "1") ++ (0 ∷ codes "flags") ++ (0 ∷ codes "0") ++ (0 ∷ codes "queue_name")
@@ -96,7 +96,7 @@ flush_is_written : postfix_request_bytes flush_request ≡ flush_bytes
 unfolding digits postfix_request_bytes attribute_bytes
 flush_is_written = refl
 
--- qmgr(8) once a message has expired: recipients are to be marked.
+-- qmgr(8) once a message has expired: recipients must be marked
 abbrev expired_bytes : List ℕ
 expired_bytes =
     codes "nrequest" ++ (0 ∷ codes "1") ++ (0 ∷ codes "flags") ++ (0 ∷ codes "2") ++ (0 ∷ codes "queue_name")
@@ -128,7 +128,7 @@ expired_is_written : postfix_request_bytes expired_request ≡ expired_bytes
 unfolding digits postfix_request_bytes attribute_bytes
 expired_is_written = refl
 
--- cleanup(8) for a message with too many hops: the log is to go where the answer is not 0.
+-- cleanup(8), about a message with too many hops: the log must be removed if the answer isn't 0
 abbrev refused_bytes : List ℕ
 refused_bytes =
     codes "nrequest" ++ (0 ∷ codes "1") ++ (0 ∷ codes "flags") ++ (0 ∷ codes "1") ++ (0 ∷ codes "queue_name")
@@ -160,7 +160,7 @@ refused_is_written : postfix_request_bytes refused_request ≡ refused_bytes
 unfolding digits postfix_request_bytes attribute_bytes
 refused_is_written = refl
 
--- a message with a null sender.
+-- a message with a null sender
 abbrev null_bytes : List ℕ
 null_bytes =
     codes "nrequest" ++ (0 ∷ codes "1") ++ (0 ∷ codes "flags") ++ (0 ∷ codes "0") ++ (0 ∷ codes "queue_name")
@@ -192,7 +192,7 @@ null_is_written : postfix_request_bytes null_request ≡ null_bytes
 unfolding digits postfix_request_bytes attribute_bytes
 null_is_written = refl
 
--- qmgr(8) after the delay of a warning.
+-- qmgr(8) after the delay of a warning
 abbrev warn_bytes : List ℕ
 warn_bytes =
     codes "nrequest" ++ (0 ∷ codes "2") ++ (0 ∷ codes "flags") ++ (0 ∷ codes "0") ++ (0 ∷ codes "queue_name")
@@ -224,7 +224,7 @@ warn_is_written : postfix_request_bytes warn_request ≡ warn_bytes
 unfolding digits postfix_request_bytes attribute_bytes
 warn_is_written = refl
 
--- qmgr(8) for a message that was sent with XVERP.
+-- qmgr(8), about a message that was submitted with XVERP
 abbrev verp_bytes : List ℕ
 verp_bytes =
     codes "nrequest" ++ (0 ∷ codes "3") ++ (0 ∷ codes "flags") ++ (0 ∷ codes "0") ++ (0 ∷ codes "queue_name")
@@ -257,7 +257,7 @@ verp_is_written : postfix_request_bytes verp_request ≡ verp_bytes
 unfolding digits postfix_request_bytes attribute_bytes
 verp_is_written = refl
 
--- qmgr(8) for a message that was sent with NOTIFY=SUCCESS.
+-- qmgr(8), about a message that was submitted with NOTIFY=SUCCESS
 abbrev trace_bytes : List ℕ
 trace_bytes =
     codes "nrequest" ++ (0 ∷ codes "5") ++ (0 ∷ codes "flags") ++ (0 ∷ codes "0") ++ (0 ∷ codes "queue_name")
@@ -289,7 +289,7 @@ trace_is_written : postfix_request_bytes trace_request ≡ trace_bytes
 unfolding digits postfix_request_bytes attribute_bytes
 trace_is_written = refl
 
--- local(8), of an alias that has an `owner-` alias and a command that failed.
+-- local(8), about an alias that has an `owner-` alias and a command that failed
 abbrev owner_bytes : List ℕ
 owner_bytes =
     codes "nrequest" ++ (0 ∷ codes "4") ++ (0 ∷ codes "flags") ++ (0 ∷ codes "0") ++ (0 ∷ codes "queue_name")
@@ -342,7 +342,7 @@ owner_is_written : postfix_request_bytes owner_request ≡ owner_bytes
 unfolding digits postfix_request_bytes attribute_bytes
 owner_is_written = refl
 
--- the same with all attributes, made by hand.
+-- the same request with all attributes, made by hand
 abbrev one_bytes : List ℕ
 one_bytes =
     codes "nrequest" ++ (0 ∷ codes "4") ++ (0 ∷ codes "flags") ++ (0 ∷ codes "0") ++ (0 ∷ codes "queue_name")
@@ -370,7 +370,7 @@ one_is_written : postfix_request_bytes one_request ≡ one_bytes
 unfolding digits postfix_request_bytes attribute_bytes
 one_is_written = refl
 
--- ---- bytes that ask nothing
+-- ---- bytes that are not a valid request
 
 no_bytes : asked [] ≡ Err Unended
 unfolding digits is_sendopts_next number_in postfix_request_at own_request_at append_only_at append_request_at notice_at notice_request_at one_at verp_at recipient_at report_at tested_at attribute_at value_number_at
@@ -380,49 +380,49 @@ empty_list : asked (0 ∷ []) ≡ Err Missing
 unfolding digits is_sendopts_next number_in postfix_request_at own_request_at append_only_at append_request_at notice_at notice_request_at one_at verp_at recipient_at report_at tested_at attribute_at value_number_at
 empty_list = refl
 
--- what is asked is unknown.
+-- the kind of request is unknown
 unknown_command : asked (
     codes "nrequest" ++ (0 ∷ codes "6") ++ (0 ∷ []) ++ (0 ∷ []))
     ≡ Err Command
 unfolding digits is_sendopts_next number_in postfix_request_at own_request_at append_only_at append_request_at notice_at notice_request_at one_at verp_at recipient_at report_at tested_at attribute_at value_number_at
 unknown_command = refl
 
--- a number has no sign.
+-- a number has no sign
 command_with_a_sign : asked (
     codes "nrequest" ++ (0 ∷ codes "+2") ++ (0 ∷ []) ++ (0 ∷ []))
     ≡ Err Number
 unfolding digits is_sendopts_next number_in postfix_request_at own_request_at append_only_at append_request_at notice_at notice_request_at one_at verp_at recipient_at report_at tested_at attribute_at value_number_at
 command_with_a_sign = refl
 
--- and no zero in front.
+-- a number has no leading zero
 command_with_a_zero : asked (
     codes "nrequest" ++ (0 ∷ codes "02") ++ (0 ∷ []) ++ (0 ∷ []))
     ≡ Err Number
 unfolding digits is_sendopts_next number_in postfix_request_at own_request_at append_only_at append_request_at notice_at notice_request_at one_at verp_at recipient_at report_at tested_at attribute_at value_number_at
 command_with_a_zero = refl
 
--- and 32 bits.
+-- a number has 32 bits
 number_too_great : asked (
     codes "nrequest" ++ (0 ∷ codes "2") ++ (0 ∷ codes "flags") ++ (0 ∷ codes "4294967296") ++ (0 ∷ []) ++ (0 ∷ []))
     ≡ Err Number
 unfolding digits is_sendopts_next number_in postfix_request_at own_request_at append_only_at append_request_at notice_at notice_request_at one_at verp_at recipient_at report_at tested_at attribute_at value_number_at
 number_too_great = refl
 
--- which is the greatest.
+-- the greatest number
 greatest_number : asked (
     codes "nrequest" ++ (0 ∷ codes "2") ++ (0 ∷ codes "flags") ++ (0 ∷ codes "4294967295") ++ (0 ∷ []) ++ (0 ∷ []))
     ≡ Err Missing
 unfolding digits is_sendopts_next number_in postfix_request_at own_request_at append_only_at append_request_at notice_at notice_request_at one_at verp_at recipient_at report_at tested_at attribute_at value_number_at
 greatest_number = refl
 
--- an attribute with the name of the next one.
+-- an attribute with the name of the next one
 name_for_another : asked (
     codes "nrequest" ++ (0 ∷ codes "2") ++ (0 ∷ codes "queue_name") ++ (0 ∷ codes "active") ++ (0 ∷ []) ++ (0 ∷ []))
     ≡ Err Name
 unfolding digits is_sendopts_next number_in postfix_request_at own_request_at append_only_at append_request_at notice_at notice_request_at one_at verp_at recipient_at report_at tested_at attribute_at value_number_at
 name_for_another = refl
 
--- a list that ends early.
+-- a list that ends early
 list_too_short : asked (
     codes "nrequest" ++ (0 ∷ codes "2") ++ (0 ∷ codes "flags") ++ (0 ∷ codes "0") ++ (0 ∷ codes "queue_name")
     ++ (0 ∷ codes "active") ++ (0 ∷ codes "queue_id") ++ (0 ∷ codes "6FF65A7E6C1") ++ (0 ∷ []) ++ (0 ∷ []))
@@ -430,7 +430,7 @@ list_too_short : asked (
 unfolding digits is_sendopts_next number_in postfix_request_at own_request_at append_only_at append_request_at notice_at notice_request_at one_at verp_at recipient_at report_at tested_at attribute_at value_number_at
 list_too_short = refl
 
--- a queue id that is a path.
+-- a queue id that is a path
 traversal : asked (
     codes "nrequest" ++ (0 ∷ codes "2") ++ (0 ∷ codes "flags") ++ (0 ∷ codes "0") ++ (0 ∷ codes "queue_name")
     ++ (0 ∷ codes "active") ++ (0 ∷ codes "queue_id") ++ (0 ∷ codes "../../etc") ++ (0 ∷ []) ++ (0 ∷ []))
@@ -438,7 +438,7 @@ traversal : asked (
 unfolding digits is_sendopts_next number_in postfix_request_at own_request_at append_only_at append_request_at notice_at notice_request_at one_at verp_at recipient_at report_at tested_at attribute_at value_number_at
 traversal = refl
 
--- the name of a queue that is a path.
+-- the name of a queue that is a path
 queue_traversal : asked (
     codes "nrequest" ++ (0 ∷ codes "2") ++ (0 ∷ codes "flags") ++ (0 ∷ codes "0") ++ (0 ∷ codes "queue_name")
     ++ (0 ∷ codes "../active") ++ (0 ∷ codes "queue_id") ++ (0 ∷ codes "6FF65A7E6C1") ++ (0 ∷ []) ++ (0 ∷ []))
@@ -446,7 +446,7 @@ queue_traversal : asked (
 unfolding digits is_sendopts_next number_in postfix_request_at own_request_at append_only_at append_request_at notice_at notice_request_at one_at verp_at recipient_at report_at tested_at attribute_at value_number_at
 queue_traversal = refl
 
--- a warning's attributes, and something after them.
+-- a warning's attributes, and something after them
 abbrev warn_attributes : List ℕ
 warn_attributes =
     codes "nrequest" ++ (0 ∷ codes "2") ++ (0 ∷ codes "flags") ++ (0 ∷ codes "0") ++ (0 ∷ codes "queue_name")
@@ -466,7 +466,7 @@ with_a_byte_more : asked (warn_attributes ++ (0 ∷ 0 ∷ [])) ≡ Err Trailing
 unfolding digits is_sendopts_next number_in postfix_request_at own_request_at append_only_at append_request_at notice_at notice_request_at one_at verp_at recipient_at report_at tested_at attribute_at value_number_at
 with_a_byte_more = refl
 
--- three delimiters.
+-- three delimiters
 three_delimiters : asked (
     codes "nrequest" ++ (0 ∷ codes "3") ++ (0 ∷ codes "flags") ++ (0 ∷ codes "0") ++ (0 ∷ codes "queue_name")
     ++ (0 ∷ codes "active") ++ (0 ∷ codes "queue_id") ++ (0 ∷ codes "6CE9CA7E022") ++ (0 ∷ codes "encoding")

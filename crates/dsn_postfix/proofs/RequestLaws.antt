@@ -1,4 +1,4 @@
--- Bytes are a request exactly where they are the bytes of one.
+-- Bytes are read as a request exactly if they are the bytes of that request.
 use Rattle.std.proofs.Common.{◌≡◌, ℕ, zero, suc, ◌<◌, Bool, List, [], ◌∷◌, ◌++◌, drop, Ok, refl, ap, subst, ◌∙◌, sym, arith}
 use Rattle.std.specs.Prelude.{codes}
 use Rattle.dsn_text.specs.Text.{is_queue_id}
@@ -58,7 +58,7 @@ append_again request rest fits =
       report_again request.report rest fits.report,
     ) refl
 
--- ---- what follows the number of what is asked
+-- ---- what follows the number of the request
 
 pub record OwnTaken (command : ℕ) (bytes : List ℕ) (request : PostfixRequest) (rest : List ℕ) : Type 0 where
   pub command_is : command_number request ≡ command

@@ -1,4 +1,4 @@
--- Bytes are a status exactly where they are the bytes of one.
+-- Bytes are read as a status exactly if they are the bytes of that status.
 use Rattle.std.proofs.Common.{◌≡◌, ℕ, ◌<◌, List, [], ◌∷◌, Ok, refl, ap, ◌∙◌, arith}
 use Rattle.std.specs.Prelude.{codes}
 use Rattle.dsn_postfix.specs.Attribute.{number_attribute, number_limit}

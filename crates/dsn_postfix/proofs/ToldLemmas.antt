@@ -1,4 +1,4 @@
--- Which outcomes notices tell, from a record on: the last one first.
+-- Which outcomes notices report, from a record on: the last one first.
 use Rattle.std.proofs.Common.{◌≡◌, ◌∙◌, ◌<◌, ◌≤◌, ◌+◌, ◌-◌, Bool, true, false, ℕ, List, [], ◌∷◌, ◌++◌, drop, get_or, length, map, reverse, refl, sym, subst, ap, arith}
 use Rattle.std.specs.Prelude.{◌&&◌, not, if◌then◌else◌}
 use Rattle.std.specs.List.{list_any}
@@ -16,7 +16,7 @@ use Rattle.dsn_postfix.specs.declared.postfix_request.PostfixRequest.{PostfixReq
 abbrev Records : Type 0
 Records = List LogRecord
 
--- those of them that are to be told
+-- the wanted records among them
 abbrev pub wanted_in : Service → PostfixRequest → List RecipientFacts → Records → List LoggedFields
 wanted_in service request queued records = wanted_of service request queued (map logged_fields_in records)
 
@@ -39,7 +39,7 @@ pub seen_step : (d : LogRecord) (service : Service) (request : PostfixRequest) (
 seen_step d service request queued records left found seen some within is has =
     subst (HasOutcomes seen) (from-last d service request queued records left found some within is) has
 
--- one that is told, and one that isn't
+-- one record that is reported, and one that isn't
 told-by : (wanted again told : Bool) (fields : LoggedFields) (later : List LoggedFields) → list_any (is_same_outcome fields) later ≡ again → told ≡ (wanted && not again)
     → last_of_each (with_wanted wanted fields later) ≡ (if told then fields ∷ last_of_each later else last_of_each later)
 told-by true true told fields later is tells = rw (is, tells) refl
@@ -70,7 +70,7 @@ passed_step d service request queued records told left found some within as_told
     ∙ sym (told-by (is_wanted service request queued (logged_fields_in found)) (list_any (is_same_outcome (logged_fields_in found)) later) false (logged_fields_in found) later refl is)
     ∙ ap last_of_each (from-last d service request queued records left found some within as_told)
 
--- all of them, in their order
+-- all reported records, in their order
 pub reversed_told : (told after : List LogRecord) (all : List LoggedFields) → after ≡ reverse told → reverse (map logged_fields_in told) ≡ all → map logged_fields_in after ≡ all
 reversed_told told after all is before = ap (map logged_fields_in) is ∙ map-reversed told ∙ before
   where

@@ -1,4 +1,4 @@
--- Worked examples of a return path that has its recipient in it, each computed.
+-- Worked examples of a return path that contains its recipient, each computed.
 use Rattle.std.proofs.Common.{◌≡◌, ℕ, List, [], ◌∷◌, codes, refl, Option, Some, None}
 use Rattle.dsn_text.specs.declared.service.Service.TheVariants.{Bounce}
 use Rattle.dsn_postfix_files.specs.LogRecord.{LoggedFields}

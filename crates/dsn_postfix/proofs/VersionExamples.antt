@@ -44,7 +44,7 @@ flush_is_written : postfix_request_bytes flush_request ≡ flush_bytes
 unfolding digits postfix_request_bytes attribute_bytes
 flush_is_written = refl
 
--- the same of a message whose header has `TLS-Required: no`
+-- the same request about a message whose header has `TLS-Required: no`
 abbrev required_bytes : List ℕ
 required_bytes =
     codes "nrequest" ++ (0 ∷ codes "1") ++ (0 ∷ codes "flags") ++ (0 ∷ codes "0") ++ (0 ∷ codes "queue_name")
@@ -77,7 +77,7 @@ required_is_written : postfix_request_bytes required_request ≡ required_bytes
 unfolding digits postfix_request_bytes attribute_bytes
 required_is_written = refl
 
--- qmgr(8), of a message that came with `XVERP=+=`
+-- qmgr(8), about a message that was submitted with `XVERP=+=`
 abbrev verp_bytes : List ℕ
 verp_bytes =
     codes "nrequest" ++ (0 ∷ codes "3") ++ (0 ∷ codes "flags") ++ (0 ∷ codes "0") ++ (0 ∷ codes "queue_name")

@@ -11,7 +11,7 @@ pub record Attribute : Type 0 where
   pub name : List ℕ
   pub value : List ℕ
 
--- what an attribute can be: an empty name ends a list
+-- a valid attribute: it has a name, since an empty name ends a list
 pub record IsAttribute (attribute : Attribute) : Type 0 where
   pub named : 0 < length attribute.name
   pub name_ends : IsZeroFree attribute.name
@@ -19,7 +19,7 @@ pub record IsAttribute (attribute : Attribute) : Type 0 where
 
 -- ---- how a list is written
 
--- a text as it stands in a list
+-- a text and the zero that ends it
 abbrev pub zero_ended : List ℕ → List ℕ
 zero_ended text = text ++ 0 ∷ []
 
@@ -30,7 +30,7 @@ attribute_bytes attribute = zero_ended attribute.name ++ zero_ended attribute.va
 abbrev pub list_bytes : List Attribute → List ℕ
 list_bytes attributes = flat_map attribute_bytes attributes ++ 0 ∷ []
 
--- attributes whose values are a text and a number; a number is written in decimal, without a zero in front
+-- attributes whose values are a text and a number; a number is written in decimal, without leading zeros
 abbrev pub text_attribute : List ℕ → List ℕ → Attribute
 text_attribute name value = record { name = name; value = value }
 
@@ -39,7 +39,7 @@ number_attribute name number = record { name = name; value = decimal number }
 
 -- ---- how a list is read
 
--- a text in front of the first 0, and what follows that
+-- the text before the first 0, and the bytes after it
 abbrev pub zero_ended_at : List ℕ → Option (List ℕ × List ℕ)
 zero_ended_at [] = None
 zero_ended_at (zero ∷ rest) = Some ([], rest)
@@ -59,8 +59,8 @@ number_in limit text =
     then Some (digits_value 10 text)
     else None
 
--- the list that some bytes begin with, and what follows it. The name of an attribute whose value is read, if there is
--- one, and the front of a text, were read before these bytes
+-- The list at the front of some bytes, and the bytes after it. Before these bytes, the name `within` was read if its
+-- value is being read, and `front`, the front of a text.
 abbrev pub attributes_after : List ℕ → Option (List ℕ) → List ℕ → Option (List Attribute × List ℕ)
 attributes_after [] within front = None
 attributes_after (zero ∷ rest) None [] = Some ([], rest)
@@ -72,7 +72,7 @@ attributes_after (suc byte ∷ rest) within front = attributes_after rest within
 abbrev pub attributes_at : List ℕ → Option (List Attribute × List ℕ)
 attributes_at bytes = attributes_after bytes None []
 
--- bytes that begin with a list, and go on with the rest
+-- bytes that begin with a list, and the bytes after it
 pub record BeginsWithList (bytes : List ℕ) (attributes : List Attribute) (rest : List ℕ) : Type 0 where
   pub parts : bytes ≡ list_bytes attributes ++ rest
   pub each : AllByRecursion IsAttribute attributes

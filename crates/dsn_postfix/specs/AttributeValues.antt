@@ -1,4 +1,4 @@
--- The values of attributes that have a form of their own.
+-- Values of attributes that have a restricted form.
 use Rattle.std.specs.Prelude.{ℕ, ◌==◌, Bool, ◌&&◌, List, length, IsTrue}
 use Rattle.dsn_text.specs.Text.{is_letter_or_digit, is_text}
 use Rattle.dsn_postfix_files.specs.ZeroFree.{is_zero_free}
@@ -7,14 +7,14 @@ use Rattle.dsn_postfix_files.specs.ZeroFree.{is_zero_free}
 abbrev pub longest_queue_name : ℕ
 longest_queue_name = 100
 
--- the name of a queue, which is that of its folder
+-- the name of a queue and of its folder
 abbrev pub is_queue_name : List ℕ → Bool
 is_queue_name = is_text is_letter_or_digit 1 longest_queue_name
 
 abbrev pub IsQueueName : List ℕ → Type 0
 IsQueueName text = IsTrue (is_queue_name text)
 
--- the two bytes that stand in a return path round the recipient that it has in it
+-- the two delimiters of a recipient in a return path
 abbrev pub are_delimiters : List ℕ → Bool
 are_delimiters text = length text == 2 && is_zero_free text
 

@@ -10,16 +10,16 @@ use Rattle.dsn_postfix.specs.declared.list_fault.ListFault.TheVariants.{NoMemory
 abbrev pub longest_list : ℕ
 longest_list = 65536
 
--- the room of a buffer that has any, in bytes, at least
+-- the least room of a buffer that has room, in bytes
 abbrev pub least_room : ℕ
 least_room = 1024
 
--- bytes that are one list, all of them
+-- bytes that are exactly one list
 pub record IsList (bytes : List ℕ) : Type 0 where
   pub attributes : List Attribute
   pub whole : BeginsWithList bytes attributes []
 
--- bytes that begin with a list, after which there are more
+-- bytes that begin with a list, and further bytes follow it
 pub record HasMore (bytes : List ℕ) : Type 0 where
   pub attributes : List Attribute
   pub rest : List ℕ
@@ -32,19 +32,19 @@ HasNoList bytes = attributes_at bytes ≡ None
 
 -- ---- a buffer
 
--- what contracts see of a buffer: for how many bytes of a list it has room, and the list that it holds, if any
+-- the model of a buffer: its room in bytes, and the list that it holds, if there is one
 pub record BufferedList : Type 0 where
   pub room : ℕ
   pub held : Option (List ℕ)
 
--- the room after so many bytes were read: no less than there was, and no more but for twice these bytes
+-- the room after `size` bytes were read: no less than before, and at most the least room or twice `size` if it grew
 pub record RoomAfterBytes (size before after : ℕ) : Type 0 where
   pub kept : before ≤ after
   pub modest : after ≤ max before (max least_room (2 * size))
 
 -- ---- one list, read from a source whose bytes may be known
 
--- a list that was read, and nothing after it
+-- a list was read, and nothing after it
 pub record ReadsList (old new : Option (List ℕ)) (before after : ℕ) (bytes : List ℕ) : Type 0 where
   pub list : IsList bytes
   pub short : length bytes ≤ longest_list
@@ -56,7 +56,7 @@ abbrev pub HoldsList : Option (List ℕ) → Option (List ℕ) → ℕ → ℕ �
 HoldsList old new before after None = ⊥
 HoldsList old new before after (Some bytes) = ReadsList old new before after bytes
 
--- what a fault says of the bytes that were read before it, and of the room that there is then
+-- what a fault says of the bytes that were read before it, and of the room at that time
 abbrev pub StopsReading : ListFault → ℕ → List ℕ → Type 0
 StopsReading NoMemory room part = HasNoList part × ((length part < longest_list) × (length part ≡ room))
 StopsReading Nothing room part = part ≡ []
@@ -65,7 +65,7 @@ StopsReading TooLong room part = HasNoList part × (length part ≡ longest_list
 StopsReading Trailing room part = HasMore part
 StopsReading Read room part = HasNoList part × (length part < longest_list)
 
--- the input's end is met where a list isn't there or isn't whole
+-- the input is at its end if the fault says so
 abbrev pub EndsInput : ListFault → Option (List ℕ) → Type 0
 EndsInput NoMemory new = Unit {0}
 EndsInput Nothing new = IsAtEnd new
@@ -74,7 +74,7 @@ EndsInput TooLong new = Unit {0}
 EndsInput Trailing new = Unit {0}
 EndsInput Read new = Unit {0}
 
--- no list could be read: these bytes were
+-- no list could be read, but `part` was
 pub record ReadsNoList (old new : Option (List ℕ)) (before after : ℕ) (fault : ListFault) : Type 0 where
   pub part : List ℕ
   pub short : length part ≤ longest_list

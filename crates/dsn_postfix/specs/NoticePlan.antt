@@ -1,5 +1,5 @@
--- The notices that a request has of a log: each outcome of a recipient whom the request's NOTIFY rules want is in one
--- of them, once, in the log's order.
+-- The notices that a request has of a log: each outcome that the recipient's NOTIFY value wants is in one of them,
+-- once, in the log's order.
 use Rattle.std.specs.Prelude.{◌≡◌, ◌==◌, ◌<◌, ◌≤◌, ◌&&◌, ◌||◌, not, nat_lt, Bool, true, false, ℕ, zero, suc, List, [], ◌∷◌, take, drop, length, map, codes, Option, Some, None, Result, Ok, Err, if◌then◌else◌}
 use Rattle.std.specs.List.{AllByRecursion, filter, flat_map, list_all, list_any}
 use Rattle.std.specs.Str.{bytes_eq}
@@ -31,14 +31,14 @@ abbrev pub onto_records : LoggedFields → Result (List LoggedFields) CantSay �
 onto_records fields (Ok records) = Ok (fields ∷ records)
 onto_records fields (Err reason) = Err reason
 
--- the records of a log in which nothing is damaged, or the place of the first damage
+-- the records of an undamaged log, or the place of the first damage
 abbrev pub whole_records : List LoggedEntry → Result (List LoggedFields) CantSay
 whole_records [] = Ok []
 whole_records (SaidLog fields ∷ entries) = onto_records fields (whole_records entries)
 whole_records (DamagedLog part ∷ entries) = Err (DamagedPart part.place)
 
--- a notice of failure without its log would be lost in silence: Postfix 3.7 says there that no report is
--- available. A warning or a report of deliveries without a log tells of nobody
+-- Without a notice of failure, a message would be lost in silence: if the log is missing, Postfix 3.7 says in the
+-- notice that no report is available. A warning or a notice of deliveries without a log reports nobody.
 abbrev pub needed_records : Service → Option (List ℕ) → Result (List LoggedFields) CantSay
 needed_records service None = Err NoLog
 needed_records service (Some file) = whole_records (log_entries service file)
@@ -61,9 +61,9 @@ records_asked service (One notice recipient report) log =
     record_alone (unlogged_of recipient.address (logged_of service recipient report)) (logged_of service recipient report)
 records_asked service (Trace notice) log = records_if_any service log
 
--- ---- whom notices tell of
+-- ---- the outcomes that notices report
 
--- two records say the same: they name one place and one address, with one status, action and reason
+-- two records say the same: they have the same place, address, status, action and reason
 abbrev pub says_same : LoggedFields → LoggedFields → Bool
 says_same one other =
     one.offset == other.offset
@@ -71,8 +71,8 @@ says_same one other =
     && (bytes_eq one.status other.status
     && (bytes_eq one.action other.action && bytes_eq one.reason other.reason)))
 
--- two records are of one outcome if they say the same of a known place. The addresses that an alias stands for may have
--- its place, and the outcomes of its commands have its address too
+-- Two records are of one outcome if they say the same of a known place. The place alone doesn't decide: the addresses
+-- of an alias may have its place, and the outcomes of its commands have its address too.
 abbrev pub is_same_outcome : LoggedFields → LoggedFields → Bool
 is_same_outcome one other = nat_lt 0 one.offset && says_same one other
 
@@ -81,21 +81,21 @@ is_over Waiting = false
 is_over Done = true
 is_over Removed = true
 
--- the queue file says that the recipient whose record stands at a place is done
+-- the queue file says that the recipient whose record is at a place is done
 abbrev pub is_done_at : ℕ → RecipientFacts → Bool
 is_done_at place recipient = recipient.place == place && is_over recipient.state
 
 abbrev pub is_done_in : List RecipientFacts → ℕ → Bool
 is_done_in queued offset = nat_lt 0 offset && list_any (is_done_at offset) queued
 
--- a log of recipients that are tried again says nothing of one that is done: it was delivered or taken
--- out, or it was told. The other logs have recipients because they are done
+-- A log of recipients that are tried again reports nothing of one that is done: it was delivered, removed or reported.
+-- The recipients of the other logs are done because they are logged.
 abbrev pub is_past : Service → List RecipientFacts → ℕ → Bool
 is_past Bounce queued offset = false
 is_past Defer queued offset = is_done_in queued offset
 is_past TraceLog queued offset = false
 
--- an outcome that is told: the sender wants that, and the log says something of its recipient still
+-- an outcome that is wanted: by the sender, and of a recipient that the log still reports
 abbrev pub is_wanted : Service → PostfixRequest → List RecipientFacts → LoggedFields → Bool
 is_wanted service request queued fields = wants request fields.notify_flags && not (is_past service queued fields.offset)
 
@@ -115,7 +115,7 @@ with_action action fields = record {
   reason = fields.reason;
 }
 
--- a notice of failure says of each that it failed, also where a message expired and its log has delays
+-- a notice of failure says of each recipient that it failed, even if a message expired and its log has delays
 abbrev pub told_as : PostfixRequest → LoggedFields → LoggedFields
 told_as (Append append) fields = fields
 told_as (Flush notice) fields = with_action (codes "failed") fields
@@ -124,23 +124,23 @@ told_as (Verp notice delimiters) fields = with_action (codes "failed") fields
 told_as (One notice recipient report) fields = with_action (codes "failed") fields
 told_as (Trace notice) fields = fields
 
--- of the records of one outcome the last one, of all outcomes in their order
+-- the last of the records of each outcome, in their order
 abbrev pub last_of_each : List LoggedFields → List LoggedFields
 last_of_each [] = []
 last_of_each (fields ∷ later) =
     if list_any (is_same_outcome fields) later then last_of_each later else fields ∷ last_of_each later
 
--- those of some records that are to be told, as they are told
+-- the wanted records, as they are reported
 abbrev pub wanted_of : Service → PostfixRequest → List RecipientFacts → List LoggedFields → List LoggedFields
 wanted_of service request queued records = filter (is_wanted service request queued) (map (told_as request) records)
 
--- the outcomes that the notices tell, of some records, in their order
+-- the outcomes that the notices report of some records, in their order
 abbrev pub told_of : Service → PostfixRequest → List RecipientFacts → List LoggedFields → List LoggedFields
 told_of service request queued records = last_of_each (wanted_of service request queued records)
 
 -- ---- notices
 
--- the actions of RFC 3464 section 2.3.3. A report of what would be done has others
+-- The actions of RFC 3464 section 2.3.3. A report of what would be done has other actions.
 abbrev pub is_known_action : List ℕ → Bool
 is_known_action action =
     bytes_eq action (codes "failed")
@@ -151,8 +151,7 @@ is_known_action action =
 abbrev pub has_known_action : LoggedFields → Bool
 has_known_action fields = is_known_action fields.action
 
--- at most so many in a notice, as many as there are but in the last one; there are no more notices than
--- recipients
+-- portions of `most` elements, with fewer in the last; there are at most `count`
 abbrev pub portions_within : {X : Type 0} → ℕ → ℕ → List X → List (List X)
 portions_within zero most xs = []
 portions_within (suc count) most [] = []
@@ -161,7 +160,7 @@ portions_within (suc count) most (x ∷ xs) = take most (x ∷ xs) ∷ portions_
 abbrev pub portions : {X : Type 0} → ℕ → List X → List (List X)
 portions most xs = portions_within (length xs) most xs
 
--- a notice tells of at most 1,000 recipients, and of one alone where it has a return path of its own
+-- a notice reports at most 1,000 outcomes, and only one if it has a return path of its own
 abbrev pub most_told : PostfixRequest → ℕ
 most_told (Append append) = 1000
 most_told (Flush notice) = 1000
@@ -170,7 +169,7 @@ most_told (Verp notice delimiters) = 1
 most_told (One notice recipient report) = 1000
 most_told (Trace notice) = 1000
 
--- what kind of notice it is: of failure, of delay, or of deliveries
+-- the kind of a notice: of failure, of delay, or of deliveries
 abbrev pub kind_of_notice : PostfixRequest → Service
 kind_of_notice (Append append) = Bounce
 kind_of_notice (Flush notice) = Bounce
@@ -179,8 +178,8 @@ kind_of_notice (Verp notice delimiters) = Bounce
 kind_of_notice (One notice recipient report) = Bounce
 kind_of_notice (Trace notice) = TraceLog
 
--- a notice of failure gives back what the sender asked for, the whole message where that wasn't said
--- (RFC 3461 section 4.3); the others give back the header
+-- A notice of failure returns what the sender asked for, and the whole message if that is unspecified (RFC 3461 section
+-- 4.3). The other notices return the header.
 abbrev pub returned_if_failed : Service → ℕ → ReturnedPart
 returned_if_failed Bounce returns = if returns == 2 then Header else Whole
 returned_if_failed Defer returns = Header
@@ -214,9 +213,9 @@ notices_with service request notice queued (Err reason) = Err reason
 notices_with service request notice queued (Ok records) =
     notices_telling request notice (told_of service request queued records)
 
--- which send options no notice keeps. 1: the message came with SMTPUTF8 (RFC 6531). 16: its header has
--- `TLS-Required: no`, and 32: it came with REQUIRETLS (RFC 8689), which the notice would have to say too. Of greater
--- ones nothing is known. 2, 4 and 8 only say where the message has UTF-8, as messages have that came without SMTPUTF8
+-- The send options that no notice keeps. 1: the message was submitted with SMTPUTF8 (RFC 6531). 16: its header has
+-- `TLS-Required: no`, and 32: it was submitted with REQUIRETLS (RFC 8689); the notice would need these too. Greater
+-- ones are unknown. 2, 4 and 8 only say where the message has UTF-8, which messages without SMTPUTF8 may have too.
 abbrev pub option_lost : NoticeRequest → Option CantSay
 option_lost notice =
     if needs_smtputf8 notice then Some NeedsSmtputf8
@@ -232,7 +231,7 @@ notices_asked double_bounce service request queued log (Some notice) =
     if is_no_sender double_bounce notice.sender then Ok []
     else notices_unless (option_lost notice) (notices_with service request notice queued (records_asked service request log))
 
--- what a request for notices says, if it is one
+-- the part of a request that describes its notices, if it has notices
 abbrev pub notice_asked : PostfixRequest → Option NoticeRequest
 notice_asked (Append append) = None
 notice_asked (Flush notice) = Some notice
@@ -241,35 +240,35 @@ notice_asked (Verp notice delimiters) = Some notice
 notice_asked (One notice recipient report) = Some notice
 notice_asked (Trace notice) = Some notice
 
--- the notices of a request to a service, from its log's file and from the queue file's recipients; or why
--- they can't be said
+-- the notices of a request to a service, from its log's file and the queue file's recipients, or why they can't be
+-- expressed
 unfoldable pub notices_of : List ℕ → Service → PostfixRequest → List RecipientFacts → Option (List ℕ) → Result (List NoticeFacts) CantSay
 notices_of double_bounce service request queued log =
     notices_asked double_bounce service request queued log (notice_asked request)
 
 -- ---- the program's answer
 
--- it is what is planned, or memory was refused
+-- the fault is that of the plan, or memory was refused
 abbrev pub IsPlanFault : {X : Type 0} → Result X CantSay → PlanFault → Type 0
 IsPlanFault planned NoMemory = Unit {0}
 IsPlanFault planned (Unsaid reason) = planned ≡ Err reason
 
--- ---- what is true of them
+-- ---- laws of notices
 
 -- no outcome is in two records
 abbrev pub HasEachOnce : List LoggedFields → Type 0
 HasEachOnce [] = Unit {0}
 HasEachOnce (fields ∷ later) = (list_any (is_same_outcome fields) later ≡ false) × HasEachOnce later
 
--- of whom notices tell, one after another
+-- the outcomes that notices report, one after another
 abbrev pub outcomes_of : List NoticeFacts → List LoggedFields
 outcomes_of notices = flat_map (λ (notice : NoticeFacts). notice.outcomes) notices
 
--- a notice tells of somebody, and of no more than it may
+-- a notice reports at least one outcome, and at most `most`
 abbrev pub TellsOfSome : ℕ → NoticeFacts → Type 0
 TellsOfSome most notice = (0 < length notice.outcomes) × (length notice.outcomes ≤ most)
 
--- an outcome is told, in these words
+-- an outcome is reported, with the same place, address, status, action and reason
 abbrev pub IsToldBy : List LoggedFields → LoggedFields → Type 0
 IsToldBy told fields = list_any (says_same fields) told ≡ true
 

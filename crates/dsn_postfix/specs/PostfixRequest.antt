@@ -1,4 +1,4 @@
--- What programs of Postfix 3.6 to 3.10 ask of bounce(8), and the attributes that ask it.
+-- The requests of programs of Postfix 3.6 to 3.10 to bounce(8), and their attributes.
 use Rattle.std.specs.Prelude.{◌≡◌, ℕ, ◌<◌, Bool, true, false, List, [], ◌∷◌, ◌++◌, codes}
 use Rattle.dsn_text.specs.Text.{IsQueueId}
 use Rattle.dsn_postfix.specs.Attribute.{Attribute, list_bytes, number_attribute, number_limit, offset_limit, text_attribute}
@@ -13,8 +13,8 @@ use Rattle.dsn_postfix.specs.declared.postfix_request.ReportedRecipient.{Reporte
 
 -- ---- the table of layouts
 
--- the name of the attribute that has the send options: the older one up to Postfix 3.9, the newer one since 3.10. All
--- else is the same in each version
+-- The name of the attribute that has the send options: the older one up to Postfix 3.9, the newer one since 3.10. All
+-- else is the same in each version.
 abbrev pub send_options_name : Bool → List ℕ
 send_options_name false = codes "smtputf8"
 send_options_name true = codes "sendopts"
@@ -57,7 +57,7 @@ notice_attributes request =
     ∷ number_attribute (codes "ret_flags") request.returns
     ∷ []
 
--- the number of what is asked
+-- the number of a kind of request
 abbrev pub command_number : PostfixRequest → ℕ
 command_number (Append request) = 0
 command_number (Flush request) = 1
@@ -66,7 +66,7 @@ command_number (Verp request delimiters) = 3
 command_number (One request recipient report) = 4
 command_number (Trace request) = 5
 
--- what follows that number
+-- the attributes after that number
 abbrev pub own_attributes : PostfixRequest → List Attribute
 own_attributes (Append request) = append_attributes request
 own_attributes (Flush request) = notice_attributes request
@@ -119,7 +119,7 @@ pub record FitsNotice (request : NoticeRequest) : Type 0 where
   pub envelope_id : IsZeroFree request.envelope_id
   pub returns : request.returns < number_limit
 
--- what every request keeps
+-- what holds for every request
 unfoldable pub IsPostfixRequest : PostfixRequest → Type 0
 IsPostfixRequest (Append request) = FitsAppendRequest request
 IsPostfixRequest (Flush request) = FitsNotice request
@@ -129,7 +129,7 @@ IsPostfixRequest (One request recipient report) =
     FitsNotice request × (FitsRecipient recipient × FitsReport report)
 IsPostfixRequest (Trace request) = FitsNotice request
 
--- bytes that are those of a request
+-- bytes that are those of a request, which can be written
 pub record IsRequestIn (bytes : List ℕ) (request : PostfixRequest) : Type 0 where
   pub bytes_are : bytes ≡ postfix_request_bytes request
   pub fits : IsPostfixRequest request

@@ -1,4 +1,4 @@
--- What a request asks by single bits: of its flags and of its message's send options.
+-- Single bits of a request: of its flags, and of its message's send options.
 use Rattle.std.specs.Prelude.{◌==◌, ◌/◌, ◌%◌, ℕ, Bool}
 use Rattle.dsn_postfix.specs.declared.postfix_request.NoticeRequest.{NoticeRequest}
 use Rattle.dsn_postfix.specs.declared.postfix_request.PostfixRequest.{PostfixRequest}
@@ -19,10 +19,10 @@ flags_of (Trace notice) = notice.flags
 abbrev pub asks_clean : PostfixRequest → Bool
 asks_clean request = has_flag 1 (flags_of request)
 
--- DELRCPT: recipients are marked as done once their sender was told
+-- DELRCPT: recipients are marked as done once their sender is notified
 abbrev pub marks_recipients : NoticeRequest → Bool
 marks_recipients notice = has_flag 2 notice.flags
 
--- the message came with SMTPUTF8 (RFC 6531)
+-- the message was submitted with SMTPUTF8 (RFC 6531)
 abbrev pub needs_smtputf8 : NoticeRequest → Bool
 needs_smtputf8 notice = has_flag 1 notice.send_options

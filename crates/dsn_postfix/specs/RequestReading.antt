@@ -1,4 +1,4 @@
--- Reading a request from left to right: the request that some bytes are, or the first fault that is met.
+-- Reading a request from left to right: the request in some bytes, or the first fault.
 use Rattle.std.specs.Prelude.{ℕ, zero, suc, ◌==◌, Bool, true, List, [], ◌∷◌, ◌++◌, codes, Option, Some, None, Result, Ok, Err, if◌then◌else◌}
 use Rattle.std.specs.Cmp.Lexicographic.{pointwise}
 use Rattle.std.specs.List.{starts_with}
@@ -15,24 +15,24 @@ use Rattle.dsn_postfix.specs.declared.postfix_request.ReportedRecipient.{Reporte
 use Rattle.dsn_postfix.specs.declared.request_fault.RequestFault.{RequestFault}
 use Rattle.dsn_postfix.specs.declared.request_fault.RequestFault.TheVariants.{Unended, Missing, Name, Number, Command, QueueName, QueueId, Delimiters, Extra, Trailing}
 
--- the next reading, where the one before it met no fault
+-- the next reading, if the one before it had no fault
 infixl 10 ◌>>>◌
 abbrev pub ◌>>>◌ : {A B : Type 0} → Result A RequestFault → (A → Result B RequestFault) → Result B RequestFault
 (Ok read) >>> next = next read
 (Err fault) >>> next = Err fault
 
--- a value that is there
+-- a value, or the fault if there is no value
 abbrev pub or_fault : {A : Type 0} → RequestFault → Option A → Result A RequestFault
 or_fault fault (Some value) = Ok value
 or_fault fault None = Err fault
 
--- a value that passes a test
+-- a value that passes a test, or the fault
 abbrev pub tested : (List ℕ → Bool) → RequestFault → List ℕ → Result (List ℕ) RequestFault
 tested test fault value = if test value then Ok value else Err fault
 
 -- ---- one attribute, and what follows it
 
--- a name is the one that the layout has: an empty one ends the list too early
+-- a name must be that of the layout; an empty name ends the list too early
 abbrev pub named : List ℕ → List ℕ → Result Bool RequestFault
 named name [] = Err Missing
 named name (byte ∷ text) = if pointwise ◌==◌ (byte ∷ text) name then Ok true else Err Name
@@ -50,14 +50,14 @@ value_number_at limit name bytes =
     or_fault Number (number_in limit value.0) >>> λ number.
     Ok (number, value.1)
 
--- the value of the attribute with this name, which has to pass a test
+-- the value of the attribute with this name, which must pass a test
 unfoldable pub tested_at : (List ℕ → Bool) → RequestFault → List ℕ → List ℕ → Result (List ℕ × List ℕ) RequestFault
 tested_at test fault name bytes =
     attribute_at name bytes >>> λ value.
     tested test fault value.0 >>> λ text.
     Ok (text, value.1)
 
--- the end of the list, which is the end of the bytes
+-- the end of the list, which must be the end of the bytes
 abbrev pub end_at : List ℕ → Result Bool RequestFault
 end_at [] = Err Unended
 end_at (zero ∷ []) = Ok true
@@ -94,7 +94,7 @@ append_request_at bytes =
     report_at recipient.1 >>> λ report.
     Ok (record { flags = flags.0; queue_id = id.0; recipient = recipient.0; report = report.0 }, report.1)
 
--- the send options have their newer name where that comes next, and else the older one
+-- whether the send options have their newer name here; otherwise they must have the older one
 unfoldable pub is_sendopts_next : List ℕ → Bool
 is_sendopts_next bytes = starts_with ◌==◌ bytes (codes "sendopts" ++ 0 ∷ [])
 
@@ -130,13 +130,13 @@ one_at bytes =
     report_at recipient.1 >>> λ report.
     Ok (One request.0 recipient.0 report.0, report.1)
 
--- a request that has a notice's attributes alone
+-- a request that has only the attributes of a notice
 unfoldable pub notice_at : (NoticeRequest → PostfixRequest) → List ℕ → Result (PostfixRequest × List ℕ) RequestFault
 notice_at request_with bytes =
     notice_request_at bytes >>> λ request.
     Ok (request_with request.0, request.1)
 
--- what follows the number of what is asked
+-- the request after its number
 unfoldable pub own_request_at : ℕ → List ℕ → Result (PostfixRequest × List ℕ) RequestFault
 own_request_at zero bytes = append_only_at bytes
 own_request_at (suc zero) bytes = notice_at Flush bytes
@@ -146,7 +146,7 @@ own_request_at (suc (suc (suc (suc zero)))) bytes = one_at bytes
 own_request_at (suc (suc (suc (suc (suc zero))))) bytes = notice_at Trace bytes
 own_request_at (suc (suc (suc (suc (suc (suc command)))))) bytes = Err Command
 
--- the request that bytes are, all of them
+-- the request that takes up these bytes, or the first fault
 unfoldable pub postfix_request_at : List ℕ → Result PostfixRequest RequestFault
 postfix_request_at bytes =
     value_number_at number_limit (codes "nrequest") bytes >>> λ command.

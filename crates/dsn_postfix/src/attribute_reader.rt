@@ -14,7 +14,7 @@ use crate::verp_delimiters::VerpDelimiters;
 use dsn_text::QueueId;
 use std::marker::Model;
 
-/// The bytes after the attributes that were read. After a fault it is to be used no further.
+/// The bytes after the attributes that were read. It must not be used after a fault.
 #[derive(Drop)]
 pub(crate) struct AttributeReader<'a> {
     rest: &'a [u8],
@@ -36,7 +36,7 @@ impl<'a> AttributeReader<'a> {
         AttributeReader { rest: bytes }
     }
 
-    /// The text in front of the next zero.
+    /// The text before the next zero. Returns `Unended` if there is no zero.
     fn zero_ended(&mut self) -> Result<AttributeText<'a>, RequestFault>
         ensures read { IfOk result (λ text. zero_ended_at self.old ≡ Some (text, self.new)) }
         ensures refused { IfErr result
@@ -49,7 +49,8 @@ impl<'a> AttributeReader<'a> {
         Ok(text)
     }
 
-    /// The value of the next attribute, which must have this name.
+    /// The value of the next attribute, which must have this name. Returns `Missing` if the list
+    /// ends here, `Name` if the attribute has another name, and `Unended` if the bytes end.
     #[tactic(auto, unfolding(crate::specs::RequestReading::attribute_at))]
     pub(crate) fn text(&mut self, name: &[u8]) -> Result<AttributeText<'a>, RequestFault>
         ensures read { IfOk result (λ text. attribute_at name.now self.old ≡ Ok (text, self.new)) }
@@ -65,7 +66,7 @@ impl<'a> AttributeReader<'a> {
         self.zero_ended()
     }
 
-    /// Whether the next attribute has the newer name of the send options.
+    /// Whether the next attribute is the send options with their newer name.
     #[tactic(auto, unfolding(crate::specs::RequestReading::is_sendopts_next))]
     pub(crate) fn is_sendopts_next(&self) -> bool
         ensures { result ≡ is_sendopts_next self.now }
@@ -73,7 +74,8 @@ impl<'a> AttributeReader<'a> {
         self.rest.starts_with(b"sendopts\0")
     }
 
-    /// The number of 32 bits that is the value of the next attribute, which must have this name.
+    /// The 32-bit number of the next attribute. Returns `Number` if the value isn't such a number,
+    /// and the faults of [`text`](Self::text).
     #[tactic(auto, unfolding(crate::specs::RequestReading::value_number_at))]
     pub(crate) fn number(&mut self, name: &[u8]) -> Result<u32, RequestFault>
         ensures read { IfOk result
@@ -85,7 +87,8 @@ impl<'a> AttributeReader<'a> {
         short_number_in(value.bytes()).ok_or(RequestFault::Number)
     }
 
-    /// The number of 64 bits that is the value of the next attribute, which must have this name.
+    /// The 64-bit number of the next attribute. Returns `Number` if the value isn't such a number,
+    /// and the faults of [`text`](Self::text).
     #[tactic(auto, unfolding(crate::specs::RequestReading::value_number_at))]
     pub(crate) fn offset(&mut self, name: &[u8]) -> Result<u64, RequestFault>
         ensures read { IfOk result
@@ -99,7 +102,8 @@ impl<'a> AttributeReader<'a> {
         number_in(value.bytes()).ok_or(RequestFault::Number)
     }
 
-    /// The queue id that is the value of the next attribute.
+    /// The queue id of the next attribute, `queue_id`. Returns `QueueId` if the value isn't a valid
+    /// id.
     #[tactic(auto, unfolding(crate::specs::RequestReading::tested_at))]
     pub(crate) fn queue_id(&mut self) -> Result<QueueId, RequestFault>
         ensures read { IfOk result
@@ -110,12 +114,13 @@ impl<'a> AttributeReader<'a> {
             ≡ Err fault) }
     {
         let value = self.text(b"queue_id")?;
-        // bounce(8) takes up to 255 bytes and `_`. Postfix makes no longer id for a message than
-        // this type has, and without a `/` or a dot none leads out of the queue's folder.
+        // bounce(8) accepts up to 255 bytes and `_`. Postfix makes no longer id for a message than
+        // this type allows, and without `/` or a dot no id leads out of the queue's folder.
         QueueId::new(value.bytes()).ok_or(RequestFault::QueueId)
     }
 
-    /// The name of a queue that is the value of the next attribute.
+    /// The name of a queue in the next attribute, `queue_name`. Returns `QueueName` if the value
+    /// isn't a valid name.
     #[tactic(auto, unfolding(crate::specs::RequestReading::tested_at))]
     pub(crate) fn queue_name(&mut self) -> Result<QueueName<'a>, RequestFault>
         ensures read { IfOk result
@@ -129,7 +134,8 @@ impl<'a> AttributeReader<'a> {
         QueueName::new(value.bytes()).ok_or(RequestFault::QueueName)
     }
 
-    /// The delimiters that are the value of the next attribute.
+    /// The delimiters in the next attribute, `verp_delimiters`. Returns `Delimiters` if the value
+    /// isn't two bytes.
     #[tactic(auto, unfolding(crate::specs::RequestReading::tested_at))]
     pub(crate) fn delimiters(&mut self) -> Result<VerpDelimiters<'a>, RequestFault>
         ensures read { IfOk result
@@ -143,7 +149,8 @@ impl<'a> AttributeReader<'a> {
         VerpDelimiters::new(value.bytes()).ok_or(RequestFault::Delimiters)
     }
 
-    /// The end of the list, which must be that of the bytes.
+    /// Tests that the list ends here, and the bytes with it. Returns `Unended`, `Trailing` or
+    /// `Extra` otherwise.
     pub(crate) fn end(&self) -> Result<(), RequestFault>
         ensures ended { OnOk result (end_at self.now ≡ Ok true) }
         ensures refused { IfErr result (λ fault. end_at self.now ≡ Err fault) }

@@ -1,4 +1,4 @@
-//! The texts that attributes have as values: any, the name of a queue, and delimiters.
+//! The value of an attribute.
 //! Implements docs/FORMATS.md, "What Postfix's programs send".
 ghost use Rattle.std.specs.Prelude.{◌≡◌, ◌↔◌, ◌+◌, ◌<◌, drop, length, IsSome, IfSome, MatchOption};
 ghost use Rattle.dsn_postfix.specs.Attribute.{zero_ended_at};
@@ -8,7 +8,7 @@ use dsn_postfix_files::is_zero_free;
 use memchr::memchr;
 use std::marker::Model;
 
-/// The value of an attribute: any bytes but zero, lent.
+/// The value of an attribute, borrowed: any bytes except zero.
 #[derive(Debug, Drop)]
 pub struct AttributeText<'a> {
     bytes: &'a [u8],
@@ -26,7 +26,7 @@ impl<'a> Model for AttributeText<'a> {
 }
 
 impl<'a> AttributeText<'a> {
-    /// The text that some bytes are, if none of them is zero.
+    /// The text of these bytes. Returns `None` if one of them is zero.
     pub fn new(bytes: &'a [u8]) -> Option<AttributeText<'a>>
         ensures some { IsSome result ↔ IsZeroFree bytes.now }
         ensures kept { IfSome result (λ text. text ≡ bytes.now) }
@@ -37,7 +37,7 @@ impl<'a> AttributeText<'a> {
         Some(AttributeText { bytes })
     }
 
-    /// The text in front of the first zero, if there is a zero.
+    /// The text before the first zero. Returns `None` if there is no zero.
     pub(crate) fn before_zero(bytes: &'a [u8]) -> Option<AttributeText<'a>>
         ensures text { MatchOption result (zero_ended_at bytes.now ≡ None)
             (λ text. zero_ended_at bytes.now ≡ Some (text, drop (length text + 1) bytes.now)) }
@@ -59,7 +59,7 @@ impl<'a> AttributeText<'a> {
         self.bytes
     }
 
-    /// The same text, lent by the same bytes.
+    /// The same text, borrowed from the same bytes.
     pub fn lent(&self) -> AttributeText<'a>
         ensures { result ≡ self.now }
     {

@@ -13,7 +13,6 @@ fn push_zero_ended(out: &mut Vec<u8>, text: &[u8]) -> Result<(), NoMemory>
     push_bytes(out, &[0])
 }
 
-/// Adds bytes.
 fn push_bytes(out: &mut Vec<u8>, bytes: &[u8]) -> Result<(), NoMemory>
     ensures { OnOk result (out.new.items ≡ out.old.items ++ bytes.now) }
 {

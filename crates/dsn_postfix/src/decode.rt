@@ -1,4 +1,4 @@
-//! The request that some bytes are.
+//! The request in some bytes.
 //! Implements docs/FORMATS.md, "What Postfix's programs send".
 ghost use Rattle.std.specs.Prelude.{◌≡◌, Ok, Err, IfOk, IfErr};
 ghost use Rattle.dsn_postfix.specs.PostfixRequest.{IsRequestIn};
@@ -9,8 +9,10 @@ use crate::postfix_request::PostfixRequest;
 use crate::request_fault::RequestFault;
 use crate::request_reading::request_of;
 
-/// The request that bytes are, all of them, as programs of Postfix 3.6 to 3.10 send it. It takes no memory.
-/// Returns the fault of the first attribute, from the left, that isn't as the layout has it, or else of the list's end.
+/// The request that takes up these bytes, as programs of Postfix 3.6 to 3.10 send it. Doesn't
+/// allocate.
+/// Returns the fault of the first attribute, from the left, that differs from the layout, or else
+/// the fault of the list's end.
 pub fn decode_postfix_request<'a>(bytes: &'a [u8]) -> Result<PostfixRequest<'a>, RequestFault>
     ensures read { IfOk result (λ request. IsRequestIn bytes.now request) }
     ensures only { (request : PostfixRequest) → IsRequestIn bytes.now request
@@ -20,7 +22,7 @@ pub fn decode_postfix_request<'a>(bytes: &'a [u8]) -> Result<PostfixRequest<'a>,
     read_request(bytes)
 }
 
-/// The request that reading gives.
+/// Reads the request.
 #[tactic(auto, unfolding(crate::specs::RequestReading::postfix_request_at))]
 fn read_request<'a>(bytes: &'a [u8]) -> Result<PostfixRequest<'a>, RequestFault>
     ensures read { IfOk result (λ request. postfix_request_at bytes.now ≡ Ok request) }

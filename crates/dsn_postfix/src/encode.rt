@@ -13,8 +13,8 @@ use crate::request_reading::send_options_name;
 use dsn_text::NoMemory;
 use std::alloc::Global;
 
-/// The bytes of a request, as Postfix's programs send it: a request that was decoded has the bytes that it was decoded
-/// from. Returns an error only if memory was refused.
+/// The bytes of a request, as Postfix's programs send it. For a decoded request, they are the bytes
+/// that it was decoded from. Returns an error only if memory was refused.
 pub fn encode_postfix_request(
     alloc: Global,
     request: &PostfixRequest<'_>,
@@ -28,7 +28,7 @@ pub fn encode_postfix_request(
     Ok(out)
 }
 
-/// The number of what is asked.
+/// The number of a kind of request.
 fn command_of(request: &PostfixRequest<'_>) -> u64
     ensures { result ≡ command_number request.now }
 {
@@ -42,7 +42,7 @@ fn command_of(request: &PostfixRequest<'_>) -> u64
     }
 }
 
-/// Adds what follows that number.
+/// Adds the attributes after that number.
 #[tactic(auto, unfolding(crate::specs::PostfixRequest::IsPostfixRequest))]
 fn push_own(out: &mut Vec<u8>, request: &PostfixRequest<'_>) -> Result<(), NoMemory>
     ensures added { OnOk result (out.new.items
@@ -66,7 +66,7 @@ fn push_own(out: &mut Vec<u8>, request: &PostfixRequest<'_>) -> Result<(), NoMem
     }
 }
 
-/// Adds what an append says.
+/// Adds the attributes of an append.
 fn push_append(out: &mut Vec<u8>, request: &AppendRequest<'_>) -> Result<(), NoMemory>
     ensures added { OnOk result (out.new.items
         ≡ out.old.items ++ flat_map attribute_bytes (append_attributes request.now)) }
@@ -78,7 +78,7 @@ fn push_append(out: &mut Vec<u8>, request: &AppendRequest<'_>) -> Result<(), NoM
     push_report(out, &request.report)
 }
 
-/// Adds what a request for a notice says.
+/// Adds the attributes of a request for notices.
 fn push_notice(out: &mut Vec<u8>, request: &NoticeRequest<'_>) -> Result<(), NoMemory>
     ensures added { OnOk result (out.new.items
         ≡ out.old.items ++ flat_map attribute_bytes (notice_attributes request.now)) }
@@ -111,7 +111,7 @@ fn push_recipient(out: &mut Vec<u8>, recipient: &ReportedRecipient<'_>) -> Resul
     push_number(out, b"notify_flags", recipient.notify as u64)
 }
 
-/// Adds what became of a recipient.
+/// Adds the outcome of a recipient.
 fn push_report(out: &mut Vec<u8>, report: &DeliveryReport<'_>) -> Result<(), NoMemory>
     ensures added { OnOk result (out.new.items
         ≡ out.old.items ++ flat_map attribute_bytes (report_attributes report.now)) }

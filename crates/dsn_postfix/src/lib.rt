@@ -1,5 +1,5 @@
-//! What Postfix's programs ask of bounce(8), as lists of attributes: the record of a log that an append
-//! becomes, and the notices that a request for notices wants.
+//! What Postfix's programs ask of bounce(8), as lists of attributes: the log record of an append,
+//! and the notices of a request for notices.
 #![tactic(auto)]
 
 mod attribute_reader;

@@ -13,20 +13,21 @@ use dsn_device::Source;
 use std::alloc::{AllocError, Global};
 use std::marker::Model;
 
-/// The longest list that is read, in bytes, with the byte that ends it. Postfix's programs send some hundreds.
+/// The longest list that is read, in bytes, with the byte that ends it. Postfix's programs send
+/// some hundreds of bytes.
 pub const LONGEST_LIST: usize = 65_536;
 
-/// The room of a buffer that has any, in bytes, at least.
+/// The least room of a buffer that has room, in bytes.
 const LEAST_ROOM: usize = 1_024;
 
-/// Room for one list at a time, into which lists are read from a device in the pieces that it gives. It grows only where it
-/// is full, to twice what it was and to 1,024 bytes at least, and to no more than the longest list. It keeps what it has until
-/// it is dropped.
+/// Room for one list at a time, which is read from a device in the pieces that the device gives.
+/// The room grows only if it is full: to twice its size, to 1,024 bytes at least, and to the
+/// longest list at most. The buffer keeps its room until it is dropped.
 #[derive(Debug, Drop)]
 pub struct ListBuffer {
-    /// The list that was read last stands at the front; what follows it is left of longer ones.
+    /// The list that was read last is at the front. The bytes behind it are remains of longer ones.
     bytes: Vec<u8>,
-    /// How many bytes that list has; none where there is no list.
+    /// The size of that list in bytes; `None` if there is no list.
     whole: Option<usize>,
 }
 
@@ -43,7 +44,7 @@ impl Model for ListBuffer {
 }
 
 impl ListBuffer {
-    /// A buffer with no list, and no room so far. It takes no memory.
+    /// A buffer without a list and without room. Doesn't allocate.
     pub fn new(alloc: Global) -> ListBuffer
         ensures room { result.room ≡ 0 }
         ensures none { result.held ≡ None }
@@ -54,10 +55,11 @@ impl ListBuffer {
         }
     }
 
-    /// Reads a list of at most [`LONGEST_LIST`] bytes and holds it in place of the last one; after a fault there is none. It
-    /// asks the device for as much as there is room for, and for nothing once the list's end is there: so what follows a
-    /// list is a fault (`Trailing`) only where it came in one piece with the end. Memory is taken only where the room is
-    /// full, and there is none (`NoMemory`) only where that was refused.
+    /// Reads a list of at most [`LONGEST_LIST`] bytes and holds it in place of the last one. After
+    /// a fault the buffer holds no list.
+    /// Reads pieces no longer than the room, and nothing after the piece in which the list ends. So
+    /// bytes behind the list are a fault (`Trailing`) only if they came in one piece with its end.
+    /// Allocates only if the room is full. Returns `NoMemory` only if that was refused.
     pub fn read_next<S: Source>(&mut self, source: &mut S) -> Result<(), ListFault>
         ensures list { OnOk result (HoldsList (S.remaining source.old) (S.remaining source.new)
             self.old.room self.new.room self.new.held) }
@@ -77,8 +79,8 @@ impl ListBuffer {
         Ok(())
     }
 
-    /// The list that was read last, if the last call of [`read_next`](Self::read_next) read one: all its bytes, to the one
-    /// that ends it.
+    /// The list that was read last, with the byte that ends it. Returns `None` unless the last call
+    /// of [`read_next`](Self::read_next) succeeded.
     pub fn list(&self) -> Option<&[u8]>
         ensures same { option_map (λ list. list.now) result ≡ self.now.held }
         ensures whole { IfSome result (λ list. IsList list.now) }
@@ -89,7 +91,8 @@ impl ListBuffer {
         }
     }
 
-    /// The list that was read last, if the last call of [`read_next`](Self::read_next) read one: its bytes alone.
+    /// The list that was read last, without the buffer's further room. Returns `None` unless the
+    /// last call of [`read_next`](Self::read_next) succeeded.
     pub fn into_list(self) -> Option<Vec<u8>>
         ensures same { option_map (λ list. list.items) result ≡ self.held }
         ensures whole { IfSome result (λ list. IsList list.items) }
@@ -101,7 +104,7 @@ impl ListBuffer {
     }
 }
 
-/// Reads a list to the front of a buffer, and says how many bytes it has.
+/// Reads a list to the front of a buffer, and returns its size in bytes.
 fn read_into<S: Source>(bytes: &mut Vec<u8>, source: &mut S) -> Result<usize, ListFault>
     requires bounded { length bytes.old.items ≤ longest_list }
     ensures list { IfOk result
@@ -120,13 +123,13 @@ fn read_into<S: Source>(bytes: &mut Vec<u8>, source: &mut S) -> Result<usize, Li
 {
     let mut filled = 0;
     let mut place = ListState::Front;
-    // bounce(8) sets no bound to a list; here what a client can make the service keep is known.
+    // bounce(8) sets no bound to a list; this bounds what a client can make the service keep.
     while filled < LONGEST_LIST {
         let count = read_piece(bytes, filled, source)?;
         match place.step_over(&bytes[filled..filled + count]) {
             ListStep::Within(next) => place = next,
             // A client keeps its half open and waits for the status, so the list's own end counts.
-            // Bytes that come later than its piece are never read.
+            // Bytes after that piece are never read.
             ListStep::Ended(size) if size < count => return Err(ListFault::Trailing),
             ListStep::Ended(_) => return Ok(filled + count),
         }
@@ -135,7 +138,8 @@ fn read_into<S: Source>(bytes: &mut Vec<u8>, source: &mut S) -> Result<usize, Li
     Err(ListFault::TooLong)
 }
 
-/// Reads a piece into a buffer after so many bytes at its front, and says how many bytes it has, one or more.
+/// Reads a piece into a buffer, behind its first `filled` bytes, which stay. Returns the size of
+/// the piece in bytes, 1 or more.
 fn read_piece<S: Source>(
     bytes: &mut Vec<u8>,
     filled: usize,
@@ -171,7 +175,8 @@ fn read_piece<S: Source>(
     }
 }
 
-/// Makes a buffer longer than so many bytes at its front, which stay.
+/// Makes a buffer longer than its first `filled` bytes, which stay. Returns an error only if memory
+/// was refused.
 fn make_list_room(bytes: &mut Vec<u8>, filled: usize) -> Result<(), AllocError>
     requires within { filled ≤ length bytes.old.items }
     requires bounded { length bytes.old.items ≤ longest_list }

@@ -1,4 +1,4 @@
-//! Hearing a list over a stream.
+//! Receives a list over a stream.
 ghost use Rattle.std.specs.Prelude.{IfErr, IfOk};
 ghost use Rattle.dsn_postfix.specs.ListDialogue.{HearsList, HearsNoList};
 
@@ -7,7 +7,7 @@ use crate::list_fault::ListFault;
 use dsn_device::Stream;
 use std::alloc::Global;
 
-/// Hears a list, as [`ListBuffer::read_next`] reads it.
+/// Receives a list, as [`ListBuffer::read_next`] reads it.
 pub fn hear_list<S: Stream>(alloc: Global, stream: &mut S) -> Result<Vec<u8>, ListFault>
     ensures heard { IfOk result (λ list. HearsList S.Source stream.old stream.new list.items) }
     ensures none { IfErr result (λ fault. HearsNoList S.Source stream.old stream.new fault) }

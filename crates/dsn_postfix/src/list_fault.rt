@@ -1,7 +1,8 @@
 //! Why no list of attributes could be read from a device.
 use thiserror::Error;
 
-/// Why no list could be read. The bytes before it are lost, and the device is used no further.
+/// Why no list could be read. The bytes before the fault are lost, and the device is not used
+/// again.
 #[derive(Clone, Copy, Debug, Drop, PartialEq, Eq, Error)]
 pub enum ListFault {
     /// Memory for more of the list was refused.
@@ -16,7 +17,7 @@ pub enum ListFault {
     /// No list ends within 65,536 bytes.
     #[error("the list is longer than 65,536 bytes")]
     TooLong,
-    /// Bytes came with the list's last ones that stand after it.
+    /// Bytes follow the list in the piece that ends it.
     #[error("bytes follow the list")]
     Trailing,
     /// The device failed.

@@ -14,7 +14,7 @@ pub(crate) enum ListState {
     Value,
 }
 
-/// How a piece goes on with a list.
+/// The result of a piece.
 #[derive(Clone, Copy)]
 pub(crate) enum ListStep {
     /// The list ends with this number of bytes of the piece, at least 1.
@@ -37,7 +37,7 @@ impl ListState {
         }
     }
 
-    /// How a piece goes on with the list.
+    /// The result of a piece in this state.
     pub(crate) fn step_over(self, piece: &[u8]) -> ListStep
         ensures step { result ≡ step_over self piece.now }
         ensures within { IsStepWithin result piece.now }

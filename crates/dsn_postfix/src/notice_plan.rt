@@ -23,24 +23,24 @@ use std::alloc::{AllocError, Global};
 /// The least of the send options that no notice keeps, besides SMTPUTF8: `TLS-Required: no`.
 const TLS_REQUIRED: u32 = 16;
 
-/// Why no notice can keep the send options of a message, if none can.
+/// Why no notice can keep the send options of a message. Returns `None` if a notice can.
 fn option_lost(notice: &NoticeRequest<'_>) -> Option<CantSay>
     ensures { result ≡ option_lost notice.now }
 {
-    // Then bounce(8) makes a notice of another type (`message/global-delivery-status`). UTF-8 in
+    // bounce(8) then makes a notice of another type (`message/global-delivery-status`). UTF-8 in
     // the header alone (2) is no reason.
     if notice.needs_smtputf8() {
         return Some(CantSay::NeedsSmtputf8);
     }
-    // 16 (`TLS-Required: no`) and 32 (REQUIRETLS) would have to go with the notice; of others
-    // nothing is known.
+    // The notice would also need 16 (`TLS-Required: no`) and 32 (REQUIRETLS); others are unknown.
     if notice.send_options >= TLS_REQUIRED {
         return Some(CantSay::SendOptions(notice.send_options));
     }
     None
 }
 
-/// Whether a message has no sender who is to be told: nobody, or who sends notices about notices.
+/// Whether a message has no sender to notify: it has the null sender, or the sender of notices
+/// about notices.
 fn is_no_sender(double_bounce: &[u8], sender: &[u8]) -> bool
     ensures { result ≡ is_no_sender double_bounce.now sender.now }
 {
@@ -48,7 +48,7 @@ fn is_no_sender(double_bounce: &[u8], sender: &[u8]) -> bool
     sender.is_empty() || sender.eq_ignore_ascii_case(double_bounce)
 }
 
-/// The record of what a request reports of its recipient, alone.
+/// The record of a request about one recipient.
 fn record_alone<'a>(
     alloc: Global,
     service: Service,
@@ -73,7 +73,7 @@ fn record_alone<'a>(
     }
 }
 
-/// The records that a request's notices are of.
+/// The records that a request's notices may report.
 fn records_asked<'a>(
     alloc: Global,
     service: Service,
@@ -90,8 +90,8 @@ fn records_asked<'a>(
         PostfixRequest::Append(_) => Ok(Vec::new(alloc)),
         PostfixRequest::Flush(_) | PostfixRequest::Verp(..) => match log {
             Some(file) => whole_records(alloc, service, file),
-            // bounce(8) sends a notice here which says that no report is available: without one the
-            // message would be lost in silence.
+            // bounce(8) sends a notice here which says that no report is available. Without a
+            // notice the message would be lost in silence.
             None => Err(PlanFault::Unsaid(CantSay::NoLog)),
         },
         PostfixRequest::Warn(_) | PostfixRequest::Trace(_) => match log {
@@ -105,7 +105,7 @@ fn records_asked<'a>(
 }
 
 impl<'a> PostfixRequest<'a> {
-    /// What a request for notices says, if it is one.
+    /// The part of the request that describes its notices. Returns `None` for an append.
     fn notice_asked(&self) -> Option<&NoticeRequest<'a>>
         ensures { option_map (λ notice. notice.now) result ≡ notice_asked self.now }
     {
@@ -119,7 +119,7 @@ impl<'a> PostfixRequest<'a> {
         }
     }
 
-    /// Of how many a notice tells at most.
+    /// The largest number of outcomes in one notice.
     fn most_told(&self) -> usize
         ensures most { result ≡ most_told self.now }
         ensures some { 0 < result }
@@ -131,7 +131,7 @@ impl<'a> PostfixRequest<'a> {
         }
     }
 
-    /// What kind of notice it asks for.
+    /// The kind of the request's notices.
     fn kind_of_notice(&self) -> Service
         ensures { result ≡ kind_of_notice self.now }
     {
@@ -142,7 +142,7 @@ impl<'a> PostfixRequest<'a> {
         }
     }
 
-    /// The delimiters by which a recipient stands in the address of a notice.
+    /// The delimiters of the recipient in the address of a notice.
     fn delimiters(&self) -> Option<&'a [u8]>
         ensures { option_map (λ text. text.now) result ≡ delimiters_of self.now }
     {
@@ -153,7 +153,7 @@ impl<'a> PostfixRequest<'a> {
     }
 }
 
-/// What a kind of notice gives back.
+/// What a kind of notice returns of the message.
 fn returned_if_failed(kind: Service, returns: u32) -> ReturnedPart
     ensures { result ≡ returned_if_failed kind returns }
 {
@@ -163,7 +163,7 @@ fn returned_if_failed(kind: Service, returns: u32) -> ReturnedPart
     }
 }
 
-/// A notice of a request that tells of some recipients.
+/// The notice of a request that reports these outcomes.
 fn notice_about<'a>(
     request: &PostfixRequest<'a>,
     notice: &NoticeRequest<'a>,
@@ -182,21 +182,21 @@ fn notice_about<'a>(
     }
 }
 
-/// The first so many of some records, or all of them.
+/// The first `most` records, or all of fewer.
 fn first_portion<'b, 'a>(most: usize, told: &'b [LogRecord<'a>]) -> &'b [LogRecord<'a>]
     ensures { result.now ≡ take most told.now }
 {
     &told[..most.min(told.len())]
 }
 
-/// Some records without the first so many.
+/// The records after the first `most`.
 fn other_portions<'b, 'a>(most: usize, told: &'b [LogRecord<'a>]) -> &'b [LogRecord<'a>]
     ensures { result.now ≡ drop most told.now }
 {
     &told[most.min(told.len())..]
 }
 
-/// The notices of a request that tell of all recipients of a list, each of at most so many.
+/// The notices of a request that report all these outcomes, each as many as it may.
 fn notices_telling<'a>(
     alloc: Global,
     request: &PostfixRequest<'a>,
@@ -219,14 +219,15 @@ fn notices_telling<'a>(
     Ok(notices)
 }
 
-/// The notices that a request to a service has, from the queue file's recipients and the bytes of
-/// the log's file, if there is one. Each outcome of a recipient whom the request's NOTIFY rules want
-/// is in exactly one of them, once, in the log's order, and no other is. An outcome is a recipient's
-/// place and address with a status, an action and a reason; of two records of it the last one is
-/// told. In a log of deferred recipients one that is done isn't told. A notice of failure has the
-/// action `failed`, whatever the log's. A message from nobody, or from the double-bounce address,
-/// has no notice. Returns `Unsaid` if the notices can't be said, and `NoMemory` only if memory for
-/// them was refused.
+/// Plans the notices of a request to a service, from the queue file's recipients and the bytes of
+/// the log's file, if there is one.
+/// Each outcome that the recipient's NOTIFY value wants is in exactly one notice, once, in the
+/// log's order; no other outcome is. Records with the same known place, address, status, action and
+/// reason are one outcome, and the last of them is reported. A log of deferred recipients reports
+/// nothing of a recipient that is done. A notice of failure has the action `failed`, whatever the
+/// log's. A message from the null sender, or from the double-bounce address, has no notice.
+/// Returns `Unsaid` if the notices can't be expressed, and `NoMemory` only if memory for them was
+/// refused.
 #[tactic(auto, unfolding(crate::specs::NoticePlan::notices_of))]
 pub fn plan_notices<'a>(
     alloc: Global,

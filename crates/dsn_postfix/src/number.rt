@@ -7,7 +7,8 @@ ghost use Rattle.dsn_postfix.specs.Attribute.{number_in, number_limit, offset_li
 use dsn_text::ShortText;
 use std::str;
 
-/// The number of 64 bits that a text writes: digits alone, without a zero in front.
+/// The 64-bit number that a text writes: digits alone, without leading zeros. Returns `None` for
+/// any other text.
 pub(crate) fn number_in(text: &[u8]) -> Option<u64>
     ensures { result ≡ number_in offset_limit text.now }
 {
@@ -17,7 +18,8 @@ pub(crate) fn number_in(text: &[u8]) -> Option<u64>
     }
 }
 
-/// The same of 32 bits.
+/// The 32-bit number that a text writes: digits alone, without leading zeros. Returns `None` for
+/// any other text.
 pub(crate) fn short_number_in(text: &[u8]) -> Option<u32>
     ensures { result ≡ number_in number_limit text.now }
 {
@@ -27,7 +29,7 @@ pub(crate) fn short_number_in(text: &[u8]) -> Option<u32>
     }
 }
 
-/// The number whose text this is, where it is one's; else any or none.
+/// The number whose text this is. The result for any other text is not specified.
 fn parsed(text: &[u8]) -> Option<u64>
     ensures known { (n : ℕ) → n < offset_limit → text.now ≡ decimal n → result ≡ Some n }
     ensures bounded { IfSome result (λ n. n < offset_limit) }
@@ -38,7 +40,7 @@ fn parsed(text: &[u8]) -> Option<u64>
     }
 }
 
-/// Whether this is the text of a number.
+/// Whether `text` is the text of `number`.
 fn writes(number: u64, text: &[u8]) -> bool
     ensures { result ≡ pointwise ◌==◌ (decimal number) text.now }
 {

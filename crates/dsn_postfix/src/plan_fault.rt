@@ -1,4 +1,4 @@
-//! Why there is no plan of notices.
+//! Why notices weren't planned.
 ghost use Rattle.std.specs.Prelude.{◌≡◌};
 ghost use Rattle.dsn_postfix.specs.declared.plan_fault.PlanFault.TheVariants.{NoMemory};
 
@@ -9,10 +9,10 @@ use thiserror::Error;
 /// Why notices weren't planned.
 #[derive(Clone, Copy, Debug, Drop, PartialEq, Eq, Error)]
 pub enum PlanFault {
-    /// The memory for the plan was refused.
+    /// Memory for the plan was refused.
     #[error("out of memory")]
     NoMemory,
-    /// They can't be said.
+    /// The notices can't be expressed.
     #[error("notices that can't be said")]
     Unsaid(CantSay),
 }

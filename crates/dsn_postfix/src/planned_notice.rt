@@ -1,23 +1,24 @@
-//! A notice that is to be made.
+//! A notice to be made.
 //! Implements docs/FORMATS.md, "The notice of a Postfix log".
 use crate::returned_part::ReturnedPart;
 use dsn_postfix_files::LogRecord;
 use dsn_text::Service;
 use std::marker::Model;
 
-/// A notice that is to be made: to whom it goes, what it gives back, and of whom it tells.
+/// A notice to be made: its addressee, what it returns of the message, and the outcomes that it
+/// reports.
 #[derive(Debug, Drop)]
 pub struct PlannedNotice<'a> {
     /// The sender of the message, to whom the notice goes.
     pub to: &'a [u8],
-    /// The two bytes by which the recipient stands in the address of the notice, where the sender
-    /// wanted that (VERP).
+    /// The two delimiters of the recipient in the address of the notice, if the sender wanted the
+    /// recipient there (VERP).
     pub delimiters: Option<&'a [u8]>,
-    /// What kind of notice it is: of failure, of delay, or of deliveries.
+    /// The kind of notice: of failure, of delay, or of deliveries.
     pub service: Service,
-    /// What it gives back of the message.
+    /// What it returns of the message.
     pub returned: ReturnedPart,
-    /// Of whom it tells, in the log's order, with what became of each.
+    /// The outcomes that it reports, in the log's order.
     pub outcomes: Vec<LogRecord<'a>>,
 }
 

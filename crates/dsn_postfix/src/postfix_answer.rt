@@ -1,4 +1,4 @@
-//! What bounce(8) says: an announcement before a request, and a status after it.
+//! What bounce(8) sends: an announcement before a request, and a status after it.
 //! Implements docs/FORMATS.md, "What Postfix's programs send".
 ghost use Rattle.std.specs.Prelude.{◌≡◌, ◌<◌, ℕ, Ok, Err, IfOk, IfErr};
 ghost use Rattle.dsn_postfix.specs.Attribute.{number_limit};
@@ -10,7 +10,8 @@ use crate::request_fault::RequestFault;
 use dsn_text::NoMemory;
 use std::alloc::Global;
 
-/// The list that the service sends as soon as a client is there. There is an error only where memory was refused.
+/// The list that the service sends as soon as a client has connected. Returns an error only if
+/// memory was refused.
 #[tactic(auto, unfolding(crate::specs::PostfixAnswer::announcement_bytes))]
 pub fn encode_announcement(alloc: Global) -> Result<Vec<u8>, NoMemory>
     ensures { IfOk result (λ bytes. bytes.items ≡ announcement_bytes) }
@@ -21,8 +22,8 @@ pub fn encode_announcement(alloc: Global) -> Result<Vec<u8>, NoMemory>
     Ok(out)
 }
 
-/// The list that answers a request: 0 where it was carried out, and 4,294,967,295 where it wasn't. There is an error only
-/// where memory was refused.
+/// The list that answers a request: status 0 if it was carried out, and 4,294,967,295 if it wasn't.
+/// Returns an error only if memory was refused.
 #[tactic(auto, unfolding(crate::specs::PostfixAnswer::status_bytes))]
 pub fn encode_status(alloc: Global, status: u32) -> Result<Vec<u8>, NoMemory>
     ensures { IfOk result (λ bytes. bytes.items ≡ status_bytes status) }
@@ -33,7 +34,7 @@ pub fn encode_status(alloc: Global, status: u32) -> Result<Vec<u8>, NoMemory>
     Ok(out)
 }
 
-/// The status that bytes are, all of them. It takes no memory.
+/// The status that takes up these bytes. Doesn't allocate. Returns the first fault, from the left.
 pub fn decode_status(bytes: &[u8]) -> Result<u32, RequestFault>
     ensures read { IfOk result (λ status. bytes.now ≡ status_bytes status) }
     ensures only { (status : ℕ) → status < number_limit → bytes.now ≡ status_bytes status
@@ -43,7 +44,7 @@ pub fn decode_status(bytes: &[u8]) -> Result<u32, RequestFault>
     read_status(bytes)
 }
 
-/// The status that reading gives.
+/// Reads the status.
 #[tactic(auto, unfolding(crate::specs::PostfixAnswer::status_at))]
 fn read_status(bytes: &[u8]) -> Result<u32, RequestFault>
     ensures read { IfOk result (λ status. status_at bytes.now ≡ Ok status) }

@@ -1,4 +1,4 @@
-//! What Postfix's programs ask of its bounce service.
+//! The requests of Postfix's programs to its bounce service.
 ghost use Rattle.std.specs.Prelude.{◌≡◌};
 ghost use Rattle.dsn_postfix.specs.RequestFlags.{asks_clean, flags_of, marks_recipients, needs_smtputf8};
 
@@ -7,20 +7,21 @@ use crate::queue_name::QueueName;
 use crate::verp_delimiters::VerpDelimiters;
 use dsn_text::QueueId;
 
-/// A request, whose texts are lent by the bytes that it was read from.
+/// A request, whose texts are borrowed from the bytes that it was read from.
 #[derive(Debug, Drop)]
 pub enum PostfixRequest<'a> {
-    /// To log what became of a recipient.
+    /// Log the outcome of a recipient.
     Append(AppendRequest<'a>),
-    /// To make a notice of a log, and remove the log.
+    /// Make a notice of a log, and remove the log.
     Flush(NoticeRequest<'a>),
-    /// To make a notice that a message is delayed, and keep the log.
+    /// Make a notice that a message is delayed, and keep the log.
     Warn(NoticeRequest<'a>),
-    /// To make a notice of a log for each recipient, with the recipient in the return path, and remove the log.
+    /// Make a notice of a log for each recipient, with the recipient in the return path, and remove
+    /// the log.
     Verp(NoticeRequest<'a>, VerpDelimiters<'a>),
-    /// To make a notice of this recipient alone, without a log.
+    /// Make a notice of this recipient alone, without a log.
     One(NoticeRequest<'a>, ReportedRecipient<'a>, DeliveryReport<'a>),
-    /// To make a notice of a log of deliveries, and remove the log.
+    /// Make a notice of a log of deliveries, and remove the log.
     Trace(NoticeRequest<'a>),
 }
 
@@ -39,7 +40,7 @@ impl<'a> PostfixRequest<'a> {
         }
     }
 
-    /// Whether the log is to be removed if the answer isn't 0 (CLEAN).
+    /// Whether the log must be removed if the answer isn't 0 (CLEAN).
     pub fn asks_clean(&self) -> bool
         ensures { result ≡ asks_clean self.now }
     {
@@ -47,48 +48,50 @@ impl<'a> PostfixRequest<'a> {
     }
 }
 
-/// What an append says.
+/// A request to log the outcome of a recipient.
 #[derive(Debug, Drop)]
 pub struct AppendRequest<'a> {
-    /// The flags of the request: 1 asks that the log be removed where the answer isn't 0. Others are of the delivery.
+    /// The flags of the request. 1 (CLEAN) asks to remove the log if the answer isn't 0; the others
+    /// belong to the delivery.
     pub flags: u32,
     /// The queue id of the message.
     pub queue_id: QueueId,
     /// The recipient.
     pub recipient: ReportedRecipient<'a>,
-    /// What became of it.
+    /// The outcome.
     pub report: DeliveryReport<'a>,
 }
 
-/// What a request for a notice says.
+/// The part of a request for notices that describes the message.
 #[derive(Debug, Drop)]
 pub struct NoticeRequest<'a> {
-    /// The flags of the request: 1 asks that the log be removed where the answer isn't 0, and 2 that the log's recipients
-    /// be marked as done in the queue file once the notice is made.
+    /// The flags of the request. 1 (CLEAN) asks to remove the log if the answer isn't 0. 2
+    /// (DELRCPT) asks to mark the log's recipients as done in the queue file once the notice is
+    /// made.
     pub flags: u32,
     /// The name of the queue that the message's file is in.
     pub queue_name: QueueName<'a>,
     /// The queue id of the message.
     pub queue_id: QueueId,
-    /// How the message's body is encoded: `7bit`, `8bit`, or empty where that isn't known.
+    /// The encoding of the message's body: `7bit`, `8bit`, or empty if unknown.
     pub encoding: AttributeText<'a>,
-    /// Whether the attribute of the send options is named `sendopts`, as since 3.10, and not `smtputf8`.
+    /// Whether the attribute of the send options is named `sendopts`, as since Postfix 3.10, and
+    /// not `smtputf8`.
     pub names_sendopts: bool,
-    /// What the message needs of those who pass it on, as bits: 1 SMTPUTF8 (RFC 6531), with which it was submitted, 2 there
-    /// is UTF-8 in its header, 4 in its sender, 8 in a recipient; since 3.10 also 16 if its header has `TLS-Required: no`,
-    /// and 32 REQUIRETLS (RFC 8689).
+    /// What the message requires of its transport, as bits. 1: it was submitted with SMTPUTF8 (RFC
+    /// 6531). 2, 4 and 8: there is UTF-8 in its header, its sender or a recipient. Since Postfix
+    /// 3.10 also 16: its header has `TLS-Required: no`; and 32: REQUIRETLS (RFC 8689).
     pub send_options: u32,
-    /// The envelope sender of the message; empty where it is null.
+    /// The envelope sender of the message; empty if it is null.
     pub sender: AttributeText<'a>,
-    /// The envelope id of the message, without the xtext in which a client gives it; empty where there
-    /// is none.
+    /// The envelope id of the message, decoded from the client's xtext; empty if it has no id.
     pub envelope_id: AttributeText<'a>,
-    /// How much of the message the sender wants back: 1 the whole, 2 the header, 0 where that wasn't said.
+    /// What the sender wants returned: 1 the whole message, 2 its header, 0 unspecified.
     pub returns: u32,
 }
 
 impl<'a> NoticeRequest<'a> {
-    /// Whether the recipients of whom the notices tell are to be marked as done (DELRCPT).
+    /// Whether the recipients that the notices report must be marked as done (DELRCPT).
     pub fn marks_recipients(&self) -> bool
         ensures { result ≡ marks_recipients self.now }
     {
@@ -103,33 +106,35 @@ impl<'a> NoticeRequest<'a> {
     }
 }
 
-/// A recipient, as a delivery agent names it.
+/// A recipient, as a delivery agent reports it.
 #[derive(Debug, Drop)]
 pub struct ReportedRecipient<'a> {
-    /// The recipient before it was rewritten or expanded; empty where that isn't known.
+    /// The recipient before it was rewritten or expanded; empty if unknown.
     pub original: AttributeText<'a>,
     /// The recipient to whom delivery was tried.
     pub address: AttributeText<'a>,
-    /// Where the recipient's record begins in the queue file; 0 where that isn't known.
+    /// The place of the recipient's record in the queue file, in bytes; 0 if unknown.
     pub offset: u64,
-    /// The original recipient as the sender's mail system gave it (RFC 3461 section 4.2); empty where it gave none.
+    /// The original recipient that the sender's mail system gave (RFC 3461 section 4.2); empty if
+    /// it gave no such recipient.
     pub dsn_original: AttributeText<'a>,
-    /// When the sender wants to be told, as bits: 1 never, 2 of success, 4 of failure, 8 of delay; 0 where that wasn't said.
+    /// When the sender wants to be notified, as bits: 1 never, 2 of success, 4 of failure, 8 of
+    /// delay; 0 if unspecified.
     pub notify: u32,
 }
 
-/// What a delivery agent says became of a recipient (RFC 3464 section 2.3).
+/// The outcome that a delivery agent reports for a recipient (RFC 3464 section 2.3).
 #[derive(Debug, Drop)]
 pub struct DeliveryReport<'a> {
     /// The status code.
     pub status: AttributeText<'a>,
-    /// The type of the diagnostic, as `smtp`; empty where there is no diagnostic.
+    /// The type of the diagnostic, such as `smtp`; empty without a diagnostic.
     pub diagnostic_type: AttributeText<'a>,
-    /// The diagnostic; empty where there is none.
+    /// The diagnostic; empty if there was no diagnostic.
     pub diagnostic: AttributeText<'a>,
-    /// The type of the remote mail system's name, as `dns`; empty where there is no name.
+    /// The type of the remote mail system's name, such as `dns`; empty without a name.
     pub mta_type: AttributeText<'a>,
-    /// The remote mail system's name; empty where there is none.
+    /// The remote mail system's name; empty if it has no name.
     pub mta: AttributeText<'a>,
     /// The action.
     pub action: AttributeText<'a>,

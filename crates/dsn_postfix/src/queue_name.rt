@@ -10,7 +10,8 @@ use std::marker::Model;
 /// The longest name of a queue, in bytes.
 const LONGEST_QUEUE_NAME: usize = 100;
 
-/// The name of a queue, 1 to 100 ASCII letters and digits, lent. It is that of the queue's folder.
+/// The name of a queue, borrowed: 1 to 100 ASCII letters and digits. The queue's folder has this
+/// name.
 #[derive(Debug, Drop)]
 pub struct QueueName<'a> {
     bytes: &'a [u8],
@@ -28,7 +29,7 @@ impl<'a> Model for QueueName<'a> {
 }
 
 impl<'a> QueueName<'a> {
-    /// The name that some bytes are, if they can be one.
+    /// The name in these bytes. Returns `None` if they are not a valid name.
     pub fn new(bytes: &'a [u8]) -> Option<QueueName<'a>>
         ensures some { IsSome result ↔ IsQueueName bytes.now }
         ensures kept { IfSome result (λ name. name ≡ bytes.now) }
@@ -47,7 +48,7 @@ impl<'a> QueueName<'a> {
         self.bytes
     }
 
-    /// The same name, lent by the same bytes.
+    /// The same name, borrowed from the same bytes.
     pub fn lent(&self) -> QueueName<'a>
         ensures { result ≡ self.now }
     {
@@ -55,7 +56,6 @@ impl<'a> QueueName<'a> {
     }
 }
 
-/// Whether each byte is an ASCII letter or a digit.
 fn has_letters_and_digits(bytes: &[u8]) -> bool
     ensures { result ≡ list_all is_letter_or_digit bytes.now }
 {

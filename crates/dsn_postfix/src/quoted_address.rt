@@ -1,11 +1,11 @@
-//! Which addresses stand in a log file as they are.
+//! Which addresses a log file can have as they are.
 //! Implements RFC 5321 section 4.1.2 and docs/FORMATS.md, "The record that an append becomes".
 ghost use Rattle.std.specs.Prelude.{◌≡◌, ◌+◌, length};
 ghost use Rattle.std.specs.List.{list_all, suffix_len};
 ghost use Rattle.dsn_postfix.specs.VerpPath.{domain_part};
 ghost use Rattle.dsn_postfix.specs.QuotedAddress.{is_dot_string, is_no_at, local_part, needs_no_quotes, no_dots_meet, stands_unquoted};
 
-/// Where the domain of an address begins, after its last `@`, or 0 where it has none.
+/// The index of the domain of an address, after its last `@`, or 0 if it has no `@`.
 fn domain_place(address: &[u8]) -> usize
     ensures place { result + suffix_len is_no_at address.now ≡ length address.now }
 {
@@ -16,7 +16,7 @@ fn domain_place(address: &[u8]) -> usize
     len
 }
 
-/// The domain of an address: what stands after its last `@`, or nothing where it has none.
+/// The domain of an address: the part after its last `@`, or empty if it has no `@`.
 pub(crate) fn domain_part(address: &[u8]) -> &[u8]
     ensures { result.now ≡ domain_part address.now }
 {
@@ -27,7 +27,7 @@ pub(crate) fn domain_part(address: &[u8]) -> &[u8]
     &address[place..]
 }
 
-/// The local part of an address: what stands before its last `@`, or the whole where it has none.
+/// The local part of an address: the part before its last `@`, or the whole if it has no `@`.
 pub(crate) fn local_part(address: &[u8]) -> &[u8]
     ensures { result.now ≡ local_part address.now }
 {
@@ -39,7 +39,7 @@ pub(crate) fn local_part(address: &[u8]) -> &[u8]
     }
 }
 
-/// Whether a byte stands in an address without quotes around it.
+/// Whether a byte can be in a local part without quotes around it.
 fn stands_unquoted(byte: u8) -> bool
     ensures { result ≡ stands_unquoted byte }
 {
@@ -62,7 +62,7 @@ fn stands_unquoted(byte: u8) -> bool
     )
 }
 
-/// Whether all bytes stand in an address without quotes around them.
+/// Whether all bytes can be in a local part without quotes around it.
 fn all_stand_unquoted(text: &[u8]) -> bool
     ensures { result ≡ list_all stands_unquoted text.now }
 {
@@ -76,7 +76,7 @@ fn all_stand_unquoted(text: &[u8]) -> bool
     true
 }
 
-/// Whether no dot stands at an end or beside another.
+/// Whether a text isn't empty, and no dot in it is at an end or beside another.
 fn no_dots_meet(text: &[u8]) -> bool
     ensures { result ≡ no_dots_meet 46 text.now }
 {

@@ -1,5 +1,5 @@
-//! Sets in which outcomes and recipients are looked up, so that the time that a log takes doesn't grow with the square of
-//! its records.
+//! Sets in which outcomes and recipients are looked up, so that the time for a log doesn't grow
+//! with the square of its records.
 //! Implements docs/FORMATS.md, "The notice of a Postfix log".
 ghost use Rattle.std.specs.Prelude.{◌≡◌, ◌∷◌, List, map, IfOk, OnOk};
 ghost use Rattle.std.specs.List.{list_any};
@@ -14,11 +14,12 @@ use dsn_text::Service;
 use std::alloc::{AllocError, Global};
 use std::collections::BTreeSet;
 
-/// By what an outcome is known again: the recipient's place in the queue file and its address, the status, the action and
-/// the reason.
+/// What identifies an outcome: the recipient's place in the queue file and its address, the status,
+/// the action and the reason.
 pub(crate) type OutcomeKey<'a> = (u64, &'a [u8], &'a [u8], &'a [u8], &'a [u8]);
 
-/// Adds the outcome of a record to those of the records after it. Returns whether one of these has it too.
+/// Adds the outcome of a record to those of the records after it. Returns whether one of these has
+/// it too.
 pub(crate) fn is_outcome_again<'a>(
     seen: &mut BTreeSet<OutcomeKey<'a>>,
     found: &LogRecord<'a>,
@@ -28,7 +29,7 @@ pub(crate) fn is_outcome_again<'a>(
     ensures seen { (later : List LoggedFields) → HasOutcomes seen.old later
         → OnOk result (HasOutcomes seen.new (logged_fields_in found.now ∷ later)) }
 {
-    // Without a place each record is an outcome of its own.
+    // Without a place, each record is an outcome of its own.
     if found.offset == 0 {
         return Ok(false);
     }
@@ -45,7 +46,8 @@ pub(crate) fn is_outcome_again<'a>(
     Ok(!is_new)
 }
 
-/// The places of the recipients of whom a service's log says nothing any more, since the queue file has them as done.
+/// The places of the recipients that a service's log no longer reports, since the queue file has
+/// them as done.
 pub(crate) fn past_places(
     alloc: Global,
     service: Service,
@@ -55,9 +57,9 @@ pub(crate) fn past_places(
 {
     match service {
         Service::Bounce | Service::Trace => Ok(BTreeSet::new(alloc)),
-        // The notice of an expired message is asked for with the flag that marks its recipients as
-        // done. If Postfix asks again after a crash, they aren't reported twice. The other logs'
-        // recipients are done because they are logged.
+        // The notice of an expired message is requested with the flag that marks its recipients as
+        // done. If Postfix repeats the request after a crash, they aren't reported twice. The
+        // recipients of the other logs are done because they are logged.
         Service::Defer => done_places(alloc, queued),
     }
 }

@@ -1,10 +1,11 @@
-//! Why bytes are no request of Postfix's programs.
+//! Why bytes are not a valid request of Postfix's programs.
 //! Implements docs/FORMATS.md, "What Postfix's programs send".
 
 use thiserror::Error;
 
-/// Why bytes are no request: what is wrong with the first attribute, from the left, that isn't as its layout has it, or with
-/// the end. Such bytes ask nothing, so nothing is changed.
+/// Why bytes are not a valid request: the fault of the first attribute, from the left, that differs
+/// from its layout, or else the fault of the end. Such bytes request nothing, so nothing is
+/// changed.
 #[derive(Clone, Copy, Debug, Drop, PartialEq, Eq, Error)]
 pub enum RequestFault {
     /// The bytes end before the list does.
@@ -13,13 +14,13 @@ pub enum RequestFault {
     /// The list ends where the layout has an attribute.
     #[error("an attribute is missing")]
     Missing,
-    /// An attribute has another name than the layout has there.
+    /// An attribute has another name than the layout has at this place.
     #[error("an attribute has another name")]
     Name,
-    /// A value isn't a number in decimal, or is too great.
+    /// A value isn't a decimal number, or is too large.
     #[error("a value is not a number")]
     Number,
-    /// What is asked isn't 0 to 5.
+    /// The kind of request isn't 0 to 5.
     #[error("what is asked is unknown")]
     Command,
     /// The queue's name isn't 1 to 100 letters and digits.

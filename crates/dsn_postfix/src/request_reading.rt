@@ -1,8 +1,8 @@
-//! The attributes of requests, read one after another in the order that their layouts have.
+//! The attributes of requests, read one after another in the order of their layouts.
 //! Implements docs/FORMATS.md, "What Postfix's programs send".
-//! A request has its layout's attributes, in its order, and no others. bounce(8) passes over what
-//! it doesn't want, and takes signs and spaces in numbers; Postfix's programs send none of these.
-//! So what is read can be written again, byte for byte.
+//! A request has exactly the attributes of its layout, in its order. bounce(8) skips what it
+//! doesn't want, and accepts signs and spaces in numbers; Postfix's programs send none of these. So
+//! what is read can be written again, byte for byte.
 ghost use Rattle.std.specs.Prelude.{◌≡◌, IfOk, IfErr};
 ghost use Rattle.dsn_postfix.specs.PostfixRequest.{send_options_name};
 ghost use Rattle.dsn_postfix.specs.RequestReading.{append_request_at, notice_request_at, own_request_at, recipient_at, report_at, verp_at, one_at};
@@ -13,16 +13,16 @@ use crate::postfix_request::{
 };
 use crate::request_fault::RequestFault;
 
-/// The name of the attribute that has the send options: its newer one, or its older one.
+/// The name of the attribute that has the send options: the newer or the older one.
 pub(crate) fn send_options_name(newer: bool) -> &'static [u8]
     ensures { result.now ≡ send_options_name newer }
 {
-    // Whichever version asks: a setting for the version would pass all requests on if it was wrong,
-    // and an upgrade of Postfix would make it wrong.
+    // Any version may use either name. If a setting for the version was wrong, all requests would
+    // be passed on, and an upgrade of Postfix would make it wrong.
     if newer { b"sendopts" } else { b"smtputf8" }
 }
 
-/// A recipient.
+/// Reads a recipient.
 #[tactic(auto, unfolding(crate::specs::RequestReading::recipient_at))]
 fn recipient_of<'a>(reader: &mut AttributeReader<'a>) -> Result<ReportedRecipient<'a>, RequestFault>
     ensures read { IfOk result
@@ -43,7 +43,7 @@ fn recipient_of<'a>(reader: &mut AttributeReader<'a>) -> Result<ReportedRecipien
     })
 }
 
-/// What became of a recipient.
+/// Reads the outcome of a recipient.
 #[tactic(auto, unfolding(crate::specs::RequestReading::report_at))]
 fn report_of<'a>(reader: &mut AttributeReader<'a>) -> Result<DeliveryReport<'a>, RequestFault>
     ensures read { IfOk result (λ report. report_at reader.old ≡ Ok (report, reader.new)) }
@@ -67,7 +67,7 @@ fn report_of<'a>(reader: &mut AttributeReader<'a>) -> Result<DeliveryReport<'a>,
     })
 }
 
-/// What an append says.
+/// Reads the attributes of an append.
 #[tactic(auto, unfolding(crate::specs::RequestReading::append_request_at))]
 fn append_of<'a>(reader: &mut AttributeReader<'a>) -> Result<AppendRequest<'a>, RequestFault>
     ensures read { IfOk result (λ request. append_request_at reader.old ≡ Ok (request, reader.new)) }
@@ -85,7 +85,7 @@ fn append_of<'a>(reader: &mut AttributeReader<'a>) -> Result<AppendRequest<'a>, 
     })
 }
 
-/// What a request for a notice says.
+/// Reads the attributes of a request for notices.
 #[tactic(auto, unfolding(crate::specs::RequestReading::notice_request_at))]
 fn notice_of<'a>(reader: &mut AttributeReader<'a>) -> Result<NoticeRequest<'a>, RequestFault>
     ensures read { IfOk result
@@ -114,7 +114,7 @@ fn notice_of<'a>(reader: &mut AttributeReader<'a>) -> Result<NoticeRequest<'a>, 
     })
 }
 
-/// What follows the number of what is asked.
+/// Reads the request after its number.
 #[tactic(auto, unfolding(crate::specs::RequestReading::own_request_at, crate::specs::RequestReading::append_only_at, crate::specs::RequestReading::notice_at, crate::specs::RequestReading::verp_at, crate::specs::RequestReading::one_at))]
 pub(crate) fn request_of<'a>(
     command: u32,
@@ -135,7 +135,7 @@ pub(crate) fn request_of<'a>(
     }
 }
 
-/// A request for notices whose return paths have the recipients in them.
+/// Reads a request for notices that have the recipient in their return path.
 #[tactic(auto, unfolding(crate::specs::RequestReading::verp_at))]
 fn verp_of<'a>(reader: &mut AttributeReader<'a>) -> Result<PostfixRequest<'a>, RequestFault>
     ensures read { IfOk result (λ request. verp_at reader.old ≡ Ok (request, reader.new)) }
@@ -146,7 +146,7 @@ fn verp_of<'a>(reader: &mut AttributeReader<'a>) -> Result<PostfixRequest<'a>, R
     Ok(PostfixRequest::Verp(request, delimiters))
 }
 
-/// A request for a notice of one recipient.
+/// Reads a request for a notice of one recipient.
 #[tactic(auto, unfolding(crate::specs::RequestReading::one_at))]
 fn one_of<'a>(reader: &mut AttributeReader<'a>) -> Result<PostfixRequest<'a>, RequestFault>
     ensures read { IfOk result (λ request. one_at reader.old ≡ Ok (request, reader.new)) }

@@ -1,7 +1,7 @@
-//! What a notice gives back of the message that it is about.
+//! What a notice returns of its message.
 //! Implements docs/FORMATS.md, "The notice of a Postfix log".
 
-/// What a notice gives back (RFC 3461 section 4.3).
+/// What a notice returns (RFC 3461 section 4.3).
 #[derive(Clone, Copy, Debug, PartialEq, Eq)]
 pub enum ReturnedPart {
     /// The message.

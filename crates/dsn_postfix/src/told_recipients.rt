@@ -1,4 +1,4 @@
-//! Which outcomes of a log the notices of a request tell.
+//! Which outcomes of a log the notices of a request report.
 //! Implements docs/FORMATS.md, "The notice of a Postfix log".
 ghost use Rattle.std.specs.Prelude.{◌≡◌, ◌&&◌, ◌∷◌, not, List, map, IfOk, OnOk, if◌then◌else◌};
 ghost use Rattle.std.specs.List.{list_all, list_any};
@@ -14,13 +14,13 @@ use dsn_text::Service;
 use std::alloc::{AllocError, Global};
 use std::collections::BTreeSet;
 
-/// A record as a notice of a request tells it.
+/// A record as a notice of a request reports it.
 fn told_as<'a>(request: &PostfixRequest<'_>, found: LogRecord<'a>) -> LogRecord<'a>
     ensures { logged_fields_in result ≡ told_as request.now (logged_fields_in found.entry) }
 {
     match request {
         PostfixRequest::Flush(_) | PostfixRequest::Verp(..) | PostfixRequest::One(..) => {
-            // As bounce(8) does, also for an expired message whose log has delays. The status stays
+            // As bounce(8) does, even for an expired message whose log has delays. The status stays
             // the log's.
             LogRecord {
                 action: b"failed",
@@ -31,7 +31,7 @@ fn told_as<'a>(request: &PostfixRequest<'_>, found: LogRecord<'a>) -> LogRecord<
     }
 }
 
-/// Whether an outcome is to be told, by the places of those who are done.
+/// Whether an outcome is wanted. `past` has the places of the recipients that are done.
 fn is_wanted(request: &PostfixRequest<'_>, past: &BTreeSet<u64>, found: &LogRecord<'_>) -> bool
     ensures { (service : Service) (queued : List RecipientFacts) → HasPast past.now service queued
         → result ≡ is_wanted service request.now queued (logged_fields_in found.now) }
@@ -39,8 +39,8 @@ fn is_wanted(request: &PostfixRequest<'_>, past: &BTreeSet<u64>, found: &LogReco
     request.wants(found.notify_flags as u32) && !past.contains(&found.offset)
 }
 
-/// Whether an outcome is told: it is to be told, and none of those after it is the same. It is added to them if it is to
-/// be told.
+/// Whether an outcome is reported: it is wanted, and no later wanted outcome is the same. Adds it
+/// to the later ones if it is wanted.
 fn is_told<'a>(
     request: &PostfixRequest<'_>,
     past: &BTreeSet<u64>,
@@ -64,8 +64,9 @@ fn is_told<'a>(
     Ok(!again)
 }
 
-/// The outcomes of a log's records that the notices of a request tell, in their order. They are gone through from the last
-/// one on, since of two records of one outcome the last one is told.
+/// The outcomes of a log's records that the notices of a request report, in their order. Goes
+/// through the records from the last to the first, since the last of two records of one outcome is
+/// reported.
 pub(crate) fn told_of<'a>(
     alloc: Global,
     service: Service,

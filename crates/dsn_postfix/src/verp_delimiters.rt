@@ -1,4 +1,4 @@
-//! The delimiters of a return path that has the recipient in it.
+//! The delimiters of a recipient in a return path.
 //! Implements docs/FORMATS.md, "What Postfix's programs send".
 ghost use Rattle.std.specs.Prelude.{◌≡◌, ◌↔◌, IsSome, IfSome};
 ghost use Rattle.dsn_postfix.specs.AttributeValues.{AreDelimiters};
@@ -6,8 +6,8 @@ ghost use Rattle.dsn_postfix.specs.AttributeValues.{AreDelimiters};
 use dsn_postfix_files::is_zero_free;
 use std::marker::Model;
 
-/// Two bytes, none of them zero, lent: the first stands before the recipient in a return path, the second in place of
-/// the recipient's `@`.
+/// Two bytes, borrowed, neither of them zero. The first precedes the recipient in a return path,
+/// and the second replaces the recipient's `@`.
 #[derive(Debug, Drop)]
 pub struct VerpDelimiters<'a> {
     bytes: &'a [u8],
@@ -25,7 +25,7 @@ impl<'a> Model for VerpDelimiters<'a> {
 }
 
 impl<'a> VerpDelimiters<'a> {
-    /// The delimiters that some bytes are, if they are two and neither is zero.
+    /// The delimiters in these bytes. Returns `None` unless they are two, neither of them zero.
     pub fn new(bytes: &'a [u8]) -> Option<VerpDelimiters<'a>>
         ensures some { IsSome result ↔ AreDelimiters bytes.now }
         ensures kept { IfSome result (λ delimiters. delimiters ≡ bytes.now) }
@@ -44,7 +44,7 @@ impl<'a> VerpDelimiters<'a> {
         self.bytes
     }
 
-    /// The same delimiters, lent by the same bytes.
+    /// The same delimiters, borrowed from the same bytes.
     pub fn lent(&self) -> VerpDelimiters<'a>
         ensures { result ≡ self.now }
     {

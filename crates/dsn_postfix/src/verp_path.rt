@@ -1,4 +1,4 @@
-//! The address of a notice that has its recipient in it.
+//! The address of a notice that contains its recipient.
 //! Implements docs/FORMATS.md, "What Postfix's programs send".
 ghost use Rattle.std.specs.Prelude.{◌≡◌, ◌++◌, IfOk, OnOk};
 ghost use Rattle.dsn_postfix_files.specs.LogRecord.{logged_fields_in};
@@ -30,7 +30,7 @@ fn copied(alloc: Global, text: &[u8]) -> Result<Vec<u8>, AllocError>
     Ok(copy)
 }
 
-/// A sender's address with a recipient's in it, between two bytes.
+/// A sender's address that contains a recipient's, by two delimiters.
 fn verp_path(
     alloc: Global,
     sender: &[u8],
@@ -42,8 +42,8 @@ fn verp_path(
     let [before, within, ..] = delimiters else {
         return copied(alloc, sender);
     };
-    // The texts of the log, so a quoted local part keeps its quotes within the new one, as in
-    // bounce(8)'s.
+    // These are the log's texts, so a quoted local part keeps its quotes within the new one, as
+    // with bounce(8).
     let mut path = copied(alloc, local_part(sender))?;
     path.push(*before)?;
     path.extend_from_slice(local_part(recipient))?;
@@ -52,7 +52,7 @@ fn verp_path(
     Ok(path)
 }
 
-/// The recipient as it was before it was rewritten.
+/// The recipient before it was rewritten, or the recipient if the record has no other.
 fn verp_recipient<'a>(fields: &LogRecord<'a>) -> &'a [u8]
     ensures { result.now ≡ verp_recipient (logged_fields_in fields.now) }
 {
@@ -64,8 +64,8 @@ fn verp_recipient<'a>(fields: &LogRecord<'a>) -> &'a [u8]
 }
 
 impl<'a> PlannedNotice<'a> {
-    /// The address to which it goes: the sender's, and where the sender wanted that with the recipient in
-    /// it. There is an error only where memory was refused.
+    /// The address to which it goes: the sender's, which contains the recipient if the sender
+    /// wanted that. Returns an error only if memory was refused.
     pub fn address(&self, alloc: Global) -> Result<Vec<u8>, AllocError>
         ensures { IfOk result (λ path. path.items ≡ notice_address self.now) }
     {

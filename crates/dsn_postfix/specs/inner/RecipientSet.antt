@@ -1,4 +1,4 @@
--- Sets in which outcomes and recipients are looked up, by what the definitions ask of lists.
+-- Sets in which outcomes and recipients are looked up, compared with the lists of the definitions.
 use Rattle.std.specs.Prelude.{◌≡◌, ◌==◌, ◌&&◌, nat_lt, Bool, ℕ, List}
 use Rattle.std.specs.Borrow.{Bor}
 use Rattle.std.specs.BTreeSet as sorted
@@ -13,12 +13,12 @@ use Rattle.dsn_postfix_files.specs.LogRecord.{LoggedFields}
 use Rattle.dsn_postfix.specs.NoticePlan.{is_past}
 use Rattle.dsn_postfix_files.specs.QueueRecipients.{RecipientFacts}
 
--- by what an outcome is known again: a recipient's place in the queue file and its address, the status, the action and
--- the reason
+-- what identifies an outcome: a recipient's place in the queue file and its address, the status, the action and the
+-- reason
 abbrev pub OutcomeKey : Type 0
 OutcomeKey = ℕ × Bor (List ℕ) × Bor (List ℕ) × Bor (List ℕ) × Bor (List ℕ)
 
--- the order in which a set keeps them
+-- the order of outcomes in a set
 abbrev pub outcome_cmp : OutcomeKey → OutcomeKey → Ordering
 outcome_cmp one other =
     ordering_then (
@@ -27,7 +27,7 @@ outcome_cmp one other =
     (slice_cmp nat_cmp one.3.now other.3.now))
     (slice_cmp nat_cmp one.4.now other.4.now)
 
--- a record is of the outcome
+-- a record has this outcome
 abbrev pub is_of_outcome : OutcomeKey → LoggedFields → Bool
 is_of_outcome outcome fields =
     nat_lt 0 outcome.0
@@ -36,10 +36,10 @@ is_of_outcome outcome fields =
     && (bytes_eq outcome.2.now fields.status
     && (bytes_eq outcome.3.now fields.action && bytes_eq outcome.4.now fields.reason))))
 
--- a set has the outcomes of some records, those whose recipient has a place
+-- a set has exactly the outcomes of these records whose recipient has a place
 abbrev pub HasOutcomes : BTreeSet OutcomeKey → List LoggedFields → Type 0
 HasOutcomes seen records = (outcome : OutcomeKey) → sorted.contains outcome_cmp seen outcome ≡ list_any (is_of_outcome outcome) records
 
--- a set has the places of recipients of whom a log says nothing any more
+-- a set has exactly the places of recipients that a log no longer reports
 abbrev pub HasPast : BTreeSet ℕ → Service → List RecipientFacts → Type 0
 HasPast past service queued = (place : ℕ) → sorted.contains nat_cmp past place ≡ is_past service queued place

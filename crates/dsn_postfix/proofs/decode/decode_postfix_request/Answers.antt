@@ -19,6 +19,6 @@ result_is bytes (Err fault) request read refused is = sym refused ∙ is
 pub returns-clause-read : goal.returns-clause-read
 returns-clause-read c = read_as c.args.bytes.now c.read_request.result c.read_request.ensures.read
 
--- and one that has these bytes is read
+-- a request that has these bytes is read
 pub returns-clause-only : goal.returns-clause-only
 returns-clause-only c request is = result_is c.args.bytes.now c.read_request.result request c.read_request.ensures.read c.read_request.ensures.refused (request_is_read c.args.bytes.now request is)

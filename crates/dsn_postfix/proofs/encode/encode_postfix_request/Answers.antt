@@ -2,7 +2,7 @@ use Rattle.std.proofs.Common.{append_assoc}
 use Rattle.dsn_postfix.specs.PostfixRequest.{postfix_request_bytes}
 use Rattle.dsn_postfix.proofs.encode.encode_postfix_request.Goals as goal
 
--- the number of what is asked, what follows it, and the end
+-- the number of the kind of request, what follows it, and the end
 pub returns : goal.returns
 unfolding postfix_request_bytes
 returns c = record {

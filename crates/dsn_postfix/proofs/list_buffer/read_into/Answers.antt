@@ -54,7 +54,7 @@ loop-filled-preserved g c =
       steady = λ h. (read.steady (kept.steady h)).0;
     }
 
--- no list ends in so many bytes
+-- no list ends within the longest size
 pub returns-clause-refused : goal.returns-clause-refused
 returns-clause-refused g c =
     let kept = c.loop-filled.invariant in

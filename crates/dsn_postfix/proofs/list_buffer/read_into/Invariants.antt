@@ -1,4 +1,4 @@
--- What stands at the front of the buffer was read, and no list ends in it.
+-- The front of the buffer was read, and no list ends in it.
 use Rattle.std.proofs.Common.{◌≡◌, ◌≤◌, ◌-◌, length, take}
 use Rattle.std.specs.Io.KnownBytes.{Consumes, Keeps}
 use Rattle.dsn_postfix.specs.ListBuffer.{RoomAfterBytes, longest_list}

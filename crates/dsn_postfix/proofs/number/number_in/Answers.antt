@@ -9,7 +9,7 @@ returns-in-Some c =
     let written = same_bytes (decimal c.in-Some.number) c.args.text.now (sym c.if-writes.ensures) in
     sym (number_known offset_limit c.args.text.now c.in-Some.number c.in-Some.ensures.bounded (omega arith) (sym written))
 
--- were it that of a number, it would be that of this one
+-- if the text was that of a number, it would be that of this number
 pub returns-in_default : goal.returns-in_default
 returns-in_default c = sym (number_unknown offset_limit c.args.text.now (λ n low is.
     let same : c.in-Some.number ≡ n = the_same (c.in-Some.ensures.known n low is) in

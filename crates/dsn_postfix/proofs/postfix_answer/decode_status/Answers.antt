@@ -17,6 +17,6 @@ result_is bytes (Err fault) status read refused is = sym refused ∙ is
 pub returns-clause-read : goal.returns-clause-read
 returns-clause-read c = read_as c.args.bytes.now c.read_status.result c.read_status.ensures.read
 
--- and one that has these bytes is read
+-- a status that has these bytes is read
 pub returns-clause-only : goal.returns-clause-only
 returns-clause-only c status low is = result_is c.args.bytes.now c.read_status.result status c.read_status.ensures.read c.read_status.ensures.refused (status_again c.args.bytes.now status low is)

@@ -1,4 +1,4 @@
--- The bytes so far are tested.
+-- The result for the bytes so far.
 use Rattle.std.proofs.Common.{◌≡◌, take}
 use Rattle.std.specs.List.{list_all}
 use Rattle.dsn_text.specs.Text.{is_letter_or_digit}

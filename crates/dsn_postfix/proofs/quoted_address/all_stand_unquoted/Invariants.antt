@@ -1,4 +1,4 @@
--- The bytes so far stand without quotes.
+-- The bytes so far need no quotes.
 use Rattle.std.proofs.Common.{◌≡◌, length}
 use Rattle.std.specs.List.{list_all}
 use Rattle.dsn_postfix.specs.QuotedAddress.{stands_unquoted}

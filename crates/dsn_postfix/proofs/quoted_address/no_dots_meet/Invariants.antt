@@ -1,4 +1,4 @@
--- No two dots met so far.
+-- No two dots so far are adjacent.
 use Rattle.std.proofs.Common.{◌≡◌, length}
 use Rattle.dsn_postfix.specs.QuotedAddress.{no_dots_meet}
 use Rattle.dsn_postfix.proofs.quoted_address.no_dots_meet.Given as goal

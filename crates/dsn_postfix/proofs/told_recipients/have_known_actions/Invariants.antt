@@ -1,4 +1,4 @@
--- Each of the records so far has one.
+-- Each of the records so far has a known action.
 use Rattle.std.proofs.Common.{◌≡◌, length, map}
 use Rattle.std.specs.List.{list_all}
 use Rattle.dsn_postfix_files.specs.LogRecord.{logged_fields_in}

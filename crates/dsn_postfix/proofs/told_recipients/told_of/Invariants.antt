@@ -1,4 +1,4 @@
--- The outcomes that are told of the records so far, the last first, and all outcomes of these that are to be told.
+-- The outcomes that are reported of the records so far, the last first, and all wanted outcomes of these records.
 use Rattle.std.proofs.Common.{◌≡◌, ◌≤◌, drop, length, map, reverse}
 use Rattle.dsn_postfix_files.specs.LogRecord.{logged_fields_in}
 use Rattle.dsn_postfix.specs.NoticePlan.{last_of_each}

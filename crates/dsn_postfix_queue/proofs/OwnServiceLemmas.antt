@@ -1,4 +1,4 @@
--- What comes of a request that was said to one of Postfix's own services.
+-- The result of a request that was sent to one of Postfix's own services.
 use Rattle.std.proofs.Common.{◌≡◌, ℕ, Bool, true, false, List, [], ◌∷◌, ◌++◌, Result, Ok, Err, refl}
 use Rattle.std.specs.Prelude.{IfOk, IfErr, IsTrue, codes}
 use Rattle.dsn_postfix.specs.Attribute.{attribute_bytes}

@@ -20,7 +20,7 @@ path_with_missing_levels = refl
 text_of_six_digits : folders_text (codes "4C1hTbzzzzz1") ≡ codes "6F90FF"
 text_of_six_digits = refl
 
--- `a` is no digit of a long id
+-- `a` is not a digit of a long id
 text_of_no_number : folders_text (codes "4C1hTbaaaaz1") ≡ codes "00000"
 text_of_no_number = refl
 

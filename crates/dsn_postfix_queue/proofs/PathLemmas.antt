@@ -1,4 +1,4 @@
--- What the folders of one level more are.
+-- The folders of one more level.
 use Rattle.std.proofs.Common.{◌≡◌, ℕ, ◌+◌, List, [], ◌∷◌, ◌++◌, suc, refl, sym, subst, arith, ◌∙◌, append_assoc}
 use Rattle.dsn_postfix_queue.specs.queue_folder.HashedId.{folder_level}
 use Rattle.dsn_postfix_queue.specs.queue_folder.PathInQueue.{folder_levels}

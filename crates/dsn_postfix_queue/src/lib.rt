@@ -1,4 +1,5 @@
-//! The queue folder of a running Postfix as a mail system: its logs, its messages' files, its own services, and the log of events.
+//! The queue folder of a running Postfix as a mail system: its logs, its messages' files, its own
+//! services, and the event log.
 #![tactic(auto)]
 
 mod event_log;

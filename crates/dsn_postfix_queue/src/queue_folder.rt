@@ -1,5 +1,5 @@
 //! The queue folder of a running Postfix as a mail system: its logs, its messages' files, its own
-//! services, and the mail server that notices are handed to.
+//! services, and the mail server to which notices are submitted.
 mod ascii;
 mod folder_hashing;
 mod hashed_id;

@@ -11,26 +11,26 @@ use Rattle.dsn_smtp.specs.Dialogue.{FailsToSay, Says}
 use Rattle.dsn_postfix_notices.specs.declared.requests.deed_fault.DeedFault.{DeedFault}
 use Rattle.dsn_postfix_notices.specs.declared.requests.deed_fault.DeedFault.TheVariants.{Failed, NoMemory}
 
--- what a fault of hearing comes to
+-- the fault of a deed that couldn't receive a list
 abbrev pub deed_fault_of : ListFault → DeedFault
 deed_fault_of list_fault.NoMemory = NoMemory
 deed_fault_of fault = Failed
 
--- nothing was heard, or a list that isn't the announcement
+-- no list was received, or another list than the announcement
 pub data HearsNoAnnouncement {S : Type 0} (source : Source.Ghosts S) (old new : S) (why : DeedFault) : Type 0 where
   none : (fault : ListFault) → why ≡ deed_fault_of fault → HearsNoList source old new fault
       → HearsNoAnnouncement source old new why
   other : (list : List ℕ) → why ≡ Failed → HearsList source old new list → list ≢ announcement_bytes
       → HearsNoAnnouncement source old new why
 
--- nothing was heard, or a list that is no status
+-- no list was received, or a list that is not a valid status
 pub data HearsNoStatus {S : Type 0} (source : Source.Ghosts S) (old new : S) (why : DeedFault) : Type 0 where
   none : (fault : ListFault) → why ≡ deed_fault_of fault → HearsNoList source old new fault
       → HearsNoStatus source old new why
   other : (list : List ℕ) (fault : RequestFault) → why ≡ Failed → HearsList source old new list
       → status_at list ≡ Err fault → HearsNoStatus source old new why
 
--- the request is said only after the announcement, once, and the status that is answered is the one that was heard after it
+-- the request is sent once, only after the announcement, and the answer is the status that was received after it
 pub data AsksOwnService {S : Type 0} (source : Source.Ghosts S) (drain : Drain.Ghosts S) (old new : S) (request : List ℕ)
     (answer : Result ℕ DeedFault) : Type 0 where
   answered : (announced asked : S) (status : ℕ) → answer ≡ Ok status → HearsList source old announced announcement_bytes

@@ -6,7 +6,7 @@ ghost use Rattle.dsn_postfix_queue.specs.queue_folder.HashedId.{before_inode, fo
 
 use dsn_smtp::after_last_byte;
 
-/// The digits of the numbers in a long queue id: no vowels are among them.
+/// The digits of the numbers in a long queue id. No vowel is a digit.
 const DIGITS: &[u8] = b"0123456789BCDFGHJKLMNPQRSTVWXYZbcdfghjklmnpqrstvwxyz";
 
 /// The least number that has six hexadecimal digits.
@@ -28,7 +28,7 @@ pub(super) fn folder_level(id: &[u8], level: usize) -> u8
     }
 }
 
-/// A byte of a text, or `_` where it has no more.
+/// A byte of a text, or `_` after its end.
 fn byte_at(text: &[u8], place: usize) -> u8
     ensures { result ≡ get_or text.now place 95 }
 {
@@ -39,7 +39,7 @@ fn byte_at(text: &[u8], place: usize) -> u8
     }
 }
 
-/// How many bytes stand up to the last `z`, with it.
+/// How many bytes there are up to the last `z`, including it.
 fn bytes_before_inode(id: &[u8]) -> usize
     ensures { result ≡ length (before_inode id.now) }
 {
@@ -62,7 +62,7 @@ fn microsecond_digits(id: &[u8]) -> &[u8]
     &id[end - 4..end]
 }
 
-/// The place of the first such byte, or the length of a text without one.
+/// The index of the first byte that is `sought`, or the length of a text without such a byte.
 fn first_place(text: &[u8], sought: u8) -> usize
     ensures { result ≡ position_or_len (λ byte. byte == sought) text.now }
 {
@@ -71,7 +71,7 @@ fn first_place(text: &[u8], sought: u8) -> usize
         .unwrap_or(text.len())
 }
 
-/// What a digit of a long queue id counts.
+/// The value of a digit of a long queue id. Returns `None` for another byte.
 fn digit_of(byte: u8) -> Option<u32>
     ensures digit { result ≡ long_digit byte }
     ensures bound { IfSome result (λ digit. digit < 52) }
@@ -80,7 +80,7 @@ fn digit_of(byte: u8) -> Option<u32>
     if place < 52 { Some(place as u32) } else { None }
 }
 
-/// The number that four digits are.
+/// The number that four digits write in base 52. Returns `None` for another text.
 fn number_of(digits: &[u8]) -> Option<u32>
     ensures { result ≡ long_number digits.now }
 {

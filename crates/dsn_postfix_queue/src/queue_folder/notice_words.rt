@@ -12,7 +12,7 @@ const DELAY_NOTICE: &str = "sender delay notification";
 const DELIVERY_NOTICE: &str = "sender delivery status notification";
 
 /// Whether a request asks for a notice of failure to the sender of notices about notices. bounce(8)
-/// drops such a notice, and says so.
+/// drops such a notice, and writes a line about it.
 pub(super) fn is_discarded(request: &PostfixRequest<'_>, double_bounce: &[u8]) -> bool {
     match request {
         PostfixRequest::Flush(notice)

@@ -14,8 +14,9 @@ use std::alloc::Global;
 /// The list with which each of Postfix's services begins.
 const ANNOUNCEMENT: &[u8] = b"protocol\0delivery_status_protocol\0\0";
 
-/// Asks one of Postfix's own services a request: waits for its announcement, says the request, and
-/// waits for the status, which it answers.
+/// Passes a request on to one of Postfix's own services: waits for its announcement, sends the
+/// request, and waits for the status, which it returns. Returns `NoMemory` if memory was refused,
+/// and `Failed` for any other fault.
 pub fn ask_own_service<S: Stream>(
     alloc: Global,
     stream: &mut S,
@@ -33,7 +34,7 @@ pub fn ask_own_service<S: Stream>(
     }
 }
 
-/// Waits for the announcement.
+/// Waits for the announcement. Returns `Failed` for any other list.
 fn hear_announcement<S: Stream>(alloc: Global, stream: &mut S) -> Result<(), DeedFault>
     ensures heard { OnOk result (HearsList S.Source stream.old stream.new announcement_bytes) }
     ensures none { IfErr result
@@ -46,7 +47,7 @@ fn hear_announcement<S: Stream>(alloc: Global, stream: &mut S) -> Result<(), Dee
     }
 }
 
-/// Waits for the status.
+/// Waits for the status. Returns `Failed` for any other list.
 fn hear_status<S: Stream>(alloc: Global, stream: &mut S) -> Result<u32, DeedFault>
     ensures heard { IfOk result
         (λ status. HearsList S.Source stream.old stream.new (status_bytes status)) }
@@ -70,14 +71,13 @@ fn is_announcement(list: &[u8]) -> bool
     is_text(list, ANNOUNCEMENT)
 }
 
-/// Whether a list is these bytes.
 fn is_text(list: &[u8], text: &[u8]) -> bool
     ensures { IsTrue result ↔ (list.now ≡ text.now) }
 {
     list == text
 }
 
-/// What a fault of hearing comes to.
+/// The fault of a deed that couldn't receive a list.
 fn deed_fault_of(fault: ListFault) -> DeedFault
     ensures { result ≡ deed_fault_of fault }
 {

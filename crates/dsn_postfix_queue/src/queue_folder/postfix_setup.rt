@@ -1,9 +1,9 @@
-//! Where the files and services of a Postfix are, and the mail server for its notices.
+//! The places of a Postfix's files and services, and the mail server for its notices.
 use crate::queue_folder::folder_hashing::FolderHashing;
 use dsn_text::MtaName;
 use std::net::SocketAddr;
 
-/// Where the files and services of a Postfix are, and the mail server to which its notices are
+/// The places of a Postfix's files and services, and the mail server to which its notices are
 /// submitted.
 #[derive(Clone, Copy)]
 pub struct PostfixSetup<'a> {
@@ -13,6 +13,6 @@ pub struct PostfixSetup<'a> {
     pub hashing: FolderHashing<'a>,
     /// The address of that mail server.
     pub hand_in: SocketAddr,
-    /// The name with which the client greets that server.
+    /// The client's name in EHLO to that server.
     pub host: &'a MtaName,
 }

@@ -28,26 +28,26 @@ use std::sync::Wait;
 use std::time::{Clock, Duration};
 use std::{fs, io};
 
-/// For how many seconds is waited for each piece of what Postfix's own service says: as long as its programs
-/// wait (`ipc_timeout` of postconf(5)).
+/// The time limit for each piece of the answer of Postfix's own service, in seconds: that of
+/// Postfix's programs (`ipc_timeout` of postconf(5)).
 const SECONDS_FOR_OWN_SERVICE: u64 = 3_600;
 
-/// What a line says of a path that could not be made.
+/// What a line names if a path couldn't be made.
 const PATH: &str = "the path of a file";
 
-/// A running Postfix, for one request. It tells no deeds to contracts, since no contract can tell
-/// what a file or a socket does.
+/// A running Postfix, for one request. It exposes no deeds to contracts, since no contract can
+/// describe what a file or a socket does.
 #[derive(Drop)]
 pub struct PostfixSystem<'a, W> {
     rt: &'a HostRuntime,
     /// What may wait for another thread.
     waiting: &'a W,
     place: &'a PostfixSetup<'a>,
-    /// The sessions with the mail server that all threads share.
+    /// The sessions with the mail server, which all threads share.
     sessions: &'a KeptSessions,
-    /// The turn to hold a large queue file that all threads share.
+    /// The turn to hold a large queue file, which all threads share.
     large_files: &'a LargeFiles,
-    /// Where its lines go.
+    /// The event log for its lines.
     events: &'a EventLog,
     /// The sender of notices about notices.
     double_bounce: &'a [u8],
@@ -57,16 +57,16 @@ pub struct PostfixSystem<'a, W> {
     log: Option<File>,
     /// The message's file that was read and is locked.
     message: Option<File>,
-    /// The queue id of the message that a request is about, for the lines that are written.
+    /// The queue id of the request's message, for its lines.
     asked: Option<QueueId>,
-    /// What the line of a notice calls it.
+    /// What the line of a notice calls the notice.
     kind: &'static str,
     /// Whether the request is about a notice that is dropped.
     is_discarded: bool,
 }
 
 impl<'a, W> PostfixSystem<'a, W> {
-    /// The Postfix at a place.
+    /// The Postfix that `place` describes.
     pub fn new(
         rt: &'a HostRuntime,
         waiting: &'a W,
@@ -93,13 +93,13 @@ impl<'a, W> PostfixSystem<'a, W> {
         }
     }
 
-    /// The queue id of the message that the request is about, if there was a request.
+    /// The queue id of the request's message. Returns `None` if there was no request.
     pub fn asked(&self) -> Option<QueueId> {
         self.asked
     }
 }
 
-/// A connection to Postfix's own service of a name.
+/// Connects to Postfix's own service of this kind.
 fn own_service(
     rt: &HostRuntime,
     place: &PostfixSetup<'_>,
@@ -139,7 +139,8 @@ impl<W: Wait + Clock> PostfixSystem<'_, W> {
         );
     }
 
-    /// Writes bounce(8)'s line if the request was about a notice that is dropped. It was carried out.
+    /// Writes bounce(8)'s line if the request was about a notice that is dropped. Requires that the
+    /// request was carried out.
     pub fn say_discarded(&self) {
         if self.is_discarded {
             let asked = asked_text(&self.asked);
@@ -150,7 +151,8 @@ impl<W: Wait + Clock> PostfixSystem<'_, W> {
         }
     }
 
-    /// All bytes of a queue file. A large one waits for its turn, and fails if that doesn't come.
+    /// All bytes of a queue file. A large file waits for its turn, and fails if the turn doesn't
+    /// come in time.
     fn read_in_turn(&mut self, path: &str, file: &File) -> Result<Vec<u8>, DeedFault> {
         let rt: &HostRuntime = self.rt;
         let size = self.deed(path, size_of(file))?;
@@ -164,7 +166,7 @@ impl<W: Wait + Clock> PostfixSystem<'_, W> {
         self.deed(path, read_large(rt, file, size))
     }
 
-    /// Gives the turn to hold a large queue file back, if this thread has it.
+    /// Returns the turn to hold a large queue file, if this thread has it.
     pub fn end_turn(&mut self) {
         if self.has_turn {
             self.has_turn = false;
@@ -181,8 +183,8 @@ impl<W: Wait + Clock> PostfixSystem<'_, W> {
         );
     }
 
-    /// Whether a log of a message stands where it would be with other settings. A line says so: the log
-    /// is none of those that are told of.
+    /// Whether a log of a message is where other settings would place it. Writes a line if so,
+    /// since no notice reports that log.
     fn has_log_elsewhere(&self, service: Service, id: QueueId) -> Result<bool, DeedFault> {
         let Some(path) = self.deed(PATH, log_elsewhere(self.rt, self.place, service, id))? else {
             return Ok(false);
@@ -195,13 +197,14 @@ impl<W: Wait + Clock> PostfixSystem<'_, W> {
         Ok(true)
     }
 
-    /// Writes the line of what the system said of a path, an address or a service.
+    /// Writes the line of an error about a path, an address or a service.
     fn say_error<D: Display + Drop>(&self, what: D, error: &io::Error) {
         self.events
             .say(self.waiting, format_args!("{what}: {error}"));
     }
 
-    /// What comes of a deed, as requests see it. A line says why it failed.
+    /// The result of a deed, as requests see it. Writes a line if the deed failed, unless memory
+    /// was refused.
     fn deed<T>(&self, what: &str, done: io::Result<T>) -> Result<T, DeedFault> {
         match done {
             Ok(value) => Ok(value),
@@ -260,7 +263,7 @@ impl<W: Wait + Clock> MailSystem for PostfixSystem<'_, W> {
         let (rt, place): (&HostRuntime, &PostfixSetup<'_>) = (self.rt, self.place);
         let path = self.deed(PATH, log_path(rt, place, service, id))?;
         let is_new = !self.deed(path.as_str(), is_there(rt, path.as_str()))?;
-        // the queue manager would look for that one, and never ask for the notice of a new one
+        // The queue manager would find the other log, and never request the notice of a new one.
         if is_new && self.has_log_elsewhere(service, id)? {
             return Err(DeedFault::Failed);
         }
@@ -287,7 +290,7 @@ impl<W: Wait + Clock> MailSystem for PostfixSystem<'_, W> {
         self.end_turn();
         let path = self.deed(PATH, path_of(rt, place, queue.bytes(), id))?;
         let Some(file) = self.deed(path.as_str(), open_shared(rt, path.as_str()))? else {
-            // An empty file leads to passing on: bounce(8) says what it can without the file. An
+            // An empty file leads to passing on: bounce(8) reports what it can without the file. An
             // error would put the request off for ever.
             return Ok(Vec::new(rt.alloc()));
         };
@@ -341,7 +344,7 @@ impl<W: Wait + Clock> MailSystem for PostfixSystem<'_, W> {
         why: PassReason,
     ) -> Result<u32, DeedFault> {
         self.say_passed_on(service, &why);
-        // that service says so itself
+        // That service writes the line itself.
         self.is_discarded = false;
         let (rt, place): (&HostRuntime, &PostfixSetup<'_>) = (self.rt, self.place);
         let connected = own_service(rt, place, service);

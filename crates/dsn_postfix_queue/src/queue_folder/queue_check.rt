@@ -1,4 +1,4 @@
-//! Whether the queues of a Postfix are hashed as the settings say, by what stands in them.
+//! Whether the queues of a Postfix are hashed as the settings say, by the entries in them.
 //! Implements docs/FORMATS.md, "Files".
 use crate::queue_folder::postfix_setup::PostfixSetup;
 use crate::queue_folder::queue_entry::depth_against;
@@ -10,12 +10,12 @@ use thiserror::Error;
 /// The greatest depth of a hashed queue.
 pub const MOST_DEPTH: u32 = 16;
 
-/// The queues that are looked at: those of logs, and those of the messages that requests name.
+/// The queues that are checked: those of logs, and those of messages that requests name.
 const QUEUES: [&str; 7] = [
     "bounce", "defer", "trace", "incoming", "active", "deferred", "hold",
 ];
 
-/// Why the settings are taken for wrong. The words begin with a path below the queue folder.
+/// Why the settings appear to be wrong. The text begins with a path below the queue folder.
 #[derive(Debug, Drop, Error)]
 pub enum QueueFault {
     /// A file or a folder shows that its queue is hashed to another depth.
@@ -38,16 +38,17 @@ pub struct OtherDepth {
     wanted: u32,
 }
 
-/// A folder that is still to be looked into.
+/// A folder that must still be checked.
 #[derive(Drop)]
 struct Folder {
     /// Its path below the queue folder.
     path: String,
-    /// How many folders it stands below its queue's own.
+    /// How many folders it is below its queue's own.
     above: u32,
 }
 
-/// Looks at what stands in the queues, and returns an error if that can't be with these settings.
+/// Checks the entries in the queues. Returns `Differs` if one contradicts the settings, and
+/// `Unread` if a queue's folder can't be read.
 pub fn check_queues(rt: &HostRuntime, place: &PostfixSetup<'_>) -> Result<(), QueueFault> {
     for queue in QUEUES {
         match first_against(rt, place, queue) {
@@ -59,7 +60,7 @@ pub fn check_queues(rt: &HostRuntime, place: &PostfixSetup<'_>) -> Result<(), Qu
     Ok(())
 }
 
-/// The first entry of a queue that is against the settings, if there is one.
+/// The first entry of a queue that contradicts the settings, if there is one.
 fn first_against(
     rt: &HostRuntime,
     place: &PostfixSetup<'_>,
@@ -81,8 +82,8 @@ fn first_against(
     Ok(None)
 }
 
-/// The first entry of a folder that is against the settings, if there is one. Folders in it are added
-/// to those that are still to be looked into.
+/// The first entry of a folder that contradicts the settings, if there is one. Adds the folders in
+/// it to those that must still be checked.
 fn look_into(
     rt: &HostRuntime,
     place: &PostfixSetup<'_>,
@@ -129,8 +130,8 @@ fn look_into(
     Ok(None)
 }
 
-/// Whether an entry is what its name says: a folder if that is a single byte, else a file. One that is
-/// gone is neither.
+/// Whether an entry is what its name says: a folder if the name is a single byte, or else a file.
+/// An entry that was removed is neither.
 fn is_of_its_kind(entry: &DirEntry) -> bool {
     match entry.file_type() {
         Ok(kind) if entry.file_name().len() == 1 => kind.is_dir(),

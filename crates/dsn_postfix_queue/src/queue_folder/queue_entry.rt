@@ -1,4 +1,4 @@
-//! What the entries of a queue's folder show of how deep the queue is hashed.
+//! What the entries of a queue's folder show about the depth to which the queue is hashed.
 //! Implements docs/FORMATS.md, "Files".
 ghost use Rattle.std.specs.Prelude.{◌↔◌, ℕ, IsTrue, MatchOption};
 ghost use Rattle.dsn_postfix_queue.specs.queue_folder.FolderHashing.{depth_of};
@@ -7,7 +7,7 @@ ghost use Rattle.dsn_postfix_queue.specs.queue_folder.QueueEntry.{IsAgainst, IsF
 use crate::queue_folder::folder_hashing::FolderHashing;
 use dsn_text::QueueId;
 
-/// The length of the shortest queue id that Postfix gives: five digits of microseconds, and one of an
+/// The length of the shortest queue id of Postfix: five digits of microseconds, and one of an
 /// inode.
 const SHORTEST_ID: usize = 6;
 
@@ -28,8 +28,8 @@ fn is_folder_name(name: &[u8]) -> bool
     }
 }
 
-/// The depth to which an entry shows its queue to be hashed, if that isn't the depth of the settings.
-/// The entry is a file or a folder, `above` folders below the queue's own.
+/// The depth to which an entry shows its queue to be hashed. Returns `None` if the entry agrees
+/// with the settings. The entry is a file or a folder, `above` folders below the queue's own.
 pub fn depth_against(
     hashing: &FolderHashing<'_>,
     queue: &[u8],

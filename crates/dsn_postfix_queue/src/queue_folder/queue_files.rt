@@ -9,7 +9,7 @@ use dsn_text::{QueueId, Service};
 use std::io;
 use std::io::{Error, ErrorKind};
 
-/// The path of a log.
+/// The path of a service's log about a message.
 pub(super) fn log_path(
     rt: &HostRuntime,
     place: &PostfixSetup<'_>,
@@ -19,7 +19,7 @@ pub(super) fn log_path(
     path_of(rt, place, service_name(service).as_bytes(), id)
 }
 
-/// The path of a file in a queue.
+/// The path of a file in a queue, as deep as the settings say.
 pub(super) fn path_of(
     rt: &HostRuntime,
     place: &PostfixSetup<'_>,
@@ -29,7 +29,8 @@ pub(super) fn path_of(
     path_at(rt, place, queue, place.hashing.depth_of(queue), id)
 }
 
-/// The path of a file that stands so many folders deep in a queue.
+/// The path of a file that is `depth` folders deep in a queue. Returns `OutOfMemory` if memory was
+/// refused, and `InvalidFilename` if the path isn't UTF-8.
 fn path_at(
     rt: &HostRuntime,
     place: &PostfixSetup<'_>,
@@ -43,8 +44,7 @@ fn path_at(
     }
 }
 
-/// The path of a log that stands where it would be with other settings, if there is one that isn't
-/// empty.
+/// The path of a log that isn't empty and is where other settings would place it, if there is one.
 pub(super) fn log_elsewhere(
     rt: &HostRuntime,
     place: &PostfixSetup<'_>,

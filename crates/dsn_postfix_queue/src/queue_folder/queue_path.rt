@@ -7,9 +7,9 @@ use crate::queue_folder::hashed_id::folder_level;
 use dsn_text::{NoMemory, QueueId};
 use std::alloc::{AllocError, Global};
 
-/// The path of a message's file in a queue, or of its log in the folder of a service: below the
-/// queue folder, so many folders deep as a hashed queue has them. There is an error only where
-/// memory was refused.
+/// The path of a message's file in a queue, or of its log in the folder of a service. It is below
+/// the queue folder, `depth` folders deep, as in a hashed queue. Returns an error only if memory
+/// was refused.
 pub fn path_in_queue(
     alloc: Global,
     root: &[u8],
@@ -45,7 +45,7 @@ fn push_path(
     path.extend_from_slice(id)
 }
 
-/// Adds the folders of a file that stands so many folders deep.
+/// Adds the folders of a file that is `depth` folders deep.
 #[tactic(auto, using(crate::proofs::PathLemmas::one_level_more))]
 fn push_levels(path: &mut Vec<u8>, depth: u32, id: &[u8]) -> Result<(), AllocError>
     ensures { OnOk result (path.new.items ≡ path.old.items ++ folder_levels id.now depth) }

@@ -1,7 +1,7 @@
 //! The names of services and of their sockets.
 use dsn_text::Service;
 
-/// The name of a service, which is that of its folder of logs and of Postfix's own socket.
+/// The name of a service, of its folder of logs and of Postfix's own socket.
 pub(super) fn service_name(service: Service) -> &'static str {
     match service {
         Service::Bounce => "bounce",
@@ -10,7 +10,7 @@ pub(super) fn service_name(service: Service) -> &'static str {
     }
 }
 
-/// The name of the socket that stands beside Postfix's own one.
+/// The name of the socket beside Postfix's own one.
 pub fn socket_name(service: Service) -> &'static str {
     match service {
         Service::Bounce => "noticed-bounce",

@@ -7,7 +7,7 @@ use Rattle.dsn_postfix_queue.proofs.queue_folder.own_service.hear_status.Goals a
 pub returns-in-Err-clause-none : goal.returns-in-Err-clause-none
 returns-in-Err-clause-none g c = none _ c.deed_fault_of.ensures c.in-Err.ensures.none
 
--- a list that is no status
+-- a list that is not a valid status
 pub returns-clause-none : goal.returns-clause-none
 returns-clause-none g c =
     other _ _ refl c.in-Ok.ensures.heard

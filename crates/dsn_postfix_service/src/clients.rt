@@ -1,5 +1,5 @@
-//! Postfix's programs as clients: each is announced the protocol, asks one request, and hears its
-//! status.
+//! Postfix's programs as clients: each receives the announcement of the protocol, sends one
+//! request, and receives its status.
 mod client_fault;
 mod heard_client;
 mod serving;

@@ -1,5 +1,5 @@
-//! What serves Postfix's programs in place of its bounce(8): how a client is served, and the sockets
-//! and threads that serve all clients.
+//! Serves Postfix's programs in place of its bounce(8): how a client is served, and the sockets and
+//! threads that serve all clients.
 #![tactic(auto)]
 
 mod clients;

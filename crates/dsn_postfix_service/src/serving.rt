@@ -1,5 +1,5 @@
-//! What serves a Postfix as a process: the sockets at which its programs ask, the lock of its folder,
-//! and the threads.
+//! The process that serves a Postfix: the sockets at which its programs connect, the lock of its
+//! folder, and the threads.
 mod account;
 mod client_connection;
 mod folder_lock;

@@ -1,4 +1,4 @@
--- One of Postfix's programs is answered: what its list asks is done, and it hears the status of that.
+-- One of Postfix's programs is answered: what its list asks is done, and it receives the status.
 use Rattle.std.specs.Prelude.{◌≡◌, ◌⊎◌, ℕ, List, Option, Result, Ok, Err}
 use Rattle.dsn_device.specs.declared.drain.Drain
 use Rattle.dsn_text.specs.declared.service.Service.{Service}
@@ -16,12 +16,12 @@ use Rattle.dsn_postfix_notices.specs.requests.Task.{SettingsSaid, Terms}
 use Rattle.dsn_postfix_service.specs.declared.clients.client_fault.ClientFault.{ClientFault}
 use Rattle.dsn_postfix_service.specs.declared.clients.client_fault.ClientFault.TheVariants.{NoMoment, Unsaid}
 
--- a program is told a status alone: want of memory is one of them
+-- a program receives only a status, so refused memory has one too
 abbrev pub status_said : RequestAnswer → ℕ
 status_said (Ok status) = status
 status_said (Err refused) = not_carried_out
 
--- what a list asks is done: a request is answered, and a list that is none is passed on to Postfix's own service
+-- what a list asks is done: a request is answered, and any other list is passed on to Postfix's own service
 pub data DoesAsked (terms : Terms) (list : List ℕ) (answer : RequestAnswer) (gained : List Deed) : Type 0 where
   request : (asked : PostfixRequest) → IsRequestIn list asked
       → IsAnswered terms asked list answer gained
@@ -37,16 +37,16 @@ pub record IsDoneFor {M : Type 0} (deeds : M → Option (List Deed)) (settings :
   pub does : Gains deeds before after (DoesAsked (record { settings = settings; service = service; moment = moment; serial = serial }) list answer)
   pub status_is : status ≡ status_said answer
 
--- a status couldn't be said
+-- a status couldn't be sent
 abbrev pub SaysNoStatus : {S : Type 0} → Drain.Ghosts S → S → S → ℕ → Type 0
 SaysNoStatus drain old new status = (new ≡ old) ⊎ FailsToSay drain old new (status_bytes status)
 
--- a status was said, or it couldn't be
+-- a status was sent, or couldn't be
 abbrev pub SaysStatus : {S : Type 0} → Drain.Ghosts S → S → S → ℕ → Result ℕ ClientFault → Type 0
 SaysStatus drain old new status (Ok said) = (said ≡ status) × Says drain old new (status_bytes status)
 SaysStatus drain old new status (Err fault) = (fault ≡ Unsaid status) × SaysNoStatus drain old new status
 
--- how answering a client ends that asked this list: with the status that it was told, or not
+-- how answering the client of this list ends: its status was sent, or wasn't
 pub data AnswersClient {S M : Type 0} (drain : Drain.Ghosts S) (deeds : M → Option (List Deed)) (settings : SettingsSaid)
     (service : Service) (serial : ℕ) (list : List ℕ) (old new : S) (before after : M)
     (end : Result ℕ ClientFault) : Type 0 where

@@ -1,4 +1,4 @@
-//! Hearing what a client asks, before anything is done for it.
+//! Receives a client's list, before anything is done for it.
 //! Implements docs/FORMATS.md, "A connection".
 ghost use Rattle.std.specs.Prelude.{IfErr, IfOk, OnOk};
 ghost use Rattle.dsn_postfix.specs.PostfixAnswer.{announcement_bytes};
@@ -11,17 +11,18 @@ use dsn_postfix::{encode_announcement, hear_list};
 use dsn_smtp::say;
 use std::alloc::Global;
 
-/// One of Postfix's programs, whose list was heard. Nothing was done for it so far.
+/// One of Postfix's programs, whose list was received. Nothing was done for it so far.
 #[derive(Debug, Drop)]
 pub struct HeardClient<S> {
-    /// The connection over which it hears its status.
+    /// The connection over which it receives its status.
     pub stream: S,
-    /// The list that it asked.
+    /// The list that it sent.
     pub list: Vec<u8>,
 }
 
 /// Announces the protocol to one of Postfix's programs, which has connected to a service, and reads
-/// one list. After a fault its connection is dropped.
+/// one list. Returns `NoMemory` or `Unannounced` if the announcement failed, and `NoList` if no
+/// list was read. After a fault the connection is dropped.
 pub fn hear_client<S: Stream + Drop>(
     alloc: Global,
     stream: S,
@@ -41,7 +42,6 @@ pub fn hear_client<S: Stream + Drop>(
     }
 }
 
-/// Announces the protocol.
 fn announce<S: Stream>(alloc: Global, stream: &mut S) -> Result<(), ClientFault>
     ensures said { OnOk result (Says S.Drain stream.old stream.new announcement_bytes) }
     ensures unsaid { IfErr result (IsUnannounced S.Drain stream.old stream.new) }

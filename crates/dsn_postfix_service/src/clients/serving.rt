@@ -1,4 +1,4 @@
-//! Answering a client that was heard.
+//! Answers a client whose list was received.
 //! Implements docs/FORMATS.md, "A connection".
 ghost use Rattle.std.specs.Prelude.{◌≡◌, IfErr, IfOk};
 ghost use Rattle.dsn_postfix.specs.PostfixAnswer.{status_bytes};
@@ -19,10 +19,11 @@ use dsn_text::{NoMemory, Service, Stamp};
 use std::alloc::Global;
 use std::time::{Clock, SystemTime};
 
-/// Does what a client of a service asks, and says the status. A list that isn't a request is passed
-/// on to Postfix's own service.
+/// Does what a client of a service asks, and sends and returns the status. Passes a list that is
+/// not a valid request on to Postfix's own service. Returns `NoMoment` if the clock gives no valid
+/// time, and `Unsaid` if the status couldn't be sent.
 ///
-/// The letters of its notices are made at the moment of this call, with serials from the first one
+/// The letters of its notices are made at the moment of this call, with serials from `first_serial`
 /// on.
 pub fn answer_client<R: Clock, S: Stream, M: MailSystem>(
     rt: &R,
@@ -51,7 +52,8 @@ pub fn answer_client<R: Clock, S: Stream, M: MailSystem>(
     say_status(alloc, &mut client.stream, status_said(answer))
 }
 
-/// Says to a client that what it asks can't be done now, and does nothing for it.
+/// Sends a client the status of a request that isn't carried out, and does nothing for it. Returns
+/// `Unsaid` if the status couldn't be sent.
 pub fn refuse_client<S: Stream>(
     alloc: Global,
     client: &mut HeardClient<S>,
@@ -62,7 +64,7 @@ pub fn refuse_client<S: Stream>(
     say_status(alloc, &mut client.stream, NOT_CARRIED_OUT)
 }
 
-/// Does what a list asks, and says the answer.
+/// Does what a list asks, and returns the answer.
 fn answer_list<M: MailSystem>(
     alloc: Global,
     terms: &RequestTerms<'_>,
@@ -81,18 +83,18 @@ fn answer_list<M: MailSystem>(
     }
 }
 
-/// The status that a program is told.
+/// The status that is sent for an answer.
 fn status_said(answer: Result<u32, NoMemory>) -> u32
     ensures { result ≡ status_said answer }
 {
     match answer {
         Ok(status) => status,
-        // As bounce(8) answers it.
+        // As bounce(8) answers.
         Err(NoMemory) => NOT_CARRIED_OUT,
     }
 }
 
-/// Says a status, and gives it back.
+/// Sends a status, and returns it.
 fn say_status<S: Stream>(alloc: Global, stream: &mut S, status: u32) -> Result<u32, ClientFault>
     ensures { SaysStatus S.Drain stream.old stream.new status result }
 {
@@ -105,7 +107,7 @@ fn say_status<S: Stream>(alloc: Global, stream: &mut S, status: u32) -> Result<u
     }
 }
 
-/// The moment that the clock says, if it says one that a date can have.
+/// The clock's time. Returns `None` if the clock fails, or if no date can have that time.
 fn moment_now<R: Clock>(rt: &R) -> Option<Stamp> {
     let Ok(now) = SystemTime::now(rt) else {
         return None;

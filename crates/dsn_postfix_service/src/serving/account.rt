@@ -1,4 +1,4 @@
-//! As which account a Postfix is served.
+//! The account as which a Postfix is served.
 ghost use Rattle.std.specs.Prelude.{◌≡◌, ◌↔◌, IsOk, IfErr};
 
 use std::os::unix::fs::MetadataExt;
@@ -15,8 +15,8 @@ pub struct OtherAccount {
     pub own: u32,
 }
 
-/// Returns an error unless the process has the account of the owner. With another one, also with
-/// root's, it would make log files that Postfix can't read or remove.
+/// Returns an error unless the process runs as the owner. As another user, even as root, it would
+/// make log files that Postfix can't read or remove.
 pub fn check_owner(owner: u32, own: u32) -> Result<(), OtherAccount>
     ensures accepted { IsOk result ↔ owner ≡ own }
     ensures refused { IfErr result (λ other. (other.owner ≡ owner) × (other.own ≡ own)) }

@@ -1,15 +1,15 @@
-//! A client's connection, over which all that it asks comes before a moment.
+//! A client's connection, with a deadline for the client's list.
 //! Implements docs/FORMATS.md, "A connection".
 use std::io;
 use std::io::{Error, ErrorKind, Read, Write};
 use std::os::unix::net::UnixStream;
 use std::time::{Duration, Instant};
 
-/// For how many seconds a client may take nothing of what is said to it.
+/// For how many seconds a client may take nothing of what is sent to it.
 const SECONDS_TO_TAKE: u64 = 60;
 
-/// A client's connection. Each read ends at the moment at which the client must have asked, however
-/// many pieces came before: Postfix's programs say a list at once.
+/// A client's connection. Each read ends at the deadline for the client's list, however many pieces
+/// came before: Postfix's programs send a list at once.
 #[derive(Drop)]
 pub(super) struct ClientConnection<'a> {
     rt: &'a HostRuntime,
@@ -18,7 +18,7 @@ pub(super) struct ClientConnection<'a> {
 }
 
 impl<'a> ClientConnection<'a> {
-    /// The connection over this socket, with the time from now on that the client has.
+    /// The connection over this socket, with a deadline at this time from now.
     pub(super) fn new(
         rt: &'a HostRuntime,
         stream: UnixStream,

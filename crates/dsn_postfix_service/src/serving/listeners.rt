@@ -1,4 +1,4 @@
-//! The sockets at which Postfix's programs ask.
+//! The sockets at which Postfix's programs connect.
 //! Implements docs/FORMATS.md, "Files".
 use crate::serving::account::{check_owner, own_account, owner_of_sockets};
 use crate::serving::folder_lock::FolderLock;
@@ -16,8 +16,8 @@ use std::{fs, io};
 /// The mode of a socket: the folder `private` decides who can connect.
 const FOR_ALL: u32 = 0o666;
 
-/// The sockets at which Postfix's programs ask, one for each service, in the folder of Postfix's own
-/// ones. That folder is locked as long as they are there.
+/// The sockets at which Postfix's programs connect, one for each service, in the folder of
+/// Postfix's own sockets. That folder is locked as long as they exist.
 #[derive(Drop)]
 pub struct Listeners {
     bounce: UnixListener,
@@ -27,9 +27,10 @@ pub struct Listeners {
 }
 
 impl Listeners {
-    /// Locks the folder and makes its sockets, in place of those that a run before has left. Nothing is
-    /// made if the folder belongs to another account, or if the queues aren't hashed as the place says.
-    /// An error of the kind `WouldBlock` says that another process has the lock.
+    /// Locks the folder and makes its sockets, in place of those that an earlier run left. Makes
+    /// nothing and returns an error if the folder belongs to another account, or if the queues
+    /// aren't hashed as `place` says. Returns an error of the kind `WouldBlock` if another process
+    /// has the lock.
     pub fn make(rt: &HostRuntime, place: &PostfixSetup<'_>) -> Result<Listeners, StartFault> {
         check_place(rt, place)?;
         let folder = place.root;
@@ -42,21 +43,21 @@ impl Listeners {
         })
     }
 
-    /// Takes the sockets that whoever started the process listens at, and keeps when it ends:
-    /// descriptors 3 to 5, as sd_listen_fds(3) has them. Then it locks the folder. Errors are as in
-    /// [`Listeners::make`].
+    /// Takes the sockets at which the starter of the process listens, and which it keeps after the
+    /// process ends: descriptors 3 to 5, as in sd_listen_fds(3). Then locks the folder. Errors are
+    /// those of [`Listeners::make`], and `InvalidInput` if a socket is not at its path.
     ///
     /// # Safety
     ///
-    /// Nothing else of the process may have these descriptors.
+    /// Nothing else in the process may have these descriptors.
     pub unsafe fn inherit(
         rt: &HostRuntime,
         place: &PostfixSetup<'_>,
     ) -> Result<Listeners, StartFault> {
         check_place(rt, place)?;
         let folder = place.root;
-        // An option and no look at the environment: another service's `LISTEN_FDS` would be taken
-        // for one's own.
+        // An option, and not the environment: another service's `LISTEN_FDS` would be taken for
+        // this one's.
         let bounce = UnixListener::from_raw_fd(3);
         let defer = UnixListener::from_raw_fd(4);
         let trace = UnixListener::from_raw_fd(5);
@@ -78,14 +79,14 @@ impl Listeners {
     }
 }
 
-/// Checks as whom a Postfix is served, and that its queues are hashed as is said.
+/// Checks the account of the process, and that the queues are hashed as `place` says.
 fn check_place(rt: &HostRuntime, place: &PostfixSetup<'_>) -> Result<(), StartFault> {
     check_owner(owner_of_sockets(rt, place.root)?, own_account())?;
     check_queues(rt, place)?;
     Ok(())
 }
 
-/// Listens at the socket of a service, in place of one that a run before has left.
+/// Listens at the socket of a service, in place of one that an earlier run left.
 fn made(rt: &HostRuntime, folder: &str, service: Service) -> io::Result<UnixListener> {
     let path = socket_path(rt, folder, service)?;
     match fs::remove_file(rt, path.as_str()) {
@@ -97,8 +98,8 @@ fn made(rt: &HostRuntime, folder: &str, service: Service) -> io::Result<UnixList
     Ok(listener)
 }
 
-/// A socket, which must be the one of a service in this folder: so none is taken for another, nor
-/// that of another Postfix.
+/// A socket, which must be at the path of this service in this folder. So no socket of another
+/// service or of another Postfix is taken for it. Returns `InvalidInput` otherwise.
 fn at_its_path(
     rt: &HostRuntime,
     folder: &str,
@@ -119,7 +120,7 @@ fn socket_path(rt: &HostRuntime, folder: &str, service: Service) -> io::Result<S
     Ok(format!(in rt.alloc(); "{folder}/private/{name}")?)
 }
 
-/// Connects to each of the sockets, so that a thread that waits for a client looks up.
+/// Connects to each of the sockets, so that a thread that waits for a client there wakes up.
 pub(super) fn wake(rt: &HostRuntime, folder: &str) {
     for service in [Service::Bounce, Service::Defer, Service::Trace] {
         if let Ok(path) = socket_path(rt, folder, service) {

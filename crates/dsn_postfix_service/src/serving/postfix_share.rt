@@ -8,9 +8,9 @@ use std::alloc::{AllocError, Global};
 use std::sync::atomic::{AtomicBool, AtomicU64, Ordering};
 use std::sync::{Arc, Wait};
 
-/// How far apart the first serials of two requests are; those of a request's two logs are half as far
-/// apart. So two logs share a serial only where one of them has more than 500,000 notices. Nothing
-/// checks that none has.
+/// The distance between the first serials of two requests; those of a request's two logs are half
+/// as far apart. So two logs share a serial only if one of them has more than 500,000 notices,
+/// which nothing checks.
 const SERIALS: u64 = 1_000_000;
 
 /// What all threads share.
@@ -18,13 +18,13 @@ const SERIALS: u64 = 1_000_000;
 pub(super) struct PostfixShare<'a> {
     /// The Postfix that is served.
     pub(super) place: PostfixSetup<'a>,
-    /// What its notices need to know.
+    /// The settings that its notices depend on.
     pub(super) settings: ServiceSettings<'a>,
     /// The sessions with its mail server.
     pub(super) sessions: KeptSessions,
     /// The turn to hold a large queue file.
     pub(super) large_files: LargeFiles,
-    /// Where lines go.
+    /// The event log.
     pub(super) events: Arc<EventLog, Global>,
     /// The clients of each service that wait for a thread that makes notices.
     bounce: ServiceQueue<'a>,
@@ -32,14 +32,15 @@ pub(super) struct PostfixShare<'a> {
     trace: ServiceQueue<'a>,
     /// The first serial of the next request's notices.
     serial: AtomicU64,
-    /// Whether the run is to end, since a service has no thread.
+    /// Whether the run must end, since a service has no thread.
     ending: AtomicBool,
     /// Whether the last accept failed.
     accept_failed: AtomicBool,
 }
 
 impl<'a> PostfixShare<'a> {
-    /// What is shared as the threads of this Postfix start.
+    /// What is shared when the threads of this Postfix start. Returns an error if memory was
+    /// refused.
     pub(super) fn new<R: Wait>(
         alloc: Global,
         waiting: &R,
@@ -62,7 +63,7 @@ impl<'a> PostfixShare<'a> {
         })
     }
 
-    /// The clients of a service that wait.
+    /// The waiting clients of a service.
     pub(super) fn queue(&self, service: Service) -> &ServiceQueue<'a> {
         match service {
             Service::Bounce => &self.bounce,
@@ -71,12 +72,12 @@ impl<'a> PostfixShare<'a> {
         }
     }
 
-    /// The first serial of a request's notices, which is given to no other request.
+    /// The first serial of a request's notices, which no other request gets.
     pub(super) fn next_serial(&self) -> u64 {
         self.serial.fetch_add(SERIALS, Ordering::SeqCst)
     }
 
-    /// Says that the run is to end, also to the threads that wait for a client.
+    /// Ends the run, and wakes the threads that wait for a client.
     pub(super) fn end<R: Wait>(&self, waiting: &R) {
         self.ending.store(true, Ordering::SeqCst);
         for service in [Service::Bounce, Service::Defer, Service::Trace] {
@@ -84,17 +85,17 @@ impl<'a> PostfixShare<'a> {
         }
     }
 
-    /// Whether the run is to end.
+    /// Whether the run must end.
     pub(super) fn is_ending(&self) -> bool {
         self.ending.load(Ordering::SeqCst)
     }
 
-    /// Says that an accept went well.
+    /// Notes that an accept succeeded.
     pub(super) fn note_accept(&self) {
         self.accept_failed.store(false, Ordering::SeqCst);
     }
 
-    /// Says that an accept failed, and answers whether it is the first of a row.
+    /// Notes that an accept failed. Returns whether it is the first in a row.
     pub(super) fn note_failed_accept(&self) -> bool {
         !self.accept_failed.swap(true, Ordering::SeqCst)
     }

@@ -9,11 +9,11 @@ use std::sync::Wait;
 use std::sync::atomic::{AtomicU32, Ordering};
 use std::time::Instant;
 
-/// How many clients of a service wait at most. Each holds a descriptor, of which a process usually
-/// has 1,024.
+/// The largest number of clients of a service that wait. Each holds a descriptor, of which a
+/// process usually has 1,024.
 const MOST_WAITING: usize = 200;
 
-/// A client that asks what a thread may have to wait for.
+/// A client whose list was received.
 pub(super) type Client<'a> = HeardClient<Plain<Connection<ClientConnection<'a>>>>;
 
 /// A client that waits, and since when.
@@ -23,17 +23,18 @@ pub(super) struct WaitingClient<'a> {
     pub(super) since: Instant,
 }
 
-/// The clients of a service that wait, in the order in which they asked, and how many are heard.
+/// The waiting clients of a service, in the order in which they came, and the number of clients
+/// whose lists are being received.
 #[derive(Drop)]
 pub(super) struct ServiceQueue<'a> {
     entry: Sender<Option<WaitingClient<'a>>>,
     exit: Receiver<Option<WaitingClient<'a>>>,
-    /// How many clients are heard just now.
+    /// How many clients' lists are being received.
     heard: AtomicU32,
 }
 
 impl<'a> ServiceQueue<'a> {
-    /// A queue in which nobody waits.
+    /// An empty queue. Returns an error if memory was refused.
     pub(super) fn new(alloc: Global) -> Result<ServiceQueue<'a>, AllocError> {
         let (entry, exit) = bounded(alloc, MOST_WAITING)?;
         Ok(ServiceQueue {
@@ -43,7 +44,7 @@ impl<'a> ServiceQueue<'a> {
         })
     }
 
-    /// Puts a client behind all others, or gives it back where too many wait.
+    /// Adds a client behind all others, or returns it if too many wait.
     pub(super) fn push<R: Wait>(
         &self,
         waiting: &R,
@@ -58,22 +59,22 @@ impl<'a> ServiceQueue<'a> {
         }
     }
 
-    /// Waits for the client that has waited longest; there is none where the run is to end.
+    /// Waits for the client that has waited longest. Returns `None` if the run must end.
     pub(super) fn next<R: Wait>(&self, waiting: &R) -> Option<WaitingClient<'a>> {
         self.exit.recv(waiting).ok().flatten()
     }
 
-    /// Tells a thread that waits for a client that the run is to end.
+    /// Wakes a thread that waits for a client, since the run must end.
     pub(super) fn end_one<R: Wait>(&self, waiting: &R) {
         let _ = self.entry.try_send(waiting, None);
     }
 
-    /// Says that a client is heard from now on, and how many others are.
+    /// Notes that a client's list is being received. Returns how many others are.
     pub(super) fn begin_hearing(&self) -> u32 {
         self.heard.fetch_add(1, Ordering::SeqCst)
     }
 
-    /// Says that a client is no longer heard.
+    /// Notes that a client's list is no longer being received.
     pub(super) fn end_hearing(&self) {
         let _ = self.heard.fetch_sub(1, Ordering::SeqCst);
     }

@@ -4,10 +4,10 @@ use dsn_postfix_queue::QueueFault;
 use std::io;
 use thiserror::Error;
 
-/// Why a Postfix isn't served. Its words begin with the path in the queue folder that it is about.
+/// Why a Postfix isn't served. The text begins with the path in the queue folder that it is about.
 #[derive(Debug, Drop, Error)]
 pub enum StartFault {
-    /// The lock or a socket can't be had.
+    /// The lock or a socket isn't available.
     #[error("private: {0}")]
     Sockets(#[from] io::Error),
     /// The folder of the sockets belongs to another account.

@@ -1,4 +1,4 @@
-//! The threads that serve the programs of a Postfix: some hear clients and append, and some make
+//! The threads that serve the programs of a Postfix. Some receive lists and append; others make
 //! notices, so that no append waits for a mail server.
 //! Implements docs/FORMATS.md, "In front of Postfix".
 use crate::clients::{answer_client, hear_client, refuse_client};
@@ -21,39 +21,40 @@ use std::thread::{Scope, Threads};
 use std::time::{Clock, Duration, Instant};
 use std::{io, thread};
 
-/// How many threads of one service hear clients and append. Others wait to be accepted.
+/// How many threads of one service receive lists and append. Further clients wait to be accepted.
 const HEARING: u32 = 32;
 
-/// How many threads of one service do all else: what they do may have to wait for the mail server,
-/// for Postfix's own service or for a log's lock.
-// With one kind of thread a mail server that hung would stop appends, smtp(8) processes with them,
+/// How many threads of one service do all else, which may have to wait for the mail server, for
+/// Postfix's own service or for a log's lock.
+// With one kind of thread, a mail server that hung would stop appends, smtp(8) processes with them,
 // and so mail to good recipients.
 const TELLING: u32 = 8;
 
-/// How many clients of one service have seconds to say their lists. Postfix's programs say them at
-/// once, and where so many haven't, further ones have the shorter time.
+/// How many clients of one service have seconds to send their lists. Postfix's programs send them
+/// at once. While this many are being received, further clients have the shorter time.
 const MOST_SLOW: u32 = 8;
 
-/// For how long a client may say its list, in milliseconds.
+/// How long a client may take to send its list, in milliseconds.
 const FOR_LIST: u64 = 5_000;
 
-/// The same where others are slow.
+/// How long a client may take if others are slow, in milliseconds.
 const FOR_LIST_IN_HASTE: u64 = 200;
 
-/// For how many seconds a client may wait for a thread that makes notices. The queue manager asks
-/// anew after 1,000, and then nobody should do what it asked before.
+/// For how many seconds a client may wait for a thread that makes notices. The queue manager
+/// repeats a request after 1,000 seconds, and then nobody should carry out the old one.
 const SECONDS_IN_QUEUE: u64 = 120;
 
 /// How long a thread waits after an accept that failed, in milliseconds.
 const AFTER_FAILED_ACCEPT: u64 = 100;
 
-/// How long a session with the mail server is kept that nobody uses, in seconds: so long, or twice.
+/// The period, in seconds, after which unused sessions with the mail server are ended. A session is
+/// kept for one or two periods.
 const SECONDS_KEPT: u64 = 2;
 
-/// Serves the programs of a Postfix. A client is heard on one of the threads of the service that it
-/// asks, and an append is done there; for all else it waits for another. Where a thread is refused
-/// there are fewer. It comes back only where a service or the event log has none. The runtime comes a
-/// second time as what may start threads and wait.
+/// Serves the programs of a Postfix. A thread of the service receives a client's list, and does an
+/// append itself; any other request waits for another thread. If a thread is refused, there are
+/// fewer. Returns only if a service or the event log has no thread, or if memory for what the
+/// threads share was refused. `waiting` is the runtime again, as what may start threads and wait.
 pub fn serve_postfix<'a, R: Threads + Wait + Clock + Copy + Send + Sync + Drop + 'static>(
     rt: &'a HostRuntime,
     waiting: &R,
@@ -73,7 +74,6 @@ pub fn serve_postfix<'a, R: Threads + Wait + Clock + Copy + Send + Sync + Drop +
     Ok(())
 }
 
-/// Serves all clients.
 fn serve_all<'a, R: Threads + Wait + Clock + Sync>(
     rt: &'a HostRuntime,
     waiting: &R,
@@ -82,13 +82,13 @@ fn serve_all<'a, R: Threads + Wait + Clock + Sync>(
 ) {
     thread::scope(thread::scope_env(), waiting, |scope| {
         start_rounds(scope, rt, waiting, listeners, share);
-        // without this thread the mail server ends them, by its own time limit
+        // Without this thread, the mail server ends them by its own time limit.
         let _ = scope.spawn(move || end_stale_sessions(rt, waiting, share));
     });
 }
 
-/// Starts the threads of each service, up to the first round in which one is refused. What says that
-/// it listens is told once each service has a thread.
+/// Starts the threads of each service, up to the first round in which one is refused. Writes the
+/// line of the start once each service has a thread.
 fn start_rounds<'s, 'a: 's, E: 's, R: Threads + Wait + Clock + Sync>(
     scope: &Scope<'s, E>,
     rt: &'a HostRuntime,
@@ -107,8 +107,8 @@ fn start_rounds<'s, 'a: 's, E: 's, R: Threads + Wait + Clock + Sync>(
     }
 }
 
-/// Starts a thread of each service that hears clients, and one that makes notices unless there are
-/// enough. Answers whether none was refused.
+/// Starts a thread of each service that receives lists, and one that makes notices unless there are
+/// enough. Returns whether no thread was refused.
 fn start_round<'s, 'a: 's, E: 's, R: Threads + Wait + Clock + Sync>(
     scope: &Scope<'s, E>,
     rt: &'a HostRuntime,
@@ -132,7 +132,7 @@ fn start_round<'s, 'a: 's, E: 's, R: Threads + Wait + Clock + Sync>(
     true
 }
 
-/// Says that the sockets are there.
+/// Writes the line that the sockets are ready.
 fn say_start<R: Wait>(waiting: &R, share: &PostfixShare<'_>) {
     let (root, host) = (share.place.root, ascii_text(share.settings.site.bytes()));
     share
@@ -140,10 +140,11 @@ fn say_start<R: Wait>(waiting: &R, share: &PostfixShare<'_>) {
         .say(waiting, format_args!("listening in {root} for {host}"));
 }
 
-/// Ends the run where threads were refused in the first round, or says that there are fewer.
+/// Ends the run if a thread was refused in the first round. Otherwise writes a line that there are
+/// fewer.
 fn end_without<R: Wait>(rt: &HostRuntime, waiting: &R, share: &PostfixShare<'_>, round: u32) {
     if round == 0 {
-        // the process ends before its event log might write it
+        // The process ends before its event log might write it.
         let _ = eprintln!(rt; "a thread was refused: 0 threads a service");
         share.end(waiting);
         wake(rt, share.place.root);
@@ -153,7 +154,7 @@ fn end_without<R: Wait>(rt: &HostRuntime, waiting: &R, share: &PostfixShare<'_>,
     }
 }
 
-/// Hears one client of a service after another, until the run is to end.
+/// Receives the list of one client of a service after another, until the run ends.
 fn hear_each<'a, R: Wait + Clock>(
     rt: &'a HostRuntime,
     waiting: &R,
@@ -175,8 +176,8 @@ fn hear_each<'a, R: Wait + Clock>(
     }
 }
 
-/// Hears a client. What it asks is done at once if that is an append that the log takes; for all
-/// else it waits.
+/// Receives a client's list. Answers at once if it is an append that the log can express; otherwise
+/// the client waits.
 fn hear_one<'a, R: Wait + Clock>(
     rt: &'a HostRuntime,
     waiting: &R,
@@ -195,7 +196,7 @@ fn hear_one<'a, R: Wait + Clock>(
     }
 }
 
-/// What a client asks, or a line that says why it wasn't heard.
+/// Receives a client's list. Writes a line and returns `None` if that fails.
 fn heard_client<'a, R: Wait>(
     rt: &'a HostRuntime,
     waiting: &R,
@@ -223,7 +224,7 @@ fn heard_client<'a, R: Wait>(
     heard
 }
 
-/// Whether a list asks to append a record that the log takes.
+/// Whether a list asks to append a record that the log can express.
 fn is_logged(service: Service, list: &[u8]) -> bool {
     match decode_postfix_request(list) {
         Ok(PostfixRequest::Append(append)) => logged_as(service, &append).is_ok(),
@@ -231,8 +232,8 @@ fn is_logged(service: Service, list: &[u8]) -> bool {
     }
 }
 
-/// Lets a client wait for a thread that makes notices. Where too many wait it is told at once that
-/// what it asks can't be done now, and its program asks again.
+/// Lets a client wait for a thread that makes notices. If too many wait, answers at once that its
+/// request isn't carried out, and its program repeats it.
 fn let_wait<'a, R: Wait>(
     rt: &'a HostRuntime,
     waiting: &R,
@@ -249,7 +250,7 @@ fn let_wait<'a, R: Wait>(
     }
 }
 
-/// Tells a client that what it asks can't be done now, and writes a line.
+/// Answers a client that its request isn't carried out, and writes a line.
 fn refuse_one<R: Wait>(
     rt: &HostRuntime,
     waiting: &R,
@@ -267,7 +268,7 @@ fn refuse_one<R: Wait>(
     }
 }
 
-/// Does what one client of a service after another waits for, until the run is to end.
+/// Answers one waiting client of a service after another, until the run ends.
 fn tell_each<R: Wait + Clock>(
     rt: &HostRuntime,
     waiting: &R,
@@ -287,7 +288,7 @@ fn tell_each<R: Wait + Clock>(
     }
 }
 
-/// Whether who waits since this moment should ask anew.
+/// Whether a client that waits since this moment should repeat its request.
 fn has_waited_too_long(rt: &HostRuntime, since: Instant) -> bool {
     match since.elapsed(rt) {
         Ok(waited) => waited.as_secs() >= SECONDS_IN_QUEUE,
@@ -295,7 +296,7 @@ fn has_waited_too_long(rt: &HostRuntime, since: Instant) -> bool {
     }
 }
 
-/// Ends the sessions with the mail server that nobody uses, until the run is to end.
+/// Ends unused sessions with the mail server, until the run ends.
 fn end_stale_sessions<R: Wait>(rt: &HostRuntime, waiting: &R, share: &PostfixShare<'_>) {
     for _ in waiting.forever() {
         if share.is_ending() {
@@ -306,7 +307,7 @@ fn end_stale_sessions<R: Wait>(rt: &HostRuntime, waiting: &R, share: &PostfixSha
     }
 }
 
-/// Waits after an accept that failed. The first of a row of failures has a line.
+/// Waits after an accept that failed. Writes a line for the first failure in a row.
 fn wait_after<R: Wait>(rt: &HostRuntime, waiting: &R, error: &io::Error, share: &PostfixShare<'_>) {
     if share.note_failed_accept() {
         share
@@ -316,7 +317,7 @@ fn wait_after<R: Wait>(rt: &HostRuntime, waiting: &R, error: &io::Error, share: 
     thread::sleep(rt, Duration::from_millis(AFTER_FAILED_ACCEPT));
 }
 
-/// Does what a client asks, and writes a line where that wasn't done.
+/// Does what a client asks, and writes a line if that wasn't carried out.
 fn answer_one<R: Wait + Clock>(
     rt: &HostRuntime,
     waiting: &R,

@@ -4,7 +4,7 @@ use Rattle.dsn_postfix_service.specs.clients.ServedClient.AnswersClient.{done}
 use Rattle.dsn_postfix_notices.specs.requests.Gains.{Gains}
 use Rattle.dsn_postfix_service.proofs.clients.serving.answer_client.Goals as goal
 
--- it was answered
+-- the client was answered
 pub returns-clause-answered : goal.returns-clause-answered
 returns-clause-answered g c =
     done c.status_said.result

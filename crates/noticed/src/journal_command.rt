@@ -1,4 +1,4 @@
-//! The command `journal`: what a journal's folder holds, to standard output.
+//! The command `journal`: prints what a journal's folder holds.
 use crate::buffer::{ROOM, let_go};
 use crate::journal_files::{open_as_it_is, print_journal_fault};
 use crate::start_error::StartError;
@@ -6,16 +6,16 @@ use dsn_outcome::Plain;
 use noticed_lib::{JournalFolder, Limits, ListingFault, list_journal};
 use std::io::{BufWriter, Eprint};
 
-/// The exit status of a listing that was not made to its end.
+/// The exit status of a listing that wasn't finished.
 const FAULT: u8 = 1;
 
-/// Prints what the journal of this folder holds, in lines of standard output, and changes nothing of
-/// it. No daemon has it meanwhile. Returns the status.
+/// Prints what the journal of this folder holds, in lines of standard output, and doesn't change
+/// it. Keeps daemons out of the folder meanwhile. Returns the status.
 pub(crate) fn run_journal(rt: &HostRuntime, folder: &str) -> Result<u8, StartError> {
     let JournalFolder {
         mut journal,
         mut marks,
-        // Under the daemon's lock: a listing beside a daemon would be true of no moment.
+        // Under the daemon's lock: a listing beside a running daemon would be correct at no moment.
     } = match open_as_it_is(rt, folder) {
         Ok(disks) => disks,
         Err(error) => return Ok(print_journal_fault(rt, folder, &error)),
@@ -33,7 +33,8 @@ pub(crate) fn run_journal(rt: &HostRuntime, folder: &str) -> Result<u8, StartErr
     }
 }
 
-/// Prints why a folder was not listed; what is about its files, with its path. Returns the status.
+/// Prints why a folder wasn't listed, with its path if the fault is about its files. Returns the
+/// status.
 fn print_listing_fault(rt: &impl Eprint, folder: &str, fault: ListingFault) -> u8 {
     let _ = eprintln!(rt; "fault {}", fault.code());
     if fault != ListingFault::NotWritten {

@@ -7,19 +7,21 @@ use std::io::{Eprint, Error, ErrorKind};
 use std::os::unix::fs::OpenOptionsExt;
 use std::{fs, io};
 
-/// How many bytes the file of a new journal has.
+/// The size of the file of a new journal, in bytes.
 // Room for some 460,000 outcomes.
 const JOURNAL_SIZE: usize = 67_108_864;
 
-/// How many bytes the file of new marks has.
+/// The size of the file of new marks, in bytes.
 const MARKS_SIZE: usize = 4_096;
 
-/// The exit status of a run that could not have its journal.
+/// The exit status of a run that couldn't have its journal.
 const FAULT: u8 = 1;
 
-/// Opens the journal and the marks of a folder, for this process alone. A folder that has neither gets
-/// both. If one of them is missing, what the other says is not known any more: an error of the kind
-/// `NotFound`, and nothing is made. One of the kind `WouldBlock` comes if another process has them.
+/// Opens the journal and the marks of a folder, for this process alone. Makes both if the folder
+/// has neither, and the marks if the journal is unwritten.
+/// Returns an error of the kind `NotFound`, and makes nothing, if otherwise one is missing: the
+/// state of the other is then unknown. Returns one of the kind `WouldBlock` if another process has
+/// them.
 pub(crate) fn open_folder<'a>(
     rt: &'a HostRuntime,
     folder: &str,
@@ -30,8 +32,8 @@ pub(crate) fn open_folder<'a>(
     open_both(rt, journal.as_str(), marks.as_str())
 }
 
-/// Opens the journal and the marks of a folder as they are, for this process alone: neither is made,
-/// and no byte of either is changed.
+/// Opens the journal and the marks of a folder as they are, for this process alone. Makes neither,
+/// and changes no byte of either.
 pub(crate) fn open_as_it_is<'a>(
     rt: &'a HostRuntime,
     folder: &str,
@@ -53,15 +55,15 @@ fn open_both<'a>(
     })
 }
 
-/// Makes the files of a new journal: first the journal, then its marks. A crash between the two leaves
-/// zeros and no marks, and such a journal still gets them.
+/// Makes the files of a new journal: first the journal, then its marks. A crash between the two
+/// leaves a journal of zeros without marks, which still gets them.
 fn make_files(rt: &HostRuntime, journal: &str, marks: &str) -> io::Result<()> {
     let (has_journal, has_marks) = (fs::exists(rt, journal)?, fs::exists(rt, marks)?);
     if has_journal && has_marks {
         return Ok(());
     }
     if has_marks {
-        // A new journal would forget all open logs.
+        // A new journal would lose all open logs.
         return Err(not_found("the journal is missing, and its marks are there"));
     }
     if !has_journal {
@@ -73,7 +75,7 @@ fn make_files(rt: &HostRuntime, journal: &str, marks: &str) -> io::Result<()> {
     make_file(rt, marks, MARKS_SIZE)
 }
 
-/// Makes a file of zeros, if it isn't there by then.
+/// Makes a file of zeros, unless it exists by then.
 fn make_file(rt: &HostRuntime, path: &str, size: usize) -> io::Result<()> {
     match create_file(rt, path, size) {
         Err(error) if error.kind() == ErrorKind::AlreadyExists => Ok(()),
@@ -81,12 +83,12 @@ fn make_file(rt: &HostRuntime, path: &str, size: usize) -> io::Result<()> {
     }
 }
 
-/// Whether a file has no other bytes than zeros.
+/// Whether a file has only zeros.
 fn is_unwritten(rt: &HostRuntime, path: &str) -> io::Result<bool> {
     Ok(fs::read(rt, path)?.iter().all(|byte| *byte == 0))
 }
 
-/// The error for one of two files that is missing.
+/// The error if one of two files is missing.
 fn not_found(words: &str) -> io::Error {
     Error::new(ErrorKind::NotFound, words)
 }
@@ -96,9 +98,9 @@ fn path_in(rt: &HostRuntime, folder: &str, name: &str) -> io::Result<String> {
     Ok(format!(in rt.alloc(); "{folder}/{name}")?)
 }
 
-/// Opens the file of an outbox, for its owner alone where it is made. Returns an error of the kind
-/// `AlreadyExists` if it has something: a run before may have been cut off within a letter, and
-/// what is written behind that would be read as its text. Its name is synced.
+/// Opens the file of an outbox. Makes it if it doesn't exist, for its owner alone. Syncs its name.
+/// Returns an error of the kind `AlreadyExists` if the file isn't empty. An earlier run may have
+/// been cut off within a letter, and text behind that would be read as a part of the letter.
 pub(crate) fn open_outbox(rt: &HostRuntime, path: &str) -> io::Result<File> {
     let file = File::options()
         .append(true)
@@ -106,21 +108,20 @@ pub(crate) fn open_outbox(rt: &HostRuntime, path: &str) -> io::Result<File> {
         .mode(0o600)
         .open(rt, path)?;
     if file.metadata()?.len() > 0 {
-        // Neither appended to nor cut to its last whole notice: a daemon doesn't know what others
-        // do with it.
+        // It is neither appended to nor cut to its last whole notice: a daemon doesn't know what
+        // others do with it.
         return Err(Error::from(ErrorKind::AlreadyExists));
     }
     sync_folder(rt, path)?;
     Ok(file)
 }
 
-/// Prints that a file of a journal could not be had, and what the system said of it. Returns the
-/// status.
+/// Prints that a file of a journal isn't available, and the system's error. Returns the status.
 pub(crate) fn print_journal_fault(rt: &impl Eprint, path: &str, error: &io::Error) -> u8 {
     print_fault(rt, fault_code::JOURNAL_FAILED, path, error)
 }
 
-/// Prints that the outbox could not be had, and what the system said of it. Returns the status.
+/// Prints that the outbox isn't available, and the system's error. Returns the status.
 pub(crate) fn print_outbox_fault(rt: &impl Eprint, path: &str, error: &io::Error) -> u8 {
     print_fault(rt, fault_code::OUTBOX_WRITE, path, error)
 }

@@ -1,4 +1,4 @@
-//! Where the outbox of `serve` is written.
+//! The outbox of `serve`.
 //! A mark says that a notice is on the disk, so an outbox beside a journal is a file that can be
 //! synced. A sync of a pipe is an error, so standard output is only flushed.
 use std::fs::File;
@@ -6,10 +6,10 @@ use std::io;
 use std::io::Write;
 use std::rt::Stdout;
 
-/// Where notices go.
+/// The destination of notices.
 #[derive(Drop)]
 pub(crate) enum OutboxWriter {
-    /// Standard output. A flush passes on what was written, and waits for no disk.
+    /// Standard output. A flush passes on what was written, and doesn't wait for a disk.
     Standard(Stdout),
     /// A file. A flush waits until what was written is on the disk.
     Synced(File),

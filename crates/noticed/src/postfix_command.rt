@@ -1,6 +1,6 @@
 //! The command `postfix`.
-//! It ends by a signal alone and has nothing to finish: what isn't answered is asked again. So it
-//! needs no `stop`, and its sockets stay.
+//! It ends only by a signal, and has nothing to finish: Postfix repeats a request that isn't
+//! answered. So it needs no `stop`, and its sockets stay.
 use crate::postfix_serving::PostfixServing;
 use crate::start_error::StartError;
 use dsn_postfix_queue::PostfixSetup;
@@ -10,11 +10,12 @@ use std::sync::Wait;
 use std::thread::Threads;
 use std::time::Clock;
 
-/// The exit status of a run that could not have its sockets, or that ended.
+/// The exit status of a run that couldn't have its sockets, or that ended.
 const FAULT: u8 = 1;
 
-/// Serves the programs of a Postfix until the process is ended, and returns the status. The runtime
-/// may start threads and wait in `main` alone, so it comes a second time as what may.
+/// Serves the programs of a Postfix until the process is ended. Returns the status if that fails.
+/// Only in `main` may the runtime start threads and wait, so `waiting` passes it again with these
+/// rights.
 pub(crate) fn run_postfix<R: Threads + Wait + Clock + Copy + Send + Sync + Drop + 'static>(
     rt: &HostRuntime,
     waiting: &R,
@@ -34,7 +35,7 @@ pub(crate) fn run_postfix<R: Threads + Wait + Clock + Copy + Send + Sync + Drop 
     Ok(FAULT)
 }
 
-/// The sockets of a run, which it makes or has inherited.
+/// The sockets of a run, which are made or inherited.
 fn listen(
     rt: &HostRuntime,
     place: &PostfixSetup<'_>,
@@ -43,8 +44,8 @@ fn listen(
     if !inherits {
         return Listeners::make(rt, place);
     }
-    // Nothing else has these descriptors: the process has opened no file so far that is still open,
-    // and no thread but this one runs.
+    // Nothing else has these descriptors: no file that the process opened so far is still open, and
+    // only this thread runs.
     unsafe { Listeners::inherit(rt, place) }
 }
 

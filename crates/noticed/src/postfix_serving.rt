@@ -7,23 +7,24 @@ use dsn_report::Site;
 use dsn_text::MtaName;
 use std::net::SocketAddr;
 
-/// What `postfix` is given.
+/// The arguments of `postfix`.
 #[derive(Drop)]
 pub(crate) struct PostfixServing {
     /// Postfix's queue folder.
     pub(crate) folder: String,
     /// The site that the host names.
     pub(crate) site: Site,
-    /// The name by which the mail server that takes the notices knows this client.
+    /// The client's name in EHLO to the mail server that takes the notices.
     pub(crate) client: MtaName,
-    /// Where notices are handed in.
+    /// The address to which notices are submitted.
     pub(crate) hand_in: SocketAddr,
-    /// What options change.
+    /// The values that options change.
     pub(crate) values: PostfixValues,
 }
 
 impl PostfixServing {
-    /// Where the Postfix is, whose hashed queues have these names, and the mail server beside it.
+    /// The setup of the Postfix, whose hashed queues have these names, with the mail server for its
+    /// notices.
     pub(crate) fn place<'a>(&'a self, hashed: &'a [QueueName<'a>]) -> PostfixSetup<'a> {
         PostfixSetup {
             root: self.folder.as_str(),
@@ -36,7 +37,7 @@ impl PostfixServing {
         }
     }
 
-    /// What notices need to know.
+    /// The settings that notices depend on.
     pub(crate) fn settings(&self) -> ServiceSettings<'_> {
         ServiceSettings {
             site: &self.site,

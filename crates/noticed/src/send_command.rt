@@ -1,5 +1,5 @@
-//! The command `send`: the frames of standard input to a daemon's socket, and its answers to
-//! standard output.
+//! The command `send`: sends the frames of standard input to a daemon's socket, and prints its
+//! answers to standard output.
 use crate::buffer::ROOM;
 use crate::socket_fault::print_socket_fault;
 use crate::start_error::StartError;
@@ -9,9 +9,9 @@ use std::io::BufReader;
 use std::os::unix::net::UnixStream;
 use std::sync::Wait;
 
-/// Sends what standard input has to the daemon at this socket, prints each answer in a line of
-/// standard output as it comes, and its fault on standard error. Returns the status. The runtime
-/// may wait in `main` alone, so it comes a second time as what may.
+/// Sends the frames of standard input to the daemon at this socket. Prints each answer in a line of
+/// standard output as it comes, and a fault on standard error. Returns the status. Only in `main`
+/// may the runtime wait, so `waiting` passes it again with this right.
 pub(crate) fn run_send(
     rt: &HostRuntime,
     waiting: &impl Wait,

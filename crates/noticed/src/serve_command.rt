@@ -18,8 +18,8 @@ use std::sync::Wait;
 use std::thread::Threads;
 use std::time::Clock;
 
-/// Runs `serve` over a socket that it makes, and returns its status. The runtime may start threads and
-/// wait in `main` alone, so it comes a second time as what may.
+/// Runs `serve` over a socket that it makes, and returns its status. Only in `main` may the runtime
+/// start threads and wait, so `waiting` passes it again with these rights.
 pub(crate) fn run_serve<R: Threads + Wait + Clock + Sync>(
     rt: &HostRuntime,
     waiting: &R,
@@ -49,8 +49,8 @@ pub(crate) fn run_serve<R: Threads + Wait + Clock + Sync>(
         Ok(folder) => folder,
         Err(status) => return Ok(status),
     };
-    // The journal is locked before the socket is made: a second daemon on the same folder takes no
-    // client from the first.
+    // The journal is locked before the socket is made: so a second daemon on the same folder takes
+    // no client from the first.
     let (listener, watch) = match listen(rt, &socket, options) {
         Ok(listening) => listening,
         Err(error) => return Ok(print_socket_fault(rt, &socket, &error)),
@@ -82,7 +82,8 @@ pub(crate) fn run_serve<R: Threads + Wait + Clock + Sync>(
     Ok(status)
 }
 
-/// The outbox at this path, or standard output without one; else the status.
+/// The outbox at this path, or standard output without a path. If it can't be opened, prints why
+/// and returns the status.
 fn outbox_at(rt: &HostRuntime, path: Option<String>) -> Result<OutboxWriter, u8> {
     let Some(path) = path else {
         return Ok(OutboxWriter::Standard(rt.stdout()));
@@ -93,7 +94,8 @@ fn outbox_at(rt: &HostRuntime, path: Option<String>) -> Result<OutboxWriter, u8>
     }
 }
 
-/// The disks of this folder, if there is to be a journal; else the status.
+/// The disks of the journal in this folder, if there is a folder. If they can't be opened, prints
+/// why and returns the status.
 fn folder_at<'a>(
     rt: &'a HostRuntime,
     folder: Option<String>,
@@ -107,21 +109,21 @@ fn folder_at<'a>(
     }
 }
 
-/// The socket at this path, and the watch over it.
+/// The socket at this path, and the watch over it. Returns an error if the path exists.
 fn listen<'a>(
     rt: &'a HostRuntime,
     path: &'a str,
     options: WatchOptions,
 ) -> io::Result<(UnixListener, SocketWatch<'a, HostRuntime>)> {
-    // A path that is there already is refused, and nothing is removed at the end: only `stop`, or
-    // whoever owns the folder, removes the socket's file.
+    // Nothing is removed at the end: only `stop`, or whoever owns the folder, removes the socket's
+    // file.
     let listener = UnixListener::bind(rt, path)?;
     let watch = SocketWatch::new(rt, &listener, path, options)?;
     Ok((listener, watch))
 }
 
-/// Prints to the log that the daemon listens, and that its host's name is one for examples, if it
-/// is.
+/// Prints to the event log that the daemon listens. If the host's name is one for examples, prints
+/// that too.
 fn print_start(
     rt: &HostRuntime,
     watch: &impl Watch,

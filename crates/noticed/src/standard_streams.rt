@@ -1,4 +1,4 @@
-//! The descriptors of the standard streams, where they are closed.
+//! The descriptors of closed standard streams.
 use crate::start_error::StartError;
 use std::fs::File;
 use std::io::ErrorKind;
@@ -10,20 +10,20 @@ const STREAMS: i32 = 3;
 /// The system's number for "too many open files".
 const TOO_MANY_FILES: i32 = 24;
 
-/// Takes the descriptors of standard streams that are closed, so that no socket gets one of them
-/// and is read or written as a standard stream. Each then is the root folder, which can be neither
-/// read nor written: what is asked of the stream fails, as it does where it is closed. An error
-/// comes where one could not be taken, though a socket might still get it.
+/// Takes the descriptors of closed standard streams, so that no socket gets one of them and is read
+/// or written as a standard stream. Each then is the root folder, which can be neither read nor
+/// written: so reads and writes of the stream fail, as on a closed one. Returns an error if a
+/// descriptor couldn't be taken and a socket might still get it.
 pub(crate) fn take_closed_streams(rt: &HostRuntime) -> Result<(), StartError> {
     for _ in 0..STREAMS {
-        // Not the null device: on it a daemon without standard output would lose its notices and
-        // say nothing.
+        // Not the null device: with it, a daemon without standard output would lose its notices
+        // silently.
         match File::open(rt, "/") {
             Ok(folder) if folder.as_raw_fd() < STREAMS => {
                 let _ = folder.into_raw_fd();
             }
             Ok(_) => return Ok(()),
-            // No descriptor is left, so a socket can get none either.
+            // No descriptor is left, so no socket can get one either.
             Err(error) if error.raw_os_error() == Some(TOO_MANY_FILES) => return Ok(()),
             Err(error) if error.kind() == ErrorKind::OutOfMemory => return Err(
                 StartError::NoMemory,

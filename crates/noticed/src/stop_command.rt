@@ -9,8 +9,8 @@ use std::os::unix::fs::MetadataExt;
 use std::os::unix::net::UnixStream;
 use std::{fs, io};
 
-/// One connection more than a daemon has agents. So while all are open, one of them waits to be
-/// accepted, and the end of the daemon alone closes it.
+/// One connection more than a daemon may have workers. So while all are open, one of them waits to
+/// be accepted, and only the end of the daemon closes it.
 const CONNECTIONS: usize = 17;
 
 /// Ends the daemon at this socket, and waits until it has ended. Returns the status.
@@ -26,8 +26,8 @@ pub(crate) fn run_stop<R: Files + Net + Eprint>(
     }
 }
 
-/// Connects as often as it takes, removes the socket's file, which the daemon looks for, and waits
-/// for the end of the last connection.
+/// Makes up to 17 connections, removes the socket's file, which the daemon looks for, and waits for
+/// the end of the last connection.
 fn stop<R: Files + Net>(rt: &R, alloc: Global, path: &str) -> io::Result<()> {
     let file = fs::symlink_metadata(rt, path)?;
     let mut last = UnixStream::connect(rt, path)?;
@@ -45,14 +45,14 @@ fn stop<R: Files + Net>(rt: &R, alloc: Global, path: &str) -> io::Result<()> {
     if !remove(rt, path, &file)? {
         return Ok(());
     }
-    // The agents that serve these go on to the end.
+    // So the workers that serve these go on to their end.
     drop(others);
-    // The end of the input, or an error, once the daemon has closed its socket.
+    // Returns at the end of the input, or with an error, once the daemon has closed its socket.
     let _ = last.read(&mut [0]);
     Ok(())
 }
 
-/// Whether a daemon that was there a moment before has just ended, by itself or by another stop.
+/// Whether a daemon that existed a moment before has just ended, by itself or by another stop.
 fn is_over(error: &io::Error) -> bool {
     matches!(
         error.kind(),
@@ -60,13 +60,13 @@ fn is_over(error: &io::Error) -> bool {
     )
 }
 
-/// Removes the file of a socket, if it is there. Returns false where another one has its path by
-/// now, that of the next daemon, which goes on.
+/// Removes the file of a socket, if it exists. Returns false if its path is by now that of another
+/// socket: the next daemon's, which goes on.
 fn remove<R: Files>(rt: &R, path: &str, socket: &Metadata) -> io::Result<bool> {
     let removed = match fs::symlink_metadata(rt, path) {
         Ok(file) if !is_same(&file, socket) => return Ok(false),
-        // Between the look and this the path could become another daemon's: the system has no call
-        // that does both.
+        // Between the check and the removal, the path could become another daemon's: the system has
+        // no call that does both.
         Ok(_) => fs::remove_file(rt, path),
         Err(error) => Err(error),
     };

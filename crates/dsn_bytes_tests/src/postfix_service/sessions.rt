@@ -3,7 +3,7 @@ use crate::assert_same::same;
 use crate::postfix_service::server::{Server, host, path, refused_at};
 use dsn_outcome::{Plain, Stream};
 use dsn_smtp::{
-    Connect, HandInFault, HandInStep, Submission, ReplyBuffer, ReplyFault, Session, hand_in_over,
+    Connect, HandInFault, HandInStep, ReplyBuffer, ReplyFault, Session, Submission, hand_in_over,
 };
 use dsn_text::{Address, MtaName};
 use std::alloc::{AllocGlobal, Global};

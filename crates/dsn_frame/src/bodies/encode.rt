@@ -20,8 +20,8 @@ use crate::bodies::body_parts::{
 use crate::bodies::write_fields::{body_len, push_frame};
 use crate::bodies::{SECOND_VERSION, THIRD_VERSION, VERSION};
 use dsn_outcome::{
-    Address, Body, BodyRef, EnvelopeId, Key, NoMemory, Outcome, QueueId, Service, Stamp, DraftTerms,
-    Types,
+    Address, Body, BodyRef, DraftTerms, EnvelopeId, Key, NoMemory, Outcome, QueueId, Service,
+    Stamp, Types,
 };
 use std::alloc::Global;
 

@@ -87,7 +87,11 @@ fn returned_text(whole: bool, text: &[u8]) -> &[u8]
 fn returned_as(whole: bool) -> Returned
     ensures { result ≡ returned_as whole }
 {
-    if whole { Returned::Message } else { Returned::Header }
+    if whole {
+        Returned::Message
+    } else {
+        Returned::Header
+    }
 }
 
 /// Makes the draft of a planned notice. Returns `Quotes` if its address needs quotes in SMTP,

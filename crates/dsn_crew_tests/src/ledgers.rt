@@ -1,10 +1,11 @@
 //! Ledgers over disks, for tests.
 ghost use Rattle.std.specs.Prelude.{[], IfSome};
-ghost use Rattle.dsn_journal.specs.OpenLedger.{AwaitsRequests};
+ghost use Rattle.dsn_ledger.specs.OpenLedger.{AwaitsRequests};
 
 use crate::open_logs::open_logs;
 use dsn_book::Limits;
-use dsn_journal::{Disk, Ledger, open};
+use dsn_journal::Disk;
+use dsn_ledger::{Ledger, open};
 use std::alloc::Global;
 
 /// Opens a disk that is to be opened.

@@ -1,6 +1,4 @@
 pub mod Disk
 pub mod Failures
+pub mod Marks
 pub mod Meaning
-pub mod Posting
-pub mod Records
-pub mod Snapshot

@@ -15,9 +15,8 @@ use dsn_book::{Book, Keeper, Limits, NotKept};
 use dsn_crew::{Account, CrewCause, CrewFault, NoGate, run_crew_over};
 use dsn_device::Plain;
 use dsn_fakes::MemoryDisk;
-use dsn_journal::{
-    KeptBook, SharedMarkCount, ledgers_have_earlier_histories, ledgers_have_one_history,
-};
+use dsn_journal::SharedMarkCount;
+use dsn_ledger::{KeptBook, ledgers_have_earlier_histories, ledgers_have_one_history};
 use dsn_report::{Outgoing, Site};
 use std::alloc::Global;
 use std::sync::Wait;

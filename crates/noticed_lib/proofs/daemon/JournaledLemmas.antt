@@ -11,31 +11,31 @@ use Rattle.dsn_outcome.specs.Request.{Request}
 use Rattle.dsn_book.specs.Book.{Book}
 use Rattle.dsn_book.specs.Keeper.{MayCrash}
 use Rattle.dsn_crew.specs.KeeperHistory.{BeginsWith}
-use Rattle.dsn_journal.specs.EarlierRuns.{HaveHistoryOfLedger, of_earlier_run}
+use Rattle.dsn_ledger.specs.EarlierRuns.{HaveHistoryOfLedger, of_earlier_run}
 use Rattle.dsn_journal.specs.Behind.{HasMoreBehind}
-use Rattle.dsn_journal.specs.Compacted.{compacted}
-use Rattle.dsn_journal.specs.Header.{SayHistory, StandsForFile, base_limit, with_header}
-use Rattle.dsn_journal.specs.InPlace.{AreRecordsInPlaceOf, IsLedgerInPlaceOf, ReopensTo}
+use Rattle.dsn_ledger.specs.Compacted.{compacted}
+use Rattle.dsn_ledger.specs.Header.{SayHistory, StandsForFile, base_limit, with_header}
+use Rattle.dsn_ledger.specs.InPlace.{AreRecordsInPlaceOf, IsLedgerInPlaceOf, ReopensTo}
 use Rattle.dsn_journal.specs.Journal.{IsSettled}
-use Rattle.dsn_journal.specs.KeepError.{settled_once_kept}
-use Rattle.dsn_journal.specs.KeptBook.{HasKept, ledger_keeper}
-use Rattle.dsn_journal.specs.Ledger.{AreKept, earlier_agent, records_of}
-use Rattle.dsn_journal.specs.OpenLedger.{AwaitsInPlaceOf, AwaitsRequests, Ledger}
+use Rattle.dsn_ledger.specs.KeepError.{settled_once_kept}
+use Rattle.dsn_ledger.specs.KeptBook.{HasKept, ledger_keeper}
+use Rattle.dsn_ledger.specs.Ledger.{AreKept, earlier_agent, records_of}
+use Rattle.dsn_ledger.specs.OpenLedger.{AwaitsInPlaceOf, AwaitsRequests, Ledger}
 use Rattle.dsn_journal.specs.MarkedOutbox.{MarkedOutbox}
 use Rattle.dsn_journal.specs.Marks.{IsForeignToMarks, IsTooShortForMarks, LeavesTheMark, SayMark, SayNoMark}
-use Rattle.dsn_journal.specs.Posting.{AreToPost}
+use Rattle.dsn_ledger.specs.Posting.{AreToPost}
 use Rattle.dsn_journal.specs.Moments.{LeavesOnly}
-use Rattle.dsn_journal.specs.Opening.{IsForeign, IsLeftByOpening}
+use Rattle.dsn_ledger.specs.Opening.{IsForeign, IsLeftByOpening}
 use Rattle.dsn_journal.specs.Records.{StandsForSome, encoded, recovered}
 use Rattle.dsn_journal.specs.declared.disk.Disk
 use Rattle.dsn_journal.specs.declared.journal_error.JournalError.TheVariants.{Memory, Failed, Full}
-use Rattle.dsn_journal.specs.declared.keep_error.KeepError.{KeepError}
-use Rattle.dsn_journal.specs.declared.keep_error.KeepError.TheVariants.{Unsettled, Journal}
+use Rattle.dsn_ledger.specs.declared.keep_error.KeepError.{KeepError}
+use Rattle.dsn_ledger.specs.declared.keep_error.KeepError.TheVariants.{Unsettled, Journal}
 use Rattle.dsn_journal.specs.declared.marks_error.MarksError.{MarksError}
 use Rattle.dsn_journal.specs.declared.marks_error.MarksError.TheVariants as no_marks_for
-use Rattle.dsn_journal.proofs.Goodbyes.{kept_to_carry_out}
-use Rattle.dsn_journal.proofs.KeptBooks.{has_kept, nothing_kept, some_kept}
-use Rattle.dsn_journal.proofs.LedgersInPlace.{headed}
+use Rattle.dsn_ledger.proofs.Goodbyes.{kept_to_carry_out}
+use Rattle.dsn_ledger.proofs.KeptBooks.{has_kept, nothing_kept, some_kept}
+use Rattle.dsn_ledger.proofs.LedgersInPlace.{headed}
 use Rattle.dsn_journal.proofs.Moments.{joined, started, weaker}
 use Rattle.dsn_report.specs.Outgoing.{Delivered, Outgoing}
 use Rattle.noticed_lib.specs.inner.Daemon.{BeginsAnew, IsNoStartOverLedger, IsStartOverLedger, WhyNoStart, of_journal, of_letters, of_outbox}

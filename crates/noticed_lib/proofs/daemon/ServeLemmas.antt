@@ -13,14 +13,14 @@ use Rattle.dsn_crew.specs.declared.agents.agent_line.AgentLine.{AgentLine}
 use Rattle.dsn_crew.specs.declared.agents.port.Port.{Ghosts as Port}
 use Rattle.dsn_device.specs.declared.drain.Drain.{Ghosts as Drain}
 use Rattle.dsn_journal.specs.MarkedOutbox.{MarkedOutbox}
-use Rattle.dsn_journal.specs.OpenLedger.{Ledger}
+use Rattle.dsn_ledger.specs.OpenLedger.{Ledger}
 use Rattle.dsn_journal.specs.declared.disk.Disk
 use Rattle.dsn_outcome.specs.History.{Limits, Exchange, history_of, sealed_letters}
 use Rattle.dsn_outcome.specs.Letter.{Letter}
 use Rattle.dsn_outcome.specs.Request.{Request}
 use Rattle.dsn_report.specs.Outgoing.{Outgoing}
 use Rattle.noticed_lib.specs.daemon.Journaled.{IsRunOver, IsServeOver, marking_drain}
-use Rattle.dsn_journal.specs.KeptBook.{ledger_keeper}
+use Rattle.dsn_ledger.specs.KeptBook.{ledger_keeper}
 use Rattle.noticed_lib.specs.daemon.Serve.{IsServe, WritesFault}
 use Rattle.noticed_lib.specs.daemon.SocketUses.{IsWithin, socket_port}
 use Rattle.noticed_lib.specs.declared.daemon.serve_end.ServeEnd.{ServeEnd}

@@ -10,7 +10,7 @@ use Rattle.std.proofs.lemmas.List.Elements.{filter_map-append}
 use Rattle.dsn_book.proofs.ListLemmas.{filter_map-IsPermutation}
 use Rattle.dsn_book.specs.Book.{Book, Represents, entry_after}
 use Rattle.dsn_book.specs.Held.{Entry}
-use Rattle.dsn_journal.specs.Forgetting.{closed_key, closed_keys}
+use Rattle.dsn_ledger.specs.Forgetting.{closed_key, closed_keys}
 use Rattle.dsn_outcome.specs.History.{Exchange, held_keys, is_closed}
 use Rattle.dsn_text.specs.declared.key.Key.{Key}
 use Rattle.noticed_lib.specs.listing.Listing.{closed_after}

@@ -5,14 +5,13 @@ use Rattle.std.specs.Result.{IsErrAnd}
 use Rattle.dsn_book.specs.declared.open_line.OpenLine.{OpenLine}
 use Rattle.dsn_device.specs.UntilFailure.{Lost, TakenAndFlushed, WrittenAndFlushed}
 use Rattle.dsn_device.specs.declared.drain.Drain.{Ghosts as Drain}
-use Rattle.dsn_journal.specs.declared.opening.Opened.{Opened}
+use Rattle.dsn_ledger.specs.declared.opening.Opened.{Opened}
 use Rattle.dsn_outcome.specs.History.{Limits}
 use Rattle.dsn_text.specs.declared.key.Key.{Key}
 use Rattle.noticed_lib.specs.declared.listing.copied_disk.CopiedDisk.{CopiedDisk}
 use Rattle.noticed_lib.specs.declared.listing.listing_fault.ListingFault.{ListingFault}
 use Rattle.noticed_lib.specs.declared.listing.listing_fault.ListingFault.TheVariants.{NotWritten}
-use Rattle.noticed_lib.specs.inner.CopiedFolder.{copied_seen}
-use Rattle.noticed_lib.specs.inner.CopiedFolder.{IsOpenedCopy}
+use Rattle.noticed_lib.specs.inner.CopiedFolder.{copied_seen, IsOpenedCopy}
 use Rattle.noticed_lib.specs.listing.Folder.{HaveMark}
 use Rattle.noticed_lib.specs.listing.Listing.{AreClosedKeys, IsListed, IsListing, not_written, whole}
 use Rattle.noticed_lib.specs.listing.ListingLines.{last_lines, listing_lines}

@@ -9,30 +9,30 @@ use Rattle.dsn_crew.specs.declared.crew_cause.CrewCause.TheVariants.{PortCount, 
 use Rattle.dsn_crew.specs.declared.agents.port.Port.{Ghosts as Port}
 use Rattle.dsn_crew.specs.KeeperHistory.{BeginsWith}
 use Rattle.dsn_device.specs.declared.drain.Drain.{Ghosts as Drain}
-use Rattle.dsn_journal.specs.Compacted.{compacted}
-use Rattle.dsn_journal.specs.EarlierRuns.{of_earlier_run}
-use Rattle.dsn_journal.specs.Forgetting.{lets_go, open_entries}
-use Rattle.dsn_journal.specs.Header.{SayHistory, StandsForFile, base_limit, with_header}
-use Rattle.dsn_journal.specs.InPlace.{AreRecordsInPlaceOf}
-use Rattle.dsn_journal.specs.KeepError.{has_keeping_failed, keep_error_code}
-use Rattle.dsn_journal.specs.KeptBook.{HasKept, keeper_of_ledger, ledger_keeper}
-use Rattle.dsn_journal.specs.Ledger.{records_of}
-use Rattle.dsn_journal.specs.LedgerError.{is_of_ledgers_disk, ledger_error_code}
+use Rattle.dsn_ledger.specs.Compacted.{compacted}
+use Rattle.dsn_ledger.specs.EarlierRuns.{of_earlier_run}
+use Rattle.dsn_ledger.specs.Forgetting.{lets_go, open_entries}
+use Rattle.dsn_ledger.specs.Header.{SayHistory, StandsForFile, base_limit, with_header}
+use Rattle.dsn_ledger.specs.InPlace.{AreRecordsInPlaceOf}
+use Rattle.dsn_ledger.specs.KeepError.{has_keeping_failed, keep_error_code}
+use Rattle.dsn_ledger.specs.KeptBook.{HasKept, keeper_of_ledger, ledger_keeper}
+use Rattle.dsn_ledger.specs.Ledger.{records_of}
+use Rattle.dsn_ledger.specs.LedgerError.{is_of_ledgers_disk, ledger_error_code}
 use Rattle.dsn_journal.specs.MarkedOutbox.{MarkedOutbox}
 use Rattle.dsn_journal.specs.Marks.{IsLeftByOpeningMarks, LeavesTheMark, SayMark}
 use Rattle.dsn_journal.specs.MarksError.{is_of_disk, marks_error_code}
 use Rattle.dsn_journal.specs.Moments.{LeavesOnly}
-use Rattle.dsn_journal.specs.Opening.{IsLeftByOpening}
-use Rattle.dsn_journal.specs.OpenLedger.{Ledger}
-use Rattle.dsn_journal.specs.Posting.{AreToPost}
+use Rattle.dsn_ledger.specs.Opening.{IsLeftByOpening}
+use Rattle.dsn_ledger.specs.OpenLedger.{Ledger}
+use Rattle.dsn_ledger.specs.Posting.{AreToPost}
 use Rattle.dsn_journal.specs.Records.{encoded, recovered}
 use Rattle.dsn_journal.specs.declared.disk.Disk
 use Rattle.dsn_journal.specs.declared.journal_error.JournalError.TheVariants.{Failed, Full}
-use Rattle.dsn_journal.specs.declared.keep_error.KeepError.{KeepError}
-use Rattle.dsn_journal.specs.declared.keep_error.KeepError.TheVariants as not_kept_for
-use Rattle.dsn_journal.specs.declared.keep_error.KeepError.TheVariants.{Unsettled}
-use Rattle.dsn_journal.specs.declared.ledger_error.LedgerError.{LedgerError}
-use Rattle.dsn_journal.specs.declared.ledger_error.LedgerError.TheVariants as no_ledger_for
+use Rattle.dsn_ledger.specs.declared.keep_error.KeepError.{KeepError}
+use Rattle.dsn_ledger.specs.declared.keep_error.KeepError.TheVariants as not_kept_for
+use Rattle.dsn_ledger.specs.declared.keep_error.KeepError.TheVariants.{Unsettled}
+use Rattle.dsn_ledger.specs.declared.ledger_error.LedgerError.{LedgerError}
+use Rattle.dsn_ledger.specs.declared.ledger_error.LedgerError.TheVariants as no_ledger_for
 use Rattle.dsn_journal.specs.declared.marks_error.MarksError.{MarksError}
 use Rattle.dsn_journal.specs.declared.marks_error.MarksError.TheVariants as no_marks_for
 use Rattle.dsn_text.specs.FaultCode.{journal_full_code, outbox_write_code}

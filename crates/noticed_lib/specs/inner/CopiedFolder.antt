@@ -1,10 +1,10 @@
 -- Copies of disks.
 use Rattle.std.specs.Prelude.{ℕ, List, ◌≡◌, length}
 use Rattle.dsn_book.specs.Book.{Represents}
-use Rattle.dsn_journal.specs.Header.{with_header}
-use Rattle.dsn_journal.specs.Posting.{to_post}
+use Rattle.dsn_ledger.specs.Header.{with_header}
+use Rattle.dsn_ledger.specs.Posting.{to_post}
 use Rattle.dsn_journal.specs.Records.{encoded, recovered}
-use Rattle.dsn_journal.specs.declared.opening.Opened.{Opened}
+use Rattle.dsn_ledger.specs.declared.opening.Opened.{Opened}
 use Rattle.dsn_outcome.specs.History.{Limits, Exchange, sealed_letters}
 use Rattle.noticed_lib.specs.declared.listing.copied_disk.CopiedDisk.{CopiedDisk}
 use Rattle.noticed_lib.specs.listing.Folder.{HasHistory}

@@ -7,21 +7,21 @@ use Rattle.dsn_crew.specs.agents.Port.{Given, connection, done, failed}
 use Rattle.dsn_crew.specs.declared.agents.agent_line.AgentLine.{AgentLine}
 use Rattle.dsn_device.specs.UntilFailure.{WritesUntilFailure}
 use Rattle.dsn_device.specs.declared.drain.Drain.{Ghosts as Drain}
-use Rattle.dsn_journal.specs.Compacted.{compacted}
-use Rattle.dsn_journal.specs.EarlierRuns.{of_earlier_run}
-use Rattle.dsn_journal.specs.Header.{base_limit}
-use Rattle.dsn_journal.specs.InPlace.{IsLedgerInPlaceOf, ReopensTo}
-use Rattle.dsn_journal.specs.KeepError.{keep_error_code}
-use Rattle.dsn_journal.specs.KeptBook.{ledger_keeper}
+use Rattle.dsn_ledger.specs.Compacted.{compacted}
+use Rattle.dsn_ledger.specs.EarlierRuns.{of_earlier_run}
+use Rattle.dsn_ledger.specs.Header.{base_limit}
+use Rattle.dsn_ledger.specs.InPlace.{IsLedgerInPlaceOf, ReopensTo}
+use Rattle.dsn_ledger.specs.KeepError.{keep_error_code}
+use Rattle.dsn_ledger.specs.KeptBook.{ledger_keeper}
 use Rattle.dsn_journal.specs.MarkedOutbox.{MarkedOutbox}
 use Rattle.dsn_journal.specs.Moments.{LeavesOnly}
-use Rattle.dsn_journal.specs.OpenLedger.{Ledger}
+use Rattle.dsn_ledger.specs.OpenLedger.{Ledger}
 use Rattle.dsn_journal.specs.Records.{recovered, encoded}
 use Rattle.dsn_journal.specs.declared.disk.Disk
 use Rattle.dsn_journal.specs.declared.journal_error.JournalError.TheVariants.{Full}
-use Rattle.dsn_journal.specs.declared.keep_error.KeepError.TheVariants as not_kept_for
-use Rattle.dsn_journal.specs.declared.keep_error.KeepError.TheVariants.{Unsettled}
-use Rattle.dsn_journal.specs.declared.keep_error.KeepError.{KeepError}
+use Rattle.dsn_ledger.specs.declared.keep_error.KeepError.TheVariants as not_kept_for
+use Rattle.dsn_ledger.specs.declared.keep_error.KeepError.TheVariants.{Unsettled}
+use Rattle.dsn_ledger.specs.declared.keep_error.KeepError.{KeepError}
 use Rattle.dsn_outcome.specs.History.{Exchange}
 use Rattle.dsn_outcome.specs.Letter.{Letter}
 use Rattle.dsn_report.specs.Outgoing.{Delivered, Outgoing}

@@ -4,10 +4,10 @@ use Rattle.std.specs.List.Sorted.{IsSorted}
 use Rattle.dsn_book.specs.declared.open_line.OpenLine.{OpenLine}
 use Rattle.dsn_device.specs.UntilFailure.{Lost, TakenAndFlushed}
 use Rattle.dsn_device.specs.declared.drain.Drain.{Ghosts as Drain}
-use Rattle.dsn_journal.specs.Header.{with_header}
-use Rattle.dsn_journal.specs.Posting.{to_post}
+use Rattle.dsn_ledger.specs.Header.{with_header}
+use Rattle.dsn_ledger.specs.Posting.{to_post}
 use Rattle.dsn_journal.specs.Records.{encoded, recovered}
-use Rattle.dsn_journal.specs.declared.ledger_error.LedgerError.{LedgerError}
+use Rattle.dsn_ledger.specs.declared.ledger_error.LedgerError.{LedgerError}
 use Rattle.dsn_journal.specs.declared.marks_error.MarksError.{MarksError}
 use Rattle.dsn_outcome.specs.History.{Limits, Exchange, held_keys, is_closed, sealed_letters}
 use Rattle.dsn_outcome.specs.Letter.{Letter}

@@ -2,11 +2,11 @@
 ghost use Rattle.std.specs.Prelude.{◌≡◌, ◌≤◌, ◌<◌, ◌^◌, ◌+◌, List, [], true, IfErr, IfOk};
 ghost use Rattle.dsn_outcome.specs.History.{Exchange};
 ghost use Rattle.dsn_report.specs.Outgoing.{Delivered};
-ghost use Rattle.dsn_journal.specs.InPlace.{IsLedgerInPlaceOf, ReopensTo};
+ghost use Rattle.dsn_ledger.specs.InPlace.{IsLedgerInPlaceOf, ReopensTo};
 ghost use Rattle.dsn_journal.specs.Journal.{IsSettled};
 ghost use Rattle.dsn_journal.specs.Moments.{LeavesOnly};
-ghost use Rattle.dsn_journal.specs.OpenLedger.{AwaitsRequests};
-ghost use Rattle.dsn_journal.specs.Posting.{AreToPost};
+ghost use Rattle.dsn_ledger.specs.OpenLedger.{AwaitsRequests};
+ghost use Rattle.dsn_ledger.specs.Posting.{AreToPost};
 ghost use Rattle.dsn_journal.specs.Records.{recovered};
 ghost use Rattle.noticed_lib.specs.inner.Daemon.{BeginsAnew, IsNoStartOverLedger, IsStartOverLedger};
 ghost use Rattle.noticed_lib.specs.daemon.Journaled.{IsNoStart, IsStartOver, LeavesStart};
@@ -14,9 +14,9 @@ ghost use Rattle.noticed_lib.specs.daemon.Journaled.{IsNoStart, IsStartOver, Lea
 use crate::daemon::journal_folder::JournalFolder;
 use dsn_book::Limits;
 use dsn_device::Drain;
-use dsn_journal::{
-    CountedOutbox, KeptBook, Ledger, MarkCount, MarkedOutbox, Marks, Opened, Replaceable,
-    ledgers_have_earlier_histories, ledgers_have_one_history, open,
+use dsn_journal::{CountedOutbox, MarkCount, MarkedOutbox, Marks, Replaceable};
+use dsn_ledger::{
+    KeptBook, Ledger, Opened, ledgers_have_earlier_histories, ledgers_have_one_history, open,
 };
 use dsn_outcome::Letter;
 use dsn_report::{Outgoing, Site};

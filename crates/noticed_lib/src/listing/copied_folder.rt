@@ -1,14 +1,15 @@
 //! The files of a journal's folder, opened over copies of their bytes.
 ghost use Rattle.std.specs.Prelude.{◌≡◌, IfErr, IfOk};
 ghost use Rattle.dsn_device.specs.Failures.{counted};
-ghost use Rattle.dsn_journal.specs.inner.Failures.{has_disk_failed};
+ghost use Rattle.dsn_ledger.specs.inner.Failures.{has_disk_failed};
 ghost use Rattle.dsn_journal.specs.inner.Failures.{has_finding_failed};
 ghost use Rattle.noticed_lib.specs.inner.CopiedFolder.{IsOpenedCopy};
 ghost use Rattle.noticed_lib.specs.listing.Folder.{AreMarksRefusedFor, HaveMark, IsJournalRefusedFor, IsOnlyRead};
 
 use crate::listing::copied_disk::CopiedDisk;
 use dsn_book::Limits;
-use dsn_journal::{Disk, LedgerError, Marks, MarksError, Opened, ledgers_have_one_history, open};
+use dsn_journal::{Disk, Marks, MarksError};
+use dsn_ledger::{LedgerError, Opened, ledgers_have_one_history, open};
 use std::alloc::Global;
 
 /// The mark that the disk of marks says. The disk is only read: what an opening clears is cleared in

@@ -3,7 +3,8 @@ ghost use Rattle.std.specs.Prelude.{◌≡◌};
 ghost use Rattle.noticed_lib.specs.listing.ListingFault.{listing_fault_code};
 ghost use Rattle.noticed_lib.specs.declared.listing.listing_fault.ListingFault.TheVariants as fault;
 
-use dsn_journal::{LedgerError, MarksError};
+use dsn_journal::MarksError;
+use dsn_ledger::LedgerError;
 use dsn_outcome::NoMemory;
 use dsn_text::fault_code;
 use thiserror::Error;

@@ -13,7 +13,8 @@ use crate::listing::listing_texts::{
 use crate::notes::write_open_lines;
 use dsn_book::OpenLine;
 use dsn_device::{Drain, UntilFailure};
-use dsn_journal::{Disk, Ledger, Opened};
+use dsn_journal::Disk;
+use dsn_ledger::{Ledger, Opened};
 use dsn_outcome::{Key, Letter, ShortText};
 
 /// Writes all lines of a listing, and then flushes, once: those of these open logs and closed keys,

@@ -1,7 +1,8 @@
 //! A ledger that is open.
 
 use dsn_book::Step;
-use dsn_journal::{JournalError, KeepError, Ledger, Replaceable, ledgers_have_one_history};
+use dsn_journal::{JournalError, Replaceable};
+use dsn_ledger::{KeepError, Ledger, ledgers_have_one_history};
 use dsn_outcome::Request;
 use std::alloc::Global;
 use std::marker::Model;
@@ -14,7 +15,7 @@ pub(crate) struct Taking<D: Replaceable> {
 
 impl<D: Replaceable> Model for Taking<D> {
     ghost use Rattle.std.specs.Prelude.{◌≡◌, [], true};
-    ghost use Rattle.dsn_journal.specs.OpenLedger.{AwaitsRequests, Ledger};
+    ghost use Rattle.dsn_ledger.specs.OpenLedger.{AwaitsRequests, Ledger};
 
     ghost Value = { Ledger D };
 

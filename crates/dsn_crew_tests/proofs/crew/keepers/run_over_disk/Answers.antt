@@ -1,13 +1,13 @@
 -- A ledger that was opened without a base, and awaits nothing, has the history that its records say, as that of an earlier run.
 use Rattle.std.proofs.Common.{rules, ◌≡◌, ℕ, [], sym, subst, true}
-use Rattle.dsn_journal.specs.EarlierRuns.{of_earlier_run}
-use Rattle.dsn_journal.specs.Header.{StandsForFile}
-use Rattle.dsn_journal.specs.InPlace.{IsLedgerInPlaceOf}
+use Rattle.dsn_ledger.specs.EarlierRuns.{of_earlier_run}
+use Rattle.dsn_ledger.specs.Header.{StandsForFile}
+use Rattle.dsn_ledger.specs.InPlace.{IsLedgerInPlaceOf}
 use Rattle.dsn_journal.specs.Journal.{IsSettled}
-use Rattle.dsn_journal.specs.OpenLedger.{AwaitsRequests, Ledger}
+use Rattle.dsn_ledger.specs.OpenLedger.{AwaitsRequests, Ledger}
 use Rattle.dsn_fakes.specs.contracts.memory_disk.MemoryDiskDisk.TheImpl as memory
-use Rattle.dsn_journal.proofs.Goodbyes.{kept_to_carry_out}
-use Rattle.dsn_journal.proofs.KeptBooks.{has_kept}
+use Rattle.dsn_ledger.proofs.Goodbyes.{kept_to_carry_out}
+use Rattle.dsn_ledger.proofs.KeptBooks.{has_kept}
 use Rattle.dsn_crew_tests.proofs.crew.keepers.run_over_disk.Goals as goal
 
 pub run_keeper-requires-clause-begins : goal.run_keeper-requires-clause-begins

@@ -2,7 +2,7 @@ use Rattle.std.proofs.Common.{◌≡◌, ◌∙◌, ℕ, ap, refl, sym, subst}
 use Rattle.std.proofs.lemmas.Result.{IfErr-weaker, IfOk-weaker}
 use Rattle.dsn_journal.specs.Marks.{LeavesTheMark, Marks, SayMark}
 use Rattle.dsn_journal.specs.MarkedOutbox.{MarkedOutbox}
-use Rattle.dsn_journal.specs.Posting.{AreToPost}
+use Rattle.dsn_ledger.specs.Posting.{AreToPost}
 use Rattle.dsn_journal.specs.Records.{recovered}
 use Rattle.noticed_lib.specs.daemon.Journaled.{IsMarkOfJournal, LeavesMarksOpened, no_ledger, no_marks}
 use Rattle.noticed_lib.proofs.daemon.JournaledLemmas.{mark_of_opened, marks_refused, no_start, once_opened, only_read, stands_for_all, start_is, untouched, while_opened}

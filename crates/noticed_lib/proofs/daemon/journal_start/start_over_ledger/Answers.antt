@@ -1,6 +1,6 @@
 use Rattle.std.proofs.Common.{rules, ◌≡◌, ◌∙◌, ◌+◌, ◌-◌, ◌^◌, true≢false, ap, sym, subst, arith}
 use Rattle.std.specs.Prelude.{Err, min}
-use Rattle.dsn_journal.specs.InPlace.{ReopensTo}
+use Rattle.dsn_ledger.specs.InPlace.{ReopensTo}
 use Rattle.dsn_journal.specs.Moments.{LeavesOnly}
 use Rattle.dsn_journal.specs.Records.{recovered}
 use Rattle.dsn_book.specs.Book.{Book}

@@ -1,8 +1,8 @@
 use Rattle.std.proofs.Common.{◌≡◌, inl, inr, length, ap, subst, ◌∙◌}
 use Rattle.std.specs.Prelude.{IfSome, is_some}
 use Rattle.dsn_crew.specs.Crew.{CrewFault, MayCrashWithin}
-use Rattle.dsn_journal.specs.KeptBook.{keeper_of_ledger}
-use Rattle.dsn_journal.proofs.Goodbyes.{none_to_carry_out}
+use Rattle.dsn_ledger.specs.KeptBook.{keeper_of_ledger}
+use Rattle.dsn_ledger.proofs.Goodbyes.{none_to_carry_out}
 use Rattle.dsn_journal.specs.MarkedOutbox.{MarkedOutbox}
 use Rattle.dsn_journal.specs.Marks.{Marks}
 use Rattle.noticed_lib.specs.daemon.Serve.{WritesFault}

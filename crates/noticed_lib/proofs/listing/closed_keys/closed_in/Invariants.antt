@@ -1,5 +1,5 @@
 use Rattle.std.proofs.Common.{◌≡◌, take}
-use Rattle.dsn_journal.specs.Forgetting.{closed_keys}
+use Rattle.dsn_ledger.specs.Forgetting.{closed_keys}
 use Rattle.noticed_lib.proofs.listing.closed_keys.closed_in.Given as goal
 
 abbrev pub invariant-loop-entry : goal.invariant-loop-entry

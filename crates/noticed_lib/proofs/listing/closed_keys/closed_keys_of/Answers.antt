@@ -1,7 +1,7 @@
 use Rattle.std.proofs.Common.{List, ◌∙◌, ap, subst, sym}
 use Rattle.std.specs.Prelude.{IsPermutation}
 use Rattle.std.proofs.lemmas.List.Sorted.{IsPermutation-trans}
-use Rattle.dsn_journal.specs.Forgetting.{closed_keys}
+use Rattle.dsn_ledger.specs.Forgetting.{closed_keys}
 use Rattle.dsn_text.specs.Key.{key_cmp}
 use Rattle.dsn_text.specs.declared.key.Key.{Key}
 use Rattle.noticed_lib.proofs.listing.ClosedKeysLemmas.{closed_keys-represented, sorted-as, when-good}

@@ -1,7 +1,7 @@
 -- All letters were posted, so none is left under the mark that counts them all.
 use Rattle.std.proofs.Common.{◌≡◌, ◌+◌, [], subst, sym, ◌∙◌}
 use Rattle.std.proofs.lemmas.List.{append-nil}
-use Rattle.dsn_journal.specs.Header.{StandsForFile}
+use Rattle.dsn_ledger.specs.Header.{StandsForFile}
 use Rattle.dsn_journal.specs.Records.{recovered}
 use Rattle.probe.proofs.journal.taking.Taking.shortened.Goals as goal
 

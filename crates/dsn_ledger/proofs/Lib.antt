@@ -1,0 +1,30 @@
+mod Adding
+mod Awaiting
+mod Beginning
+mod Blindness
+mod CarryingOut
+mod CompactionExamples
+mod DamageExamples
+mod EarlierRuns
+mod FileExamples
+mod ForgettingExamples
+mod GoingOn
+pub mod Goodbyes
+mod Heading
+mod Keeping
+mod KeptBookExamples
+pub mod KeptBooks
+mod LaterMarks
+mod Leading
+mod LedgerExamples
+pub mod LedgersInPlace
+mod LettersGoOn
+mod LettersToPost
+mod MakingRoom
+mod OneHistory
+mod OpenOnesLeft
+mod ShorterFiles
+mod SnapshotBooks
+mod SnapshotExamples
+mod Snapshots
+mod WithinLimits

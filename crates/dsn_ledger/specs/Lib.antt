@@ -1,0 +1,15 @@
+pub mod Compacted
+pub mod Compaction
+pub mod EarlierRuns
+pub mod Forgetting
+pub mod Header
+pub mod InPlace
+pub mod KeepError
+pub mod KeptBook
+pub mod Ledger
+pub mod LedgerError
+pub mod OpenLedger
+pub mod Opening
+pub mod Posting
+pub mod Snapshot
+pub mod inner

@@ -1,0 +1,4 @@
+pub mod Failures
+pub mod Posting
+pub mod Records
+pub mod Snapshot

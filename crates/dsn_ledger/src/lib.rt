@@ -1,0 +1,29 @@
+//! A book over a journal, whose requests are kept before they are carried out. It is opened again
+//! with the same logs, and with the letters that no mark counts.
+#![tactic(auto)]
+
+mod compacting;
+mod compacting_marked;
+mod forgetting;
+mod header;
+mod keep_error;
+mod kept;
+mod kept_book;
+mod laws;
+mod ledger;
+mod ledger_error;
+mod making_room;
+mod new_file;
+mod opening;
+mod replay;
+mod snapshot;
+
+pub use keep_error::KeepError;
+pub use kept_book::KeptBook;
+pub use laws::{
+    books_over_snapshots_are_in_place, histories_in_place_go_on_alike,
+    ledgers_have_earlier_histories, ledgers_have_one_history, snapshots_are_in_place,
+};
+pub use ledger::Ledger;
+pub use ledger_error::{LedgerError, LedgerNotOpened};
+pub use opening::{Opened, open};

@@ -1,5 +1,5 @@
 mod Adding
-mod Awaiting
+pub mod Awaiting
 mod Beginning
 mod Blindness
 mod CarryingOut
@@ -11,6 +11,7 @@ mod ForgettingExamples
 mod GoingOn
 pub mod Goodbyes
 mod Heading
+pub mod JournalFolderLemmas
 mod Keeping
 mod KeptBookExamples
 pub mod KeptBooks

@@ -4,6 +4,7 @@ pub mod EarlierRuns
 pub mod Forgetting
 pub mod Header
 pub mod InPlace
+pub mod JournalFolder
 pub mod KeepError
 pub mod KeptBook
 pub mod Ledger

@@ -2,3 +2,4 @@ pub mod BatchLemmas
 pub mod MemoryLemmas
 pub mod ReadingLemmas
 pub mod RunLemmas
+pub mod SteadyLemmas

@@ -2,5 +2,3 @@ pub mod batch_run
 pub mod client
 pub mod daemon
 pub mod inner
-pub mod listing
-pub mod notes

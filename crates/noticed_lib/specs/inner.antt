@@ -1,4 +1,3 @@
-pub mod CopiedFolder
 pub mod Daemon
 pub mod Harvest
 pub mod NotedAnswers

@@ -1,12 +1,10 @@
 //! The daemon as a library: `batch` runs the requests of one input, `serve` those of agents that
-//! connect to a socket, `send` is such an agent's part, and `list_journal` tells what a journal holds.
+//! connect to a socket, `send` is such an agent's part, and `list_journal` (dsn_listing) prints what a journal holds.
 #![tactic(auto)]
 
 mod batch_run;
 mod client;
 mod daemon;
-mod listing;
-mod notes;
 
 pub use batch_run::{BatchEnd, MemoryRun, batch, batch_bytes};
 pub use client::{SendEnd, send, sends_are_sessions_of_a_client};
@@ -15,5 +13,5 @@ pub use daemon::{
     serve_journaled, serve_watched,
 };
 pub use dsn_book::Limits;
+pub use dsn_listing::{ListingFault, list_journal};
 pub use dsn_report::Site;
-pub use listing::{ListingFault, list_journal};

@@ -17,10 +17,10 @@ use Rattle.dsn_outcome.specs.History.{Limits, held_after, history_after, history
 use Rattle.dsn_device.specs.UntilFailure.{Sent, counts_failure}
 use Rattle.dsn_report.specs.Outgoing.{Outgoing, Delivered}
 use Rattle.noticed_lib.proofs.batch_run.RunLemmas.{letters-none, replies-none}
-use Rattle.noticed_lib.proofs.notes.SteadyLemmas.{steady-none, steady-then}
+use Rattle.noticed_lib.proofs.batch_run.SteadyLemmas.{steady-none, steady-then}
 use Rattle.noticed_lib.specs.batch_run.Batch.{ended_with, NotesSent, IsBatch}
 use Rattle.noticed_lib.specs.inner.Harvest.{Harvested, Ended}
-use Rattle.noticed_lib.specs.notes.Notes.{answer_line, answer_lines_from}
+use Rattle.dsn_notes.specs.Notes.{answer_line, answer_lines_from}
 use Rattle.noticed_lib.specs.inner.ReadingEnd.{reading_code, is_notes_lost, is_read_failed}
 use Rattle.noticed_lib.specs.batch_run.Requests.{batch_requests_from, requests_of}
 use Rattle.dsn_frame.specs.SentAnswers.{AnswersSent}

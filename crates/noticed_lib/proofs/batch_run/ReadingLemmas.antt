@@ -15,10 +15,10 @@ use Rattle.dsn_frame.specs.Session.{Input, Takes, written, IsSession}
 use Rattle.dsn_frame.proofs.SentAnswersLemmas.{length-more, sent-more, sent-lost}
 use Rattle.dsn_frame.proofs.SessionLemmas.{session_begun, session_more, session_stopped, session_unwritten}
 use Rattle.dsn_report.specs.Outgoing.{StaysSteady}
-use Rattle.noticed_lib.proofs.notes.NotesLemmas.{answer_lines_from-more}
+use Rattle.dsn_notes.proofs.NotesLemmas.{answer_lines_from-more}
 use Rattle.noticed_lib.proofs.batch_run.RunLemmas.{replies-none, requests-more, requests-length}
-use Rattle.noticed_lib.proofs.notes.SteadyLemmas.{steady-none, steady-then}
-use Rattle.noticed_lib.specs.notes.Notes.{answer_line, answer_lines_from}
+use Rattle.noticed_lib.proofs.batch_run.SteadyLemmas.{steady-none, steady-then}
+use Rattle.dsn_notes.specs.Notes.{answer_line, answer_lines_from}
 use Rattle.noticed_lib.specs.inner.Reading.{HeardSoFar, Heard}
 use Rattle.noticed_lib.specs.inner.ReadingEnd.{reading_code, is_notes_lost, is_read_failed}
 use Rattle.noticed_lib.specs.batch_run.Requests.{requests_of}

@@ -22,9 +22,8 @@ use Rattle.dsn_outcome.proofs.HistoryLaws.{history_more, letters_more, answers_m
 use Rattle.dsn_frame.specs.declared.bodies.spoken.Spoken.{Spoken}
 use Rattle.dsn_frame.specs.Session.{Input, Takes, asked}
 use Rattle.noticed_lib.specs.batch_run.Requests.{batch_requests_from, requests_of, AreReplies}
-use Rattle.noticed_lib.specs.inner.Run.{next_request, replied_next}
+use Rattle.noticed_lib.specs.inner.Run.{next_request, replied_next, Stands, Asks, Answered, end_after}
 use Rattle.dsn_report.specs.Outgoing.{Delivered, Outgoing}
-use Rattle.noticed_lib.specs.inner.Run.{Stands, Asks, Answered, end_after}
 use Rattle.noticed_lib.specs.declared.batch_run.turn.Turn.{Turn}
 use Rattle.noticed_lib.specs.declared.batch_run.run.Run.{Run}
 use Rattle.dsn_frame.specs.declared.bodies.spoken.Spoken.TheVariants as spoken

@@ -5,7 +5,7 @@ use Rattle.dsn_outcome.specs.History.{plain}
 use Rattle.dsn_outcome.specs.declared.answer.Reply.TheVariants.{Logged}
 use Rattle.dsn_frame.specs.bodies.Spoken.{answer_body, answer_bytes, answer_frames_from}
 use Rattle.dsn_frame.specs.declared.bodies.spoken.Spoken.TheVariants.{Refused, Reply}
-use Rattle.noticed_lib.specs.notes.Notes.{answer_line, answer_lines_from, spoken_words}
+use Rattle.dsn_notes.specs.Notes.{answer_line, answer_lines_from, spoken_words}
 use Rattle.noticed_lib.specs.client.Send.{Known, Sends}
 use Rattle.noticed_lib.specs.client.SendLaws.{Sees}
 use Rattle.noticed_lib.specs.declared.client.send_fault.SendFault.TheVariants.{NotesLost, OutOfTurn, TooMany}

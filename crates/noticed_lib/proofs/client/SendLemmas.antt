@@ -18,8 +18,8 @@ use Rattle.dsn_frame.specs.Frame.{ReadsNext, ReadsNone}
 use Rattle.dsn_frame.specs.declared.frame_fault.FrameFault.{FrameFault}
 use Rattle.dsn_frame.proofs.SessionFrames.{all_both}
 use Rattle.dsn_frame.proofs.SentAnswersLemmas.{length-more}
-use Rattle.noticed_lib.proofs.notes.NotesLemmas.{answer_lines_from-more}
-use Rattle.noticed_lib.specs.notes.Notes.{answer_line, answer_lines_from}
+use Rattle.dsn_notes.proofs.NotesLemmas.{answer_lines_from-more}
+use Rattle.dsn_notes.specs.Notes.{answer_line, answer_lines_from}
 use Rattle.noticed_lib.specs.client.Ask.{IsAsked}
 use Rattle.dsn_device.proofs.CountsLemmas.{counts-none, counts-then}
 use Rattle.dsn_device.specs.Counts.{Counts}

@@ -5,7 +5,7 @@ use Rattle.std.proofs.Math.Seq.{take-suc}
 use Rattle.std.proofs.lemmas.List.{length-take-le}
 use Rattle.dsn_crew.specs.declared.agents.agent_line.AgentLine.{AgentLine}
 use Rattle.dsn_outcome.specs.Letter.{Letter}
-use Rattle.noticed_lib.specs.notes.Notes.{end_lines, fault_line, fault_lines, outbox_lines, open_lines, unsent_lines}
+use Rattle.dsn_notes.specs.Notes.{end_lines, fault_line, fault_lines, outbox_lines, open_lines, unsent_lines}
 use Rattle.noticed_lib.specs.daemon.AgentLines.{agent_line, agent_lines, agent_lines_from, number_lines}
 
 -- one more agent is one more line, at the end

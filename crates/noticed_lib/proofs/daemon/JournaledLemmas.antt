@@ -40,7 +40,7 @@ use Rattle.dsn_journal.proofs.Moments.{joined, started, weaker}
 use Rattle.dsn_report.specs.Outgoing.{Delivered, Outgoing}
 use Rattle.noticed_lib.specs.inner.Daemon.{BeginsAnew, IsNoStartOverLedger, IsStartOverLedger, WhyNoStart, of_journal, of_letters, of_outbox}
 use Rattle.noticed_lib.specs.daemon.Journaled.{HasPostedFirst, IsNoStart, IsPostedFirst, IsMarkOfJournal, IsStartOver, LeavesMarksOpened, LeavesStart, StartsWith, marking_drain, no_outbox, not_put_away, too_many_letters}
-use Rattle.noticed_lib.specs.listing.Folder.{AreMarksRefusedFor, IsOnlyRead}
+use Rattle.dsn_ledger.specs.JournalFolder.{AreMarksRefusedFor, IsOnlyRead}
 
 -- letters before no others are all of them
 pub none_left : {A : Type 0} (all done rest : List A) → all ≡ done ++ rest → length rest ≡ 0 → done ≡ all

@@ -10,8 +10,8 @@ use Rattle.dsn_device.specs.Failures.{counted}
 use Rattle.dsn_text.specs.FaultCode.{notes_write_code, read_failed_code}
 use Rattle.dsn_outcome.specs.History.{Limits, history_of, sealed_letters}
 use Rattle.dsn_outcome.specs.Request.{Body}
-use Rattle.noticed_lib.specs.notes.OpenLogs.{AreOpenLines}
-use Rattle.noticed_lib.specs.notes.Notes.{answer_line, answer_lines_from, end_lines}
+use Rattle.dsn_notes.specs.OpenLogs.{AreOpenLines}
+use Rattle.dsn_notes.specs.Notes.{answer_line, answer_lines_from, end_lines}
 use Rattle.dsn_report.specs.Outgoing.{StaysSteady, IsOutbox}
 use Rattle.noticed_lib.specs.batch_run.Requests.{AreReplies, requests_of}
 use Rattle.dsn_frame.specs.SentAnswers.{LosesLast}

@@ -11,7 +11,7 @@ use Rattle.dsn_frame.specs.bodies.FrameBody.{frame, IsFrameBody}
 use Rattle.dsn_frame.specs.bodies.Spoken.{FitsAnswer, answer_frames_from}
 use Rattle.dsn_frame.specs.declared.bodies.spoken.Spoken.{Spoken}
 use Rattle.dsn_frame.specs.Frame.{ReadsNext, ReadsNone}
-use Rattle.noticed_lib.specs.notes.Notes.{answer_line, answer_lines_from}
+use Rattle.dsn_notes.specs.Notes.{answer_line, answer_lines_from}
 use Rattle.noticed_lib.specs.client.Ask.{IsAsked}
 use Rattle.dsn_device.specs.Counts.{Counts}
 use Rattle.noticed_lib.specs.client.SendFault.{send_fault_code, is_input_failed, is_notes_failed, is_connection_failed}

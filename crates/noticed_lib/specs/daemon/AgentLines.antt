@@ -6,7 +6,7 @@ use Rattle.dsn_book.specs.declared.open_line.OpenLine.{OpenLine}
 use Rattle.dsn_crew.specs.Crew.{Account}
 use Rattle.dsn_crew.specs.declared.agents.agent_line.AgentLine.{AgentLine}
 use Rattle.dsn_outcome.specs.Letter.{Letter}
-use Rattle.noticed_lib.specs.notes.Notes.{end_lines, fault_line, unsent_lines}
+use Rattle.dsn_notes.specs.Notes.{end_lines, fault_line, unsent_lines}
 
 -- the line of an agent: how many requests it made, how many connections it served, and how many of
 -- them ended with a fault

@@ -39,7 +39,7 @@ use Rattle.dsn_text.specs.FaultCode.{journal_full_code, outbox_write_code}
 use Rattle.dsn_report.specs.Outgoing.{Outgoing}
 use Rattle.noticed_lib.specs.daemon.SocketUses.{socket_port}
 use Rattle.noticed_lib.specs.daemon.Serve.{WritesAccount, WritesFault, WritesNumber}
-use Rattle.noticed_lib.specs.listing.Folder.{AreMarksRefusedFor, HasHistory, HaveMark, IsJournalRefusedFor, IsOnlyRead}
+use Rattle.dsn_ledger.specs.JournalFolder.{AreMarksRefusedFor, HasHistory, HaveMark, IsJournalRefusedFor, IsOnlyRead}
 use Rattle.noticed_lib.specs.declared.daemon.serve_end.ServeEnd.{ServeEnd}
 
 -- a history that a start over this file begins with, as one of earlier runs

@@ -12,7 +12,7 @@ use Rattle.dsn_device.specs.UntilFailure.{WritesUntilFailure}
 use Rattle.dsn_device.specs.declared.drain.Drain.{Ghosts as Drain}
 use Rattle.dsn_outcome.specs.History.{Exchange, Limits, history_of}
 use Rattle.dsn_outcome.specs.Letter.{Letter}
-use Rattle.noticed_lib.specs.notes.OpenLogs.{AreOpenLines}
+use Rattle.dsn_notes.specs.OpenLogs.{AreOpenLines}
 use Rattle.noticed_lib.specs.daemon.AgentLines.{account_lines, number_lines, port_fault}
 use Rattle.noticed_lib.specs.daemon.SocketUses.{socket_port}
 use Rattle.noticed_lib.specs.declared.daemon.serve_end.ServeEnd.{ServeEnd}

@@ -29,7 +29,7 @@ use Rattle.dsn_text.specs.FaultCode.{journal_full_code, outbox_write_code}
 use Rattle.noticed_lib.specs.daemon.AgentLines.{run_lines}
 use Rattle.noticed_lib.specs.daemon.Journaled.{marking_drain}
 use Rattle.noticed_lib.specs.daemon.Serve.{run_status}
-use Rattle.noticed_lib.specs.notes.OpenLogs.{AreOpenLines}
+use Rattle.dsn_notes.specs.OpenLogs.{AreOpenLines}
 
 -- a run may begin with a ledger: after some history of earlier runs, and after each that it is in
 -- place of, as one of earlier runs

@@ -11,8 +11,8 @@ use Rattle.dsn_outcome.specs.History.{Limits, history_of, sealed_letters}
 use Rattle.dsn_outcome.specs.Letter.{Letter}
 use Rattle.dsn_outcome.specs.Request.{Body}
 use Rattle.noticed_lib.specs.batch_run.Batch.{status_of}
-use Rattle.noticed_lib.specs.notes.OpenLogs.{AreOpenLines}
-use Rattle.noticed_lib.specs.notes.Notes.{end_lines}
+use Rattle.dsn_notes.specs.OpenLogs.{AreOpenLines}
+use Rattle.dsn_notes.specs.Notes.{end_lines}
 use Rattle.dsn_report.specs.Outgoing.{Delivered, IsOutbox, Outgoing}
 use Rattle.noticed_lib.specs.batch_run.Requests.{AreReplies, requests_of}
 use Rattle.noticed_lib.specs.inner.NotedAnswers.{AnswersNoted}

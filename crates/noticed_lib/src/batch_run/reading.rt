@@ -7,8 +7,8 @@ ghost use Rattle.noticed_lib.specs.inner.Run.{Stands};
 
 use crate::batch_run::reading_end::ReadingEnd;
 use crate::batch_run::run::Run;
-use crate::notes::answer_line;
 use dsn_frame::FrameBuffer;
+use dsn_notes::answer_line;
 use dsn_outcome::{Drain, Source, send};
 use std::alloc::Global;
 

@@ -9,9 +9,9 @@ ghost use Rattle.noticed_lib.specs.client.SendFault.{is_connection_failed};
 
 use crate::client::send_end::SendEnd;
 use crate::client::send_fault::SendFault;
-use crate::notes::answer_line;
 use dsn_device::{Drain, Source, Stream};
 use dsn_frame::{FrameBuffer, FrameRef, Spoken, decode_answer};
+use dsn_notes::answer_line;
 use std::alloc::Global;
 use std::sync::Wait;
 

@@ -1,5 +1,5 @@
 use Rattle.std.proofs.lemmas.Result.{IfOk-weaker}
-use Rattle.noticed_lib.proofs.notes.OpenLogsLemmas.{AreOpenLines-listed}
+use Rattle.dsn_notes.proofs.OpenLogsLemmas.{AreOpenLines-listed}
 use Rattle.noticed_lib.proofs.batch_run.RunLemmas.{stands-nothing}
 use Rattle.noticed_lib.proofs.batch_run.whole_batch.read_into.Goals as goal
 

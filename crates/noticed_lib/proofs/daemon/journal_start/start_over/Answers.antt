@@ -6,7 +6,7 @@ use Rattle.dsn_ledger.specs.Posting.{AreToPost}
 use Rattle.dsn_journal.specs.Records.{recovered}
 use Rattle.noticed_lib.specs.daemon.Journaled.{IsMarkOfJournal, LeavesMarksOpened, no_ledger, no_marks}
 use Rattle.noticed_lib.proofs.daemon.JournaledLemmas.{mark_of_opened, marks_refused, no_start, once_opened, only_read, stands_for_all, start_is, untouched, while_opened}
-use Rattle.noticed_lib.proofs.listing.CopiedFolderLemmas.{journal_refused}
+use Rattle.dsn_ledger.proofs.JournalFolderLemmas.{journal_refused}
 use Rattle.noticed_lib.proofs.daemon.journal_start.start_over.Goals as goal
 
 pub returns-in-Ok-open-clause-start : goal.returns-in-Ok-open-clause-start

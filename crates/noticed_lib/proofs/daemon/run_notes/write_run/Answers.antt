@@ -1,6 +1,6 @@
 use Rattle.std.proofs.lemmas.Result.{IfOk-weaker}
 use Rattle.dsn_device.proofs.UntilFailureLemmas.{writes-as, writes-then}
-use Rattle.noticed_lib.proofs.notes.OpenLogsLemmas.{AreOpenLines-listed, is_none-listed}
+use Rattle.dsn_notes.proofs.OpenLogsLemmas.{AreOpenLines-listed, is_none-listed}
 use Rattle.noticed_lib.specs.daemon.AgentLines.{run_lines}
 use Rattle.noticed_lib.proofs.daemon.run_notes.write_run.Goals as goal
 

@@ -1,0 +1,3 @@
+mod ClosedKeysLemmas
+mod CopiedFolderLemmas
+mod ListingLemmas

@@ -1,0 +1,4 @@
+pub mod Listing
+pub mod ListingFault
+pub mod ListingLines
+pub mod inner

@@ -1,0 +1,27 @@
+-- Copies of disks.
+use Rattle.std.specs.Prelude.{ℕ, List, ◌≡◌, length}
+use Rattle.dsn_book.specs.Book.{Represents}
+use Rattle.dsn_ledger.specs.Header.{with_header}
+use Rattle.dsn_ledger.specs.Posting.{to_post}
+use Rattle.dsn_journal.specs.Records.{encoded, recovered}
+use Rattle.dsn_ledger.specs.declared.opening.Opened.{Opened}
+use Rattle.dsn_outcome.specs.History.{Limits, Exchange, sealed_letters}
+use Rattle.dsn_listing.specs.declared.copied_disk.CopiedDisk.{CopiedDisk}
+use Rattle.dsn_ledger.specs.JournalFolder.{HasHistory}
+
+-- what is read of a copy
+abbrev pub copied_seen : CopiedDisk → List ℕ
+copied_seen copy = copy.bytes.items
+
+-- what was opened over a copy of a journal: the journal's base, a book that stands for its history,
+-- the letters that the mark doesn't count, and the bytes that its records and the file have
+pub record IsOpenedCopy (limits : Limits) (mark : ℕ) (journal : List ℕ)
+    (opened : Opened CopiedDisk) : Type 0 where
+  pub history : List Exchange
+  pub has : HasHistory limits mark journal opened.ledger.base history
+  pub stands : Represents opened.ledger.book history
+  pub letters_are : opened.letters.items
+      ≡ to_post opened.ledger.base mark (sealed_letters history)
+  pub used_is : opened.ledger.journal.used
+      ≡ length (encoded (with_header limits (recovered journal)))
+  pub size_is : length (copied_seen opened.ledger.journal.disk) ≡ length journal

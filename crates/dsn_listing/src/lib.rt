@@ -1,0 +1,14 @@
+//! What a journal's folder holds, written in lines. Both files are only read: each is opened over a
+//! copy in memory.
+#![tactic(auto)]
+
+mod closed_keys;
+mod copied_disk;
+mod copied_folder;
+mod journal_listing;
+mod listing_fault;
+mod listing_lines;
+mod listing_texts;
+
+pub use journal_listing::list_journal;
+pub use listing_fault::ListingFault;

@@ -1,0 +1,2 @@
+pub mod NotesLemmas
+pub mod OpenLogsLemmas

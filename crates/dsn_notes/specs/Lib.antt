@@ -1,0 +1,4 @@
+pub mod Lengths
+pub mod Notes
+pub mod OpenLogs
+pub mod inner

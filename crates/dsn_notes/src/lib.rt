@@ -1,0 +1,8 @@
+//! The notes of a run: what is said of it, line by line, and the lines of its end.
+#![tactic(auto)]
+
+mod last_lines;
+mod note_lines;
+
+pub use last_lines::{status_of, write_last_lines, write_open_lines};
+pub use note_lines::{answer_line, fault_line, push_key, unsent_line};

@@ -1,3 +1,0 @@
-pub mod ClosedKeysLemmas
-pub mod CopiedFolderLemmas
-pub mod ListingLemmas

@@ -1,6 +1,0 @@
-use Rattle.std.proofs.Common.{◌≡◌, take}
-use Rattle.dsn_ledger.specs.Forgetting.{closed_keys}
-use Rattle.noticed_lib.proofs.listing.closed_keys.closed_in.Given as goal
-
-abbrev pub invariant-loop-entry : goal.invariant-loop-entry
-invariant-loop-entry l = l.keys.items ≡ closed_keys (take l.entry-index l.entries)

@@ -1,8 +1,0 @@
-use Rattle.std.proofs.Common.{take}
-use Rattle.dsn_device.specs.UntilFailure.{WritesUntilFailure}
-use Rattle.noticed_lib.specs.listing.ListingLines.{unmarked_lines}
-use Rattle.noticed_lib.proofs.listing.listing_lines.write_unmarked_lines.Given as goal
-
-abbrev pub invariant-loop-letter : goal.invariant-loop-letter
-invariant-loop-letter g l =
-    WritesUntilFailure g.N.Drain l.initial.writing.failed l.writing.failed l.initial.lines l.lines (unmarked_lines (take l.letter-index l.letters))

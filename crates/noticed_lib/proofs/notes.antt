@@ -1,3 +1,0 @@
-pub mod NotesLemmas
-pub mod OpenLogsLemmas
-pub mod SteadyLemmas

@@ -1,9 +1,0 @@
-use Rattle.std.proofs.Common.{take}
-use Rattle.std.specs.List.{flat_map}
-use Rattle.dsn_device.specs.UntilFailure.{WritesUntilFailure}
-use Rattle.noticed_lib.specs.notes.Notes.{open_line}
-use Rattle.noticed_lib.proofs.notes.last_lines.write_open_lines.Given as goal
-
-abbrev pub invariant-loop-line : goal.invariant-loop-line
-invariant-loop-line g l =
-    WritesUntilFailure g.N.Drain l.initial.writing.failed l.writing.failed l.initial.notes l.notes (flat_map open_line (take l.line-index l.lines))

@@ -1,4 +1,0 @@
-pub mod Folder
-pub mod Listing
-pub mod ListingFault
-pub mod ListingLines

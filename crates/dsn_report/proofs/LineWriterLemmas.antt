@@ -1,10 +1,8 @@
 -- The effect of several texts on a writer of lines is that of the joined text.
-use Rattle.std.proofs.Common.{◌≡◌, ℕ, ◌+◌, ◌-◌, ◌<◌, ◌&&◌, if◌then◌else◌, codes, Bool, true, false, List, [], ◌∷◌, ◌++◌, drop, length, take, get_or, map, refl, sym, ap, subst, ◌∙◌, append_assoc, append-nil, add-one}
+use Rattle.std.proofs.Common.{◌≡◌, ℕ, ◌-◌, ◌&&◌, if◌then◌else◌, codes, Bool, true, false, List, [], ◌∷◌, ◌++◌, drop, length, take, map, refl, sym, ap, subst, ◌∙◌, append_assoc, append-nil}
 use Rattle.std.specs.Prelude.{◌==◌}
-use Rattle.std.specs.List.{flat_map, list_any}
-use Rattle.std.proofs.Math.Seq.{take-suc}
+use Rattle.std.specs.List.{list_any}
 use Rattle.std.proofs.lemmas.Bool.{or_parts}
-use Rattle.std.proofs.lemmas.Grind.{flat_map-append}
 use Rattle.std.proofs.lemmas.List.{map-append, take_rest}
 use Rattle.dsn_device.proofs.UntilFailureLemmas.{writes-none, writes-then}
 use Rattle.dsn_device.specs.QuietWriter.{Writes}
@@ -79,13 +77,7 @@ module _ {W : Type 0} {device : Drain W} where
   pub Wrote-same : {X : Type 0} (lines : X → List (List ℕ)) (y : X) {x : X} {s t : LineWriter W} → x ≡ y → Wrote device s t (lines x) → Wrote device s t (lines y)
   Wrote-same lines y {x} {s} {t} e p = subst (λ it. Wrote device s t (lines it)) e p
 
--- the text of the first pieces of a line, and of one more
-pub flat_map-take-more : {X : Type 0} (f : X → List ℕ) (xs : List X) (i : ℕ) (d : X) → i < length xs
-    → flat_map f (take i xs) ++ f (get_or xs i d) ≡ flat_map f (take (i + 1) xs)
-flat_map-take-more f xs i d within =
-    rw (add-one, take-suc xs i d within, flat_map-append) (simp append-nil refl)
-
--- if no line begins with a dot, no dots are added
+-- lines of which none begins with a dot get no dots
 dots-none : (lines : List (List ℕ)) → list_any begins_with_dot lines ≡ false → map dot_stuffed lines ≡ lines
 unfolding dot_stuffed
 dots-none [] none = refl

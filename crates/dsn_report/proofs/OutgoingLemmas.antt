@@ -6,6 +6,7 @@ use Rattle.std.proofs.KnownBytes.{Appends-trans}
 use Rattle.std.specs.List.{flat_map}
 use Rattle.std.proofs.lemmas.List.{append-nil}
 use Rattle.std.proofs.lemmas.Grind.{flat_map-append}
+use Rattle.dsn_device.proofs.FlatMapLemmas.{flat_map-more}
 use Rattle.dsn_outcome.specs.Letter.{Letter}
 use Rattle.dsn_device.specs.Failures.{counted}
 use Rattle.dsn_device.specs.Flushes.{flushed, flushed_times}
@@ -21,12 +22,6 @@ use Rattle.dsn_report.specs.declared.post_fault.PostFault.{PostFault}
 use Rattle.dsn_report.specs.Outbox.{greeting, goodbye, mail_transaction, outbox_of}
 use Rattle.dsn_report.specs.Poster.{Poster, post_text, finish_text, post_fault, letter_handed_back}
 use Rattle.dsn_report.specs.Outgoing.{written_of, are_some, text_until, AppendsAtLeast, FailedIn, in_text, at_flush, at_mark, MarksAllOf, MarksFirstOf, SayCountOfFirst, marked_with, FrontWritten, StaysSteady, Delivered, IsOutbox}
-
-pub flat_map-more : {A : Type 0} (f : A → List ℕ) (xs : List A) (x : A) → flat_map f (xs ++ x ∷ []) ≡ flat_map f xs ++ f x
-flat_map-more f [] x = append-nil (f x)
-flat_map-more f (first ∷ rest) x =
-    let more = flat_map-more f rest x in
-    rw more (simp append_assoc)
 
 -- the text of one more letter, if the greeting is written
 pub written_of-more : (host : List ℕ) (letters : List Letter) (letter : Letter) → written_of host true (letters ++ letter ∷ []) ≡ written_of host true letters ++ mail_transaction host letter

@@ -1,7 +1,7 @@
 use Rattle.std.proofs.Common.{sym, subst, rules}
 use Rattle.dsn_device.proofs.UntilFailureLemmas.{writes-none, writes-then}
 use Rattle.dsn_device.specs.UntilFailure.{WritesUntilFailure}
-use Rattle.dsn_report.proofs.LineWriterLemmas.{flat_map-take-more}
+use Rattle.dsn_device.proofs.FlatMapLemmas.{flat_map-take-more}
 use Rattle.dsn_listing.specs.ListingLines.{closed_line, closed_lines}
 use Rattle.dsn_listing.proofs.listing_lines.write_closed_lines.Goals as goal
 

@@ -1,6 +1,6 @@
 use Rattle.std.proofs.Common.{sym}
 use Rattle.dsn_device.proofs.UntilFailureLemmas.{writes-none, writes-then}
-use Rattle.dsn_report.proofs.LineWriterLemmas.{flat_map-take-more}
+use Rattle.dsn_device.proofs.FlatMapLemmas.{flat_map-take-more}
 use Rattle.dsn_listing.specs.ListingLines.{unmarked_line, unmarked_lines}
 use Rattle.dsn_listing.proofs.listing_lines.write_unmarked_lines.Goals as goal
 

@@ -1,6 +1,6 @@
 use Rattle.std.proofs.Common.{refl, append_assoc, ◌∙◌, [], ◌∷◌}
 use Rattle.dsn_device.proofs.UntilFailureLemmas.{writes-none, writes-then}
-use Rattle.dsn_report.proofs.OutgoingLemmas.{flat_map-more}
+use Rattle.dsn_device.proofs.FlatMapLemmas.{flat_map-more}
 use Rattle.dsn_notes.specs.Notes.{unsent_lines}
 use Rattle.dsn_notes.proofs.last_lines.write_unsent.Goals as goal
 

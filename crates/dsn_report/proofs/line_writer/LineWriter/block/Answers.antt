@@ -1,6 +1,7 @@
 use Rattle.std.proofs.Common.{ℕ, List, Bor, arith, ap, ◌∙◌, take_all}
 use Rattle.std.specs.List.{flat_map}
-use Rattle.dsn_report.proofs.LineWriterLemmas.{Took-as, Took-then, block_text, flat_map-take-more}
+use Rattle.dsn_device.proofs.FlatMapLemmas.{flat_map-take-more}
+use Rattle.dsn_report.proofs.LineWriterLemmas.{Took-as, Took-then, block_text}
 use Rattle.dsn_report.proofs.line_writer.LineWriter.block.Goals as goal
 
 pub loop-piece-preserved : goal.loop-piece-preserved

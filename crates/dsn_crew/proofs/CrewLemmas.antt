@@ -27,6 +27,7 @@ use Rattle.dsn_crew.specs.post.LetterSink.{LetterSink, TakesLetter}
 use Rattle.dsn_device.proofs.ThroughoutLemmas.{stands_still}
 use Rattle.dsn_crew.specs.inner.Posting.{IsPosted}
 use Rattle.dsn_crew.specs.post.Posting.{IsUntouched}
+use Rattle.dsn_crew.specs.declared.lane.lane_gone.LaneGone.{LaneGone}
 use Rattle.dsn_crew.specs.declared.post.posted.Posted.{Posted}
 use Rattle.dsn_crew.proofs.post.LetterSinkLemmas.{handed_letters}
 use Rattle.dsn_crew.proofs.post.ParcelLemmas.{option_few}
@@ -37,7 +38,7 @@ use Rattle.dsn_crew.specs.desk.Close.{IsHeard}
 use Rattle.dsn_crew.specs.inner.Breach.{stop_cause}
 use Rattle.dsn_crew.specs.inner.CollectorResult.{IsCollectorResult}
 use Rattle.dsn_crew.specs.inner.Conclude.{Concludes, MayClose, account_of, fault_of, missing_cause}
-use Rattle.dsn_crew.specs.Crew.{Account, AreAgentAccounts, AreSealedAfter, CrewFault, HasAccount, HasFault, IsAccount, IsAccountAfter, IsAgentAccount, IsBrokenOff, IsCrewFault, IsFaultWith, IsHandedBack, IsPostedBy, MayCrashWithin, PostedBefore, StandsAtFault, none_posted}
+use Rattle.dsn_crew.specs.Crew.{Account, AreAgentAccounts, AreSealedAfter, CrewFault, HasAccount, HasFault, IsAccount, IsAccountAfter, IsAgentAccount, IsBrokenOff, IsCrewFault, IsCrewRun, IsFaultWith, IsHandedBack, IsPostedBy, MayCrashWithin, PostedBefore, StandsAtFault, none_posted}
 use Rattle.dsn_crew.specs.KeeperHistory.{AreNextOf, BeginsWith, StandsOrRefused}
 use Rattle.dsn_crew.specs.desk.Desk.{Desk, IsDesk, IsRun, all_gone, history, letter_kept, missing as missing_more, places_of}
 use Rattle.dsn_crew.specs.inner.Desk.{IsStopped}
@@ -193,8 +194,8 @@ module _ {B W : Type 0} (keeper : Keeper B) (drain : Drain W) (from : PostedBefo
     sealed_are = sealed_is ∙ (ap (λ (ls : List Letter). ls ++ held) (sym is.came.1) ∙ append_assoc is.letters is.came.0 held);
     few = (let few = is.few in let split = sym (ap length is.came.1) ∙ length-append is.letters is.came.0 in omega arith);
     one = one;
-    whole = posted.whole;
-    unsent = posted.unsent;
+    whole = posted.end.whole;
+    unsent = posted.end.unsent;
     unsent_are = refl;
     outbox = is.outbox from.host from.start from.first by.delivered;
     handed_back = refl;
@@ -214,13 +215,13 @@ module _ {B W : Type 0} (keeper : Keeper B) (drain : Drain W) (from : PostedBefo
   lost_fault fault fault_is =
       subst (λ (it : CrewFault W B). IsFaultWith drain from sent agents it it.cause) (sym fault_is) (broken_off causes.Lost desk.book [] (omega arith) sent (sym (append-nil sent)))
 
-  missing_is : (all : Bool) → posted.all ≡ all → desk.behind ≡ [] → IsFaultWith drain from sent agents (fault_of (missing_cause all) [] desk.book desk posted) (missing_cause all)
-  missing_is true all none = inr (broken_off causes.Refused desk.book [] (omega arith) sent (sym (append-nil sent)), (is.whole.0 all).1, none)
-  missing_is false all none = broken_off causes.Lost desk.book [] (omega arith) sent (sym (append-nil sent))
+  missing_is : (lost : Option LaneGone) → posted.lost ≡ lost → desk.behind ≡ [] → IsFaultWith drain from sent agents (fault_of (missing_cause lost) [] desk.book desk posted) (missing_cause lost)
+  missing_is None unlost none = inr (broken_off causes.Refused desk.book [] (omega arith) sent (sym (append-nil sent)), (is.whole.0 unlost).1, none)
+  missing_is (Some gone) lost none = broken_off causes.Lost desk.book [] (omega arith) sent (sym (append-nil sent))
 
-  pub missing_fault : (fault : CrewFault W B) → fault ≡ fault_of (missing_cause posted.all) [] desk.book desk posted → desk.behind ≡ [] → IsFaultWith drain from sent agents fault fault.cause
+  pub missing_fault : (fault : CrewFault W B) → fault ≡ fault_of (missing_cause posted.lost) [] desk.book desk posted → desk.behind ≡ [] → IsFaultWith drain from sent agents fault fault.cause
   missing_fault fault fault_is none =
-      subst (λ (it : CrewFault W B). IsFaultWith drain from sent agents it it.cause) (sym fault_is) (missing_is posted.all refl none)
+      subst (λ (it : CrewFault W B). IsFaultWith drain from sent agents it it.cause) (sym fault_is) (missing_is posted.lost refl none)
 
 -- a run that never began, with what it was given
 abbrev pub never_begun_with : {B W : Type 0} → CrewCause → W → B → CrewFault W B
@@ -255,7 +256,7 @@ never_begun keeper drain from before agents book outbox fault has same is =
     (sealed_none keeper drain from before agents book outbox causes.Refused has (inl (record { taken = refl; behind = refl; unsent = refl; outbox = untouched drain from.outbox outbox same })))
 
 -- and a crash leaves what it might have left before
-pub never_crashed : {B W : Type 0} (keeper : Keeper B) (before : List Exchange) (agents : ℕ) (cause : CrewCause) (outbox : W) (book : B) (fault : CrewFault W B) → LeavesKept keeper → keeper.has book before [] → fault ≡ never_begun_with cause outbox book → IfSome fault.book (MayCrashWithin keeper book (keeper.limits book) before agents fault.taken fault.behind)
+never_crashed : {B W : Type 0} (keeper : Keeper B) (before : List Exchange) (agents : ℕ) (cause : CrewCause) (outbox : W) (book : B) (fault : CrewFault W B) → LeavesKept keeper → keeper.has book before [] → fault ≡ never_begun_with cause outbox book → IfSome fault.book (MayCrashWithin keeper book (keeper.limits book) before agents fault.taken fault.behind)
 never_crashed keeper before agents cause outbox book fault law has is =
     subst (λ (it : CrewFault _ _). IfSome it.book (MayCrashWithin keeper book (keeper.limits book) before agents it.taken it.behind)) (sym is)
     (record {
@@ -264,8 +265,22 @@ never_crashed keeper before agents cause outbox book fault law has is =
       at_each_moment = none_done keeper book book book (keeper.limits book) before [] law refl has;
     })
 
-pub never_more : {B W : Type 0} (keeper : Keeper B) (cause : CrewCause) (outbox : W) (book : B) (fault : CrewFault W B) → fault ≡ never_begun_with cause outbox book → IfSome fault.book (λ left. keeper.sealed left ≤ keeper.sealed book + length fault.taken)
+never_more : {B W : Type 0} (keeper : Keeper B) (cause : CrewCause) (outbox : W) (book : B) (fault : CrewFault W B) → fault ≡ never_begun_with cause outbox book → IfSome fault.book (λ left. keeper.sealed left ≤ keeper.sealed book + length fault.taken)
 never_more keeper cause outbox book fault is = subst (λ (it : CrewFault _ _). IfSome it.book (λ left. keeper.sealed left ≤ keeper.sealed book + length it.taken)) (sym is) (omega arith)
+
+-- the run that it was
+pub never_ran : {B P S W : Type 0} (keeper : Keeper B) (port : Port P S) (drain : Drain W) (book : B) (ports : List P) (outgoing : Outgoing W) (cause : CrewCause) (outbox : W) (fault : CrewFault W B) → LeavesKept keeper → fault ≡ never_begun_with cause outbox book
+    → ((from : PostedBefore W) → IsPostedBy drain from outgoing → (before : List Exchange) → BeginsWith keeper book before → HasFault keeper drain from (keeper.limits book) before (length ports) fault)
+    → IsCrewRun keeper port drain book ports outgoing (Err fault)
+never_ran keeper port drain book ports outgoing cause outbox fault law is has = record {
+  account = λ from by before with_it. tt;
+  sealed = tt;
+  fault = has;
+  left = never_more keeper cause outbox book fault is;
+  crash = λ before with_it. tt;
+  crash_at_fault = λ before with_it. never_crashed keeper before (length ports) cause outbox book fault law with_it.0 is;
+  handed_back = ap (λ (it : CrewFault _ _). is_some it.book) is;
+}
 
 -- a poster that posted nothing
 pub nothing_posted : {W : Type 0} (drain : Drain W) (host : List ℕ) (start : W) (poster : Outgoing W) → Delivered drain host start poster [] → poster ≡ outgoing.begun host start → IsPostedBy drain (none_posted host start) poster
@@ -322,9 +337,12 @@ book_left drain host limits of_book agents start (Err fault) same has =
     (left_book of_book fault.behind (history_after of_book [] fault.taken) fault.cause fault.book has.book)
 
 -- no crew that began is refused since its ports are too few or too many
-missing≢count : (all : Bool) → missing_cause all ≢ causes.PortCount
-missing≢count true same = let never : causes.Refused ≡ causes.PortCount = same in cc
-missing≢count false same = let never : causes.Lost ≡ causes.PortCount = same in cc
+lost≢count : causes.Lost ≢ causes.PortCount
+lost≢count same = let never : causes.Lost ≡ causes.PortCount = same in cc
+
+missing≢count : (lost : Option LaneGone) → missing_cause lost ≢ causes.PortCount
+missing≢count None same = let never : causes.Refused ≡ causes.PortCount = same in cc
+missing≢count (Some gone) same = lost≢count same
 
 stop≢count : (stop : StopCause) → stop_cause stop ≢ causes.PortCount
 stop≢count (stops.Gone gone) same = let never : causes.Lost ≡ causes.PortCount = same in cc
@@ -334,9 +352,9 @@ stop≢count (stops.Unkept why) same = let never : causes.Unkept why ≡ causes.
 
 pub no_count : {B W : Type 0} (keeper : Keeper B) (collected : CollectorResult B) (all : AgentsResult) (posted : Posted W) (result : Result (Account W B) (CrewFault W B)) → Concludes keeper collected all posted result → IfErr result (λ fault. fault.cause ≢ causes.PortCount)
 no_count keeper collected all posted (Ok account) ends_so = tt
-no_count keeper (Whole new) (gathered.All lines crew) posted (Err fault) faulted = λ same. missing≢count false (sym (ap (λ it. it.cause) faulted.1) ∙ same)
-no_count keeper (Whole new) gathered.Missing posted (Err fault) faulted = λ same. missing≢count posted.all (sym (ap (λ it. it.cause) faulted) ∙ same)
-no_count keeper (Whole new) (gathered.Lost unheard) posted (Err fault) faulted = λ same. missing≢count false (sym (ap (λ it. it.cause) faulted) ∙ same)
+no_count keeper (Whole new) (gathered.All lines crew) posted (Err fault) faulted = λ same. lost≢count (sym (ap (λ it. it.cause) faulted.1) ∙ same)
+no_count keeper (Whole new) gathered.Missing posted (Err fault) faulted = λ same. missing≢count posted.lost (sym (ap (λ it. it.cause) faulted) ∙ same)
+no_count keeper (Whole new) (gathered.Lost unheard) posted (Err fault) faulted = λ same. lost≢count (sym (ap (λ it. it.cause) faulted) ∙ same)
 no_count keeper (Failed book stop held new) all posted (Err fault) faulted = λ same. stop≢count stop (sym (ap (λ it. it.cause) faulted) ∙ same)
 
 -- ---- what is handed back
@@ -350,9 +368,9 @@ module _ {B : Type 0} (keeper : Keeper B) (desk : Desk B) (exchanges : List Exch
   stopped_stands (stops.Unkept why) is stands = subst (λ (u : Option NotKept). StandsOrRefused keeper u desk.behind exchanges desk.book) is.unkept stands
 
   -- and where it has not, and an agent was not started
-  pub missing_stands : (all : Bool) → keeper.has desk.book exchanges desk.behind → StandsAtFault keeper desk.behind exchanges (missing_cause all) desk.book
-  missing_stands true has = has
-  missing_stands false has = has
+  pub missing_stands : (lost : Option LaneGone) → keeper.has desk.book exchanges desk.behind → StandsAtFault keeper desk.behind exchanges (missing_cause lost) desk.book
+  missing_stands None has = has
+  missing_stands (Some gone) has = has
 
 -- ---- the whole
 
@@ -405,7 +423,7 @@ module _ {B P S : Type 0} (keeper : Keeper B) (port : Port P S) (book : B) (port
         may_close (Failed book stop held new) all has is = has.4
 
         -- each request seals one letter at most
-        pub sealed_few : {W : Type 0} (collected : CollectorResult B) (all : AgentsResult) (posted : Posted W) (result : Result (Account W B) (CrewFault W B)) → IsCollectorResult keeper before begun sink after collected → Concludes keeper collected all posted result → IfOk result (λ account. keeper.sealed account.book ≤ keeper.sealed book + length account.taken)
+        sealed_few : {W : Type 0} (collected : CollectorResult B) (all : AgentsResult) (posted : Posted W) (result : Result (Account W B) (CrewFault W B)) → IsCollectorResult keeper before begun sink after collected → Concludes keeper collected all posted result → IfOk result (λ account. keeper.sealed account.book ≤ keeper.sealed book + length account.taken)
         sealed_few collected all posted (Err fault) has ends_so = tt
         sealed_few (Whole new) (gathered.All lines crew) posted (Ok account) has closed =
             subst (λ (it : Account _ B). keeper.sealed it.book ≤ keeper.sealed book + length it.taken) (sym closed.account_is)
@@ -421,7 +439,7 @@ module _ {B P S : Type 0} (keeper : Keeper B) (port : Port P S) (book : B) (port
             (subst (λ (b : B). keeper.sealed b ≤ keeper.sealed book + length new.requests.taken) (sym left_is)
             (subst (λ (b : B). keeper.sealed new.book ≤ keeper.sealed b + length new.requests.taken) start_was kept.sealed))
 
-        pub left_few : {W : Type 0} (collected : CollectorResult B) (all : AgentsResult) (posted : Posted W) (result : Result (Account W B) (CrewFault W B)) → IsCollectorResult keeper before begun sink after collected → Concludes keeper collected all posted result → IfErr result (λ fault. IfSome fault.book (λ left. keeper.sealed left ≤ keeper.sealed book + length fault.taken))
+        left_few : {W : Type 0} (collected : CollectorResult B) (all : AgentsResult) (posted : Posted W) (result : Result (Account W B) (CrewFault W B)) → IsCollectorResult keeper before begun sink after collected → Concludes keeper collected all posted result → IfErr result (λ fault. IfSome fault.book (λ left. keeper.sealed left ≤ keeper.sealed book + length fault.taken))
         left_few collected all posted (Ok account) has ends_so = tt
         left_few (Whole new) (gathered.All lines crew) posted (Err fault) has faulted = few_of _ _ new new.book posted fault faulted.1 refl (has.0.start ∙ start_is) has.2
         left_few (Whole new) gathered.Missing posted (Err fault) has faulted = few_of _ _ new new.book posted fault faulted refl (has.0.start ∙ start_is) has.2
@@ -440,7 +458,7 @@ module _ {B P S : Type 0} (keeper : Keeper B) (port : Port P S) (book : B) (port
             subst (λ (b : B). MayCrash keeper b new.book (keeper.limits b) before (new.requests.taken ++ new.behind)) start_was
             (kept.stands before (subst (λ (b : B). BeginsWith keeper b before) (sym start_was) with_it)).crash
 
-        pub crash_at_end : {W : Type 0} (collected : CollectorResult B) (all : AgentsResult) (posted : Posted W) (result : Result (Account W B) (CrewFault W B)) → BeginsWith keeper book before → IsCollectorResult keeper before begun sink after collected → Concludes keeper collected all posted result → IfOk result (λ account. MayCrash keeper book account.book limits before account.taken)
+        crash_at_end : {W : Type 0} (collected : CollectorResult B) (all : AgentsResult) (posted : Posted W) (result : Result (Account W B) (CrewFault W B)) → BeginsWith keeper book before → IsCollectorResult keeper before begun sink after collected → Concludes keeper collected all posted result → IfOk result (λ account. MayCrash keeper book account.book limits before account.taken)
         crash_at_end collected all posted (Err fault) with_it has ends_so = tt
         crash_at_end (Whole new) (gathered.All lines crew) posted (Ok account) with_it has closed =
             subst (λ (it : Account _ B). MayCrash keeper book it.book limits before it.taken) (sym closed.account_is)
@@ -461,7 +479,7 @@ module _ {B P S : Type 0} (keeper : Keeper B) (port : Port P S) (book : B) (port
               at_each_moment = crash_of new with_it start_was kept;
             }))
 
-        pub crash_at_fault : {W : Type 0} (collected : CollectorResult B) (all : AgentsResult) (posted : Posted W) (result : Result (Account W B) (CrewFault W B)) → BeginsWith keeper book before → IsCollectorResult keeper before begun sink after collected → Concludes keeper collected all posted result
+        crash_at_fault : {W : Type 0} (collected : CollectorResult B) (all : AgentsResult) (posted : Posted W) (result : Result (Account W B) (CrewFault W B)) → BeginsWith keeper book before → IsCollectorResult keeper before begun sink after collected → Concludes keeper collected all posted result
             → IfErr result (λ fault. IfSome fault.book (MayCrashWithin keeper book limits before (length ports) fault.taken fault.behind))
         crash_at_fault collected all posted (Ok account) with_it has ends_so = tt
         crash_at_fault (Whole new) (gathered.All lines crew) posted (Err fault) with_it has faulted = crash_left _ _ new new.book posted fault faulted.1 refl with_it has.0.places (has.0.start ∙ start_is) has.2
@@ -488,7 +506,7 @@ module _ {B P S : Type 0} (keeper : Keeper B) (port : Port P S) (book : B) (port
           all_sealed : (new : Desk B) → IsRun keeper before TakesLetter begun new sink after (Ok tt) → AreSealedAfter before (history_after limits before new.requests.taken) after.letters
           all_sealed new run = subst (AreSealedAfter before (history_after limits before new.requests.taken)) (append-nil after.letters) (sealed_are new run)
 
-          account_at : (new : Desk B) (lines : List AgentLine) (crew : List LaneHalves) → IsRun keeper before TakesLetter begun new sink after (Ok tt) → IsDesk keeper new → AreEnded ends lines crew → posted.all ≡ true → All (IsHeard keeper before new) crew → keeper.has new.book (history keeper before new) []
+          account_at : (new : Desk B) (lines : List AgentLine) (crew : List LaneHalves) → IsRun keeper before TakesLetter begun new sink after (Ok tt) → IsDesk keeper new → AreEnded ends lines crew → posted.lost ≡ None → All (IsHeard keeper before new) crew → keeper.has new.book (history keeper before new) []
               → HasAccount keeper port drain from limits before ports (account_of lines crew new posted)
           account_at new lines crew run kept ended all heard has =
               let limited = limits_are new run in record {
@@ -500,14 +518,14 @@ module _ {B P S : Type 0} (keeper : Keeper B) (port : Port P S) (book : B) (port
                   book_limits = kept.limits ∙ limited;
                   book = subst (λ (l : Limits). keeper.has new.book (history_after l before new.requests.taken) []) limited has;
                   count = post.count ∙ ap length (post.whole.0 all).1;
-                  outbox = subst (λ (ls : List Letter). IsOutbox drain from.host from.start posted.outbox posted.whole posted.unsent (from.first ++ ls)) (post.whole.0 all).1 (post.outbox from.host from.start from.first by.delivered);
+                  outbox = subst (λ (ls : List Letter). IsOutbox drain from.host from.start posted.end.outbox posted.end.whole posted.end.unsent (from.first ++ ls)) (post.whole.0 all).1 (post.outbox from.host from.start from.first by.delivered);
                 };
               }
 
           new_begins : (new : Desk B) → IsRun keeper before TakesLetter begun new sink after (Ok tt) → BeginsWith keeper book before → BeginsWith keeper new.start before
           new_begins new run is = subst (λ (b : B). BeginsWith keeper b before) (sym (run.start ∙ start_is)) is
 
-          pub account_is : BeginsWith keeper book before → (collected : CollectorResult B) (all : AgentsResult) (result : Result (Account W B) (CrewFault W B)) → IsCollectorResult keeper before begun sink after collected → IsAgentsResult ends all → Concludes keeper collected all posted result → IfOk result (HasAccount keeper port drain from limits before ports)
+          account_is : BeginsWith keeper book before → (collected : CollectorResult B) (all : AgentsResult) (result : Result (Account W B) (CrewFault W B)) → IsCollectorResult keeper before begun sink after collected → IsAgentsResult ends all → Concludes keeper collected all posted result → IfOk result (HasAccount keeper port drain from limits before ports)
           account_is with_it collected all (Err fault) has is ends_so = tt
           account_is with_it (Whole new) (gathered.All lines crew) (Ok account) has is closed =
               subst (HasAccount keeper port drain from limits before ports) (sym closed.account_is)
@@ -538,9 +556,9 @@ module _ {B P S : Type 0} (keeper : Keeper B) (port : Port P S) (book : B) (port
                   has_fault causes.Lost [] new new.book fault after.letters is (all_sealed new run) (record { limits_are = kept.limits ∙ limits_are new run; stands = left_has })
                   (lost_fault keeper drain from poster by after.letters posted post new kept (length ports) (lines_length new run) fault is)
 
-              missing_at : fault ≡ fault_of (missing_cause posted.all) [] new.book new posted → HasFault keeper drain from limits before (length ports) fault
+              missing_at : fault ≡ fault_of (missing_cause posted.lost) [] new.book new posted → HasFault keeper drain from limits before (length ports) fault
               missing_at is =
-                  has_fault (missing_cause posted.all) [] new new.book fault after.letters is (all_sealed new run) (record { limits_are = kept.limits ∙ limits_are new run; stands = missing_stands keeper new _ posted.all left_has })
+                  has_fault (missing_cause posted.lost) [] new new.book fault after.letters is (all_sealed new run) (record { limits_are = kept.limits ∙ limits_are new run; stands = missing_stands keeper new _ posted.lost left_has })
                   (missing_fault keeper drain from poster by after.letters posted post new kept (length ports) (lines_length new run) fault is (none_behind keeper new kept gone))
 
             -- the collector has failed, for this reason
@@ -556,7 +574,7 @@ module _ {B P S : Type 0} (keeper : Keeper B) (port : Port P S) (book : B) (port
                       (stopped_stands keeper new (history keeper before new) stop stopped stands.has);
                 })
 
-            pub fault_is : (collected : CollectorResult B) (all : AgentsResult) (result : Result (Account W B) (CrewFault W B)) → IsCollectorResult keeper before begun sink after collected → Concludes keeper collected all posted result → IfErr result (HasFault keeper drain from limits before (length ports))
+            fault_is : (collected : CollectorResult B) (all : AgentsResult) (result : Result (Account W B) (CrewFault W B)) → IsCollectorResult keeper before begun sink after collected → Concludes keeper collected all posted result → IfErr result (HasFault keeper drain from limits before (length ports))
             fault_is collected all (Ok account) has ends_so = tt
             fault_is (Whole new) (gathered.All lines crew) (Err fault) has faulted = lost_at new fault has.0 has.1 has.2 faulted.1
             fault_is (Whole new) gathered.Missing (Err fault) has faulted = missing_at new fault has.0 has.1 has.2 faulted
@@ -566,3 +584,24 @@ module _ {B P S : Type 0} (keeper : Keeper B) (port : Port P S) (book : B) (port
                 (subst (λ (ls : List Letter). AreSealedAfter before (history_after limits before new.value.requests.taken) (after.letters ++ ls)) (sym has.2) (sealed_are new.value has.1))
                 (handed_at stop new.value left has.1 has.3 has.4 has.5)
                 (failed_fault keeper drain from poster by after.letters posted post new.value has.3 (length ports) (lines_length new.value has.1) fault stop left held faulted)
+
+      -- ---- all that is said of a run
+
+      handed : {W : Type 0} (collected : CollectorResult B) (all : AgentsResult) (posted : Posted W) (result : Result (Account W B) (CrewFault W B)) → Concludes keeper collected all posted result → IfErr result (λ fault. is_some fault.book ≡ true)
+      handed collected all posted (Ok account) ends_so = tt
+      handed (Whole new) (gathered.All lines crew) posted (Err fault) faulted = ap (λ (it : CrewFault _ B). is_some it.book) faulted.1
+      handed (Whole new) gathered.Missing posted (Err fault) faulted = ap (λ (it : CrewFault _ B). is_some it.book) faulted
+      handed (Whole new) (gathered.Lost unheard) posted (Err fault) faulted = ap (λ (it : CrewFault _ B). is_some it.book) faulted
+      handed (Failed left stop held new) all posted (Err fault) faulted = ap (λ (it : CrewFault _ B). is_some it.book) faulted
+
+      pub crew_run : {W : Type 0} (sink after : LetterSink) (fresh : sink.letters ≡ []) (drain : Drain W) (poster : Outgoing W) (posted : Posted W) → IsPosted drain poster 16 after.letters posted → (collected : CollectorResult B) (all : AgentsResult) (result : Result (Account W B) (CrewFault W B)) → (before : List Exchange) × BeginsWith keeper book before
+          → ((before : List Exchange) → BeginsWith keeper begun.start before → IsCollectorResult keeper before begun sink after collected) → IsAgentsResult ends all → Concludes keeper collected all posted result → IsCrewRun keeper port drain book ports poster result
+      crew_run sink after fresh drain poster posted post collected all result some has is ends_so = record {
+        account = λ from by before with_it. account_is sink after fresh before drain from poster by posted post with_it collected all result (has before (begins before with_it)) is ends_so;
+        sealed = sealed_few sink after fresh some.0 collected all posted result (has some.0 (begins some.0 some.1)) ends_so;
+        fault = λ from by before with_it. fault_is sink after fresh before drain from poster by posted post with_it collected all result (has before (begins before with_it)) ends_so;
+        left = left_few sink after fresh some.0 collected all posted result (has some.0 (begins some.0 some.1)) ends_so;
+        crash = λ before with_it. crash_at_end sink after fresh before collected all posted result with_it (has before (begins before with_it)) ends_so;
+        crash_at_fault = λ before with_it. crash_at_fault sink after fresh before collected all posted result with_it (has before (begins before with_it)) ends_so;
+        handed_back = handed collected all posted result ends_so;
+      }

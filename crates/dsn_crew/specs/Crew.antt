@@ -1,5 +1,5 @@
 -- Crews: what a run of a whole crew comes to, and what its fault says.
-use Rattle.std.specs.Prelude.{◌≡◌, ◌≢◌, ℕ, suc, ◌+◌, ◌<◌, ◌≤◌, ◌⊎◌, Bool, false, List, [], ◌∷◌, ◌++◌, All, length, Option, Some, IfSome, is_some, true}
+use Rattle.std.specs.Prelude.{◌≡◌, ◌≢◌, ℕ, suc, ◌+◌, ◌<◌, ◌≤◌, ◌⊎◌, Bool, false, List, [], ◌∷◌, ◌++◌, All, length, Option, Some, IfErr, IfOk, IfSome, Result, is_some, true}
 use Rattle.std.specs.List.{flat_map}
 use Rattle.dsn_book.specs.Book.{Book}
 use Rattle.dsn_book.specs.Keeper.{MayCrash, book_keeper}
@@ -20,7 +20,7 @@ use Rattle.dsn_report.specs.Outgoing.{Delivered, IsOutbox, Outgoing}
 use Rattle.dsn_crew.specs.agents.Agent.{LaneHalves}
 use Rattle.dsn_crew.specs.agents.Port.{AreOverPort, AreSessions, Conn, Given, HasGiven, Session, answers_of, bodies_of, faults_of, most_connections}
 use Rattle.dsn_crew.specs.agents.Serve.{answers_from, numbered_answer, numbered_request, requests_from}
-use Rattle.dsn_crew.specs.KeeperHistory.{AreNextOf, StandsOrRefused}
+use Rattle.dsn_crew.specs.KeeperHistory.{AreNextOf, BeginsWith, StandsOrRefused}
 use Rattle.dsn_crew.specs.desk.Intake.{most_together}
 use Rattle.dsn_crew.specs.declared.agents.agent_line.AgentLine.{AgentLine}
 use Rattle.dsn_crew.specs.declared.crew_cause.CrewCause.{CrewCause}
@@ -252,3 +252,33 @@ pub record MayCrashWithin {B : Type 0} (keeper : Keeper B) (start : B) (limits :
   pub together : length behind ≤ most_together
   pub next : AreNextOf agents taken behind
   pub at_each_moment : MayCrash keeper start book limits before (taken ++ behind)
+
+-- The result of a run over these ports and what carries its requests out, after what this poster has
+-- posted. Whatever was posted before, and whatever history it began with: at its end it has an account
+-- of both, and else a fault. At a fault what carried the requests out is handed back. It sealed no
+-- more letters than requests were taken. And this is what a crash leaves at each of its moments
+pub record IsCrewRun {B P S W : Type 0} (keeper : Keeper B) (port : Port P S) (drain : Drain W)
+    (book : B) (ports : List P) (outgoing : Outgoing W)
+    (result : Result (Account W B) (CrewFault W B)) : Type 0 where
+  pub account : (from : PostedBefore W) → IsPostedBy drain from outgoing
+      → (before : List Exchange) → BeginsWith keeper book before
+      → IfOk result (HasAccount keeper port drain from (keeper.limits book) before ports)
+  pub sealed :
+      IfOk result
+      (λ account. keeper.sealed account.book ≤ keeper.sealed book + length account.taken)
+  pub fault : (from : PostedBefore W) → IsPostedBy drain from outgoing
+      → (before : List Exchange) → BeginsWith keeper book before
+      → IfErr result (HasFault keeper drain from (keeper.limits book) before (length ports))
+  pub left :
+      IfErr result
+      (λ fault. IfSome fault.book
+      (λ left. keeper.sealed left ≤ keeper.sealed book + length fault.taken))
+  pub crash : (before : List Exchange) → BeginsWith keeper book before
+      → IfOk result
+      (λ account. MayCrash keeper book account.book (keeper.limits book) before account.taken)
+  pub crash_at_fault : (before : List Exchange) → BeginsWith keeper book before
+      → IfErr result
+      (λ fault. IfSome fault.book
+      (MayCrashWithin keeper book (keeper.limits book) before (length ports) fault.taken
+      fault.behind))
+  pub handed_back : IfErr result (λ fault. is_some fault.book ≡ true)

@@ -4,6 +4,7 @@ pub mod Breach
 pub mod CollectorResult
 pub mod Conclude
 pub mod CrewMemory
+pub mod CrewRun
 pub mod Desk
 pub mod Halves
 pub mod LetterSource

@@ -1,5 +1,4 @@
 //! The end of a run: an account of it, or its fault.
-ghost use Rattle.std.specs.Prelude.{◌≡◌, ◌↔◌, true, None};
 ghost use Rattle.dsn_crew.specs.inner.Conclude.{Concludes, MayClose};
 
 use crate::agents_result::AgentsResult;
@@ -21,22 +20,14 @@ pub(crate) fn conclude<W, B: Keeper + Drop>(
     posted: Posted<W>,
 ) -> Result<Account<W, B>, CrewFault<W, B>>
     requires close { MayClose B.Keeper collected gathered }
-    requires unlost { (posted.all ≡ true) ↔ (posted.lost ≡ None) }
     ensures { Concludes B.Keeper collected gathered posted result }
 {
-    let Posted {
-        outbox,
-        whole,
-        unsent,
-        posted,
-        lost,
-        all: _,
-    } = posted;
+    let Posted { end, posted, lost } = posted;
     let desk = match collected {
         CollectorResult::Whole(desk) => desk,
         CollectorResult::Failed(book, stop, held, desk) => {
             let breach = Breach::Lost(Loss::Collector(stop));
-            return Err(CrewFault::broken_off(breach, outbox, unsent, held, book, desk));
+            return Err(CrewFault::broken_off(breach, end, held, book, desk));
         }
     };
     let breach = match lost {
@@ -44,12 +35,12 @@ pub(crate) fn conclude<W, B: Keeper + Drop>(
         None => match gathered {
             AgentsResult::All(lines, agents) => {
                 let shut = close_crew(rt, agents, desk);
-                return Ok(Account::new(shut, lines, outbox, whole, unsent, posted));
+                return Ok(Account::new(shut, lines, end, posted));
             }
             AgentsResult::Missing => Breach::Refused,
             AgentsResult::Lost(unheard) => Breach::Lost(Loss::Agent(unheard)),
         },
     };
     let collector = Snapshot::of(&desk);
-    Err(CrewFault::broken_off(breach, outbox, unsent, None, desk.into_book(), collector))
+    Err(CrewFault::broken_off(breach, end, None, desk.into_book(), collector))
 }

@@ -5,6 +5,7 @@ use crate::agents::AgentLine;
 use crate::desk::CrewShut;
 use dsn_book::{Book, Keeper};
 use dsn_outcome::Letters;
+use dsn_report::OutboxEnd;
 use std::marker::Model;
 use std::snapshot::Snapshot;
 
@@ -49,23 +50,26 @@ impl<W, B: Keeper> Account<W, B> {
     pub(crate) fn new(
         shut: CrewShut<B>,
         agents: Vec<AgentLine>,
-        outbox: W,
-        whole: bool,
-        unsent: Letters,
+        end: OutboxEnd<W>,
         letters: u32,
     ) -> Account<W, B>
         ensures { result ≡ record {
           agents = agents.items;
           letters = letters;
-          unsent = unsent;
-          whole = whole;
-          outbox = outbox;
+          unsent = end.unsent;
+          whole = end.whole;
+          outbox = end.outbox;
           book = shut.book;
           taken = shut.desk.requests.taken;
           halves = shut.crew;
         } }
     {
         let closed = Snapshot::of(&shut);
+        let OutboxEnd {
+            outbox,
+            whole,
+            unsent,
+        } = end;
         Account {
             agents,
             letters,

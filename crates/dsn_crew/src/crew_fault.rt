@@ -10,6 +10,7 @@ use crate::crew_cause::CrewCause;
 use crate::desk::Desk;
 use dsn_book::{Book, Keeper};
 use dsn_outcome::{Letter, Letters};
+use dsn_report::OutboxEnd;
 use std::marker::Model;
 use std::snapshot::Snapshot;
 
@@ -88,8 +89,7 @@ impl<W, B: Keeper> CrewFault<W, B> {
     /// it was then, and the letter that the collector still held.
     pub(crate) fn broken_off(
         breach: Breach,
-        outbox: W,
-        unsent: Letters,
+        end: OutboxEnd<W>,
         held: Option<Letter>,
         book: B,
         desk: Snapshot<Desk<B>>,
@@ -97,14 +97,18 @@ impl<W, B: Keeper> CrewFault<W, B> {
         requires shown { IsShown B.Keeper (Some desk) breach }
         ensures { result ≡ record {
           cause = cause_of breach;
-          outbox = outbox;
-          unsent = unsent ++ letters_in held;
+          outbox = end.outbox;
+          unsent = end.unsent ++ letters_in held;
           book = Some book;
           taken = desk.value.requests.taken;
           behind = desk.value.behind;
         } }
     {
-        let mut unsent = unsent;
+        let OutboxEnd {
+            outbox,
+            mut unsent,
+            ..
+        } = end;
         if let Some(letter) = held {
             unsent.push(letter);
         }

@@ -1,11 +1,11 @@
 //! A whole crew, from its first thread to its last.
-ghost use Rattle.std.specs.Prelude.{◌≡◌, ◌≢◌, ◌+◌, ◌≤◌, ◌<◌, ◌^◌, ◌↔◌, ◌⊎◌, List, [], true, All, length, IfErr, IfOk, IfSome, is_some};
+ghost use Rattle.std.specs.Prelude.{◌≡◌, ◌≢◌, ◌≤◌, ◌<◌, ◌^◌, ◌↔◌, ◌⊎◌, List, [], All, length, IfErr, IfOk, IfSome};
 ghost use Rattle.dsn_book.specs.Book.{Represents};
-ghost use Rattle.dsn_book.specs.Keeper.{MayCrash};
 ghost use Rattle.dsn_book.specs.declared.not_kept.NotKept.{NotKept};
 ghost use Rattle.dsn_outcome.specs.History.{Exchange, history_of};
-ghost use Rattle.dsn_crew.specs.Crew.{HasAccount, HasFault, IsAccount, IsCrewFault, IsPostedBy, MayCrashWithin, PostedBefore, most_ports};
+ghost use Rattle.dsn_crew.specs.Crew.{IsAccount, IsCrewFault, IsCrewRun, most_ports};
 ghost use Rattle.dsn_crew.specs.KeeperHistory.{BeginsWith};
+ghost use Rattle.dsn_crew.specs.inner.CrewRun.{MayRun};
 
 use crate::agent_memory::AgentMemory;
 use crate::agents::{Gate, Port};
@@ -121,24 +121,9 @@ pub fn run_crew_over<
     requires few { B.sealed book < 2 ^ 63 }
     requires begins { (before : List Exchange) × BeginsWith B.Keeper book before }
     requires all_sent { outgoing.unsent ≡ [] }
-    ensures account { (from : PostedBefore W) → IsPostedBy W.Drain from outgoing
-        → (before : List Exchange) → BeginsWith B.Keeper book before → IfOk result
-        (HasAccount B.Keeper P.Port W.Drain from (B.limits book) before ports.items) }
-    ensures sealed { IfOk result
-        (λ account. B.sealed account.book ≤ B.sealed book + length account.taken) }
+    ensures run { IsCrewRun B.Keeper P.Port W.Drain book ports.items outgoing result }
     ensures count { IfOk result
         (λ _. (1 ≤ length ports.items) × (length ports.items ≤ most_ports)) }
-    ensures fault { (from : PostedBefore W) → IsPostedBy W.Drain from outgoing
-        → (before : List Exchange) → BeginsWith B.Keeper book before → IfErr result
-        (HasFault B.Keeper W.Drain from (B.limits book) before (length ports.items)) }
-    ensures left { IfErr result (λ fault. IfSome fault.book
-        (λ left. B.sealed left ≤ B.sealed book + length fault.taken)) }
-    ensures crash { (before : List Exchange) → BeginsWith B.Keeper book before → IfOk result
-        (λ account. MayCrash B.Keeper book account.book (B.limits book) before account.taken) }
-    ensures crash_at_fault { (before : List Exchange) → BeginsWith B.Keeper book before
-        → IfErr result (λ fault. IfSome fault.book (MayCrashWithin B.Keeper book (B.limits book)
-        before (length ports.items) fault.taken fault.behind)) }
-    ensures handed_back { IfErr result (λ fault. is_some fault.book ≡ true) }
     ensures refused { IfErr result
         (λ fault. (fault.cause ≡ CrewCause.PortCount)
         ↔ ((length ports.items ≡ 0) ⊎ (most_ports < length ports.items))) }
@@ -151,9 +136,7 @@ pub fn run_crew_over<
         thread::scope_env(),
         rt,
         move |scope| -> Result<Account<W, B>, CrewFault<W, B>>
-            requires { (1 ≤ length ports.items) × (length ports.items ≤ most_ports)
-                × All P.may_be_asked ports.items × (B.sealed book < 2 ^ 63)
-                × (outgoing.unsent ≡ []) × ((before : List Exchange) × BeginsWith B.Keeper book before) }
+            requires { MayRun B.Keeper P.Port book ports.items outgoing }
         { run_in(scope, rt, alloc, book, ports, outgoing, gate) },
     )
 }
@@ -176,27 +159,8 @@ fn run_in<
     outgoing: Outgoing<W>,
     gate: &'s G,
 ) -> Result<Account<W, B>, CrewFault<W, B>>
-    requires few { (1 ≤ length ports.items) × (length ports.items ≤ most_ports) }
-    requires asked { All P.may_be_asked ports.items }
-    requires room { B.sealed book < 2 ^ 63 }
-    requires begins { (before : List Exchange) × BeginsWith B.Keeper book before }
-    requires all_sent { outgoing.unsent ≡ [] }
-    ensures account { (from : PostedBefore W) → IsPostedBy W.Drain from outgoing
-        → (before : List Exchange) → BeginsWith B.Keeper book before → IfOk result
-        (HasAccount B.Keeper P.Port W.Drain from (B.limits book) before ports.items) }
-    ensures sealed { IfOk result
-        (λ account. B.sealed account.book ≤ B.sealed book + length account.taken) }
-    ensures fault { (from : PostedBefore W) → IsPostedBy W.Drain from outgoing
-        → (before : List Exchange) → BeginsWith B.Keeper book before → IfErr result
-        (HasFault B.Keeper W.Drain from (B.limits book) before (length ports.items)) }
-    ensures left { IfErr result (λ fault. IfSome fault.book
-        (λ left. B.sealed left ≤ B.sealed book + length fault.taken)) }
-    ensures crash { (before : List Exchange) → BeginsWith B.Keeper book before → IfOk result
-        (λ account. MayCrash B.Keeper book account.book (B.limits book) before account.taken) }
-    ensures crash_at_fault { (before : List Exchange) → BeginsWith B.Keeper book before
-        → IfErr result (λ fault. IfSome fault.book (MayCrashWithin B.Keeper book (B.limits book)
-        before (length ports.items) fault.taken fault.behind)) }
-    ensures handed_back { IfErr result (λ fault. is_some fault.book ≡ true) }
+    requires { MayRun B.Keeper P.Port book ports.items outgoing }
+    ensures run { IsCrewRun B.Keeper P.Port W.Drain book ports.items outgoing result }
     ensures counted { IfErr result (λ fault. fault.cause ≢ CrewCause.PortCount) }
 {
     let room = match CrewMemory::take(rt, alloc, book, ports.len() as u32) {

@@ -29,6 +29,4 @@ pub use desk::{CrewOpenFault, CrewShut, Desk, DeskFault, close_crew, open_crew, 
 pub use lane::{
     LaneEnd, LaneGone, LaneIn, LaneLeft, LaneLists, LaneOut, LaneShut, Lost, close_lane, open_lane,
 };
-pub use post::{
-    LetterSink, LetterSource, LettersEnd, Posting, Posts, Sink, open_post, start_posting,
-};
+pub use post::{LetterSink, LetterSource, Posting, Posts, Sink, open_post, start_posting};

@@ -1,7 +1,7 @@
 //! Lanes of letters that are lost: the poster's thread ends, and a letter comes back.
 use crate::assert_same::same;
 use crate::letters::one_letter;
-use dsn_crew::{LetterSink, LettersEnd, Sink, open_post, start_posting};
+use dsn_crew::{LetterSink, Sink, open_post, start_posting};
 use dsn_device::Plain;
 use dsn_outcome::{Letter, QueueId};
 use dsn_report::{Outgoing, Site};
@@ -38,7 +38,7 @@ fn lost_after<R: Threads + Wait + Sync>(
             };
             hand_last(rt, sink, letter);
             let posting = handle.join(rt);
-            Some((posting.handed, posting.end != LettersEnd::Marked))
+            Some((posting.handed, posting.lost.is_some()))
         },
     )
 }

@@ -6,7 +6,7 @@ use crate::postfix_values::postfix_serving;
 use crate::start_error::StartError;
 use clap::ArgMatches;
 use dsn_report::{Site, SiteFault};
-use noticed_lib::WatchOptions;
+use noticed_lib::{Serving, WatchOptions};
 use std::alloc::Global;
 use std::env;
 use std::io::ErrorKind;
@@ -33,7 +33,7 @@ pub(crate) enum Command {
         site: Site,
     },
     /// `serve [OPTION].. SOCKET HOST AGENTS MAX-USE`.
-    Serve(Serving),
+    Serve(ServeArguments),
     /// `stop SOCKET`.
     Stop {
         /// The path of the socket.
@@ -57,17 +57,13 @@ pub(crate) enum Command {
 
 /// What `serve` is given.
 #[derive(Drop)]
-pub(crate) struct Serving {
+pub(crate) struct ServeArguments {
     /// The path of the socket.
     pub(crate) socket: String,
     /// The host's name.
     pub(crate) host: String,
-    /// The site that the host names.
-    pub(crate) site: Site,
-    /// How many agents there are, 1 to 16.
-    pub(crate) agents: u32,
-    /// How many connections each agent serves, 1 to 1,000,000.
-    pub(crate) max_use: u32,
+    /// The site that the host names, 1 to 16 agents, and 1 to 1,000,000 connections for each.
+    pub(crate) serving: Serving,
     /// What its options ask for.
     pub(crate) options: ServeOptions,
 }
@@ -129,13 +125,15 @@ fn command_given(alloc: Global, name: &str, given: &ArgMatches<'_>) -> Result<Co
 }
 
 /// What `serve` is given.
-fn serving_of(alloc: Global, given: &ArgMatches<'_>) -> Result<Serving, StartError> {
+fn serving_of(alloc: Global, given: &ArgMatches<'_>) -> Result<ServeArguments, StartError> {
     let host = text_of(given, "HOST");
     let agents = number_of(alloc, given, "AGENTS", MOST_AGENTS)?;
-    Ok(Serving {
-        agents,
-        max_use: number_of(alloc, given, "MAX-USE", MOST_USE)?,
-        site: site_of(alloc, host)?,
+    Ok(ServeArguments {
+        serving: Serving {
+            agents,
+            max_use: number_of(alloc, given, "MAX-USE", MOST_USE)?,
+            site: site_of(alloc, host)?,
+        },
         socket: socket_of(alloc, given)?,
         host: owned(alloc, host)?,
         options: ServeOptions {

@@ -39,7 +39,7 @@ const USAGE: &str =
 fn main(rt: HostRuntime) -> ExitCode {
     let done = match begin(&rt) {
         Ok(Command::Batch { site }) => run_batch(&rt, site),
-        Ok(Command::Serve(serving)) => run_serve(&rt, &rt, serving),
+        Ok(Command::Serve(arguments)) => run_serve(&rt, &rt, arguments),
         Ok(Command::Stop { socket }) => run_stop(&rt, rt.alloc(), &socket),
         Ok(Command::Send { socket }) => run_send(&rt, &rt, &socket),
         Ok(Command::Journal { folder }) => run_journal(&rt, &folder),

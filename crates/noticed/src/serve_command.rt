@@ -1,5 +1,5 @@
 //! The command `serve`.
-use crate::arguments::{ServeOptions, Serving};
+use crate::arguments::{ServeArguments, ServeOptions};
 use crate::buffer::{ROOM, let_go};
 use crate::journal_files::{open_folder, open_outbox, print_journal_fault, print_outbox_fault};
 use crate::outbox_writer::OutboxWriter;
@@ -8,8 +8,8 @@ use crate::start_error::StartError;
 use dsn_journal::FileDisk;
 use dsn_outcome::Plain;
 use noticed_lib::{
-    JournalFolder, JournaledEnd, ServeEnd, SocketWatch, Watch, WatchOptions, WatchedOutbox,
-    serve_journaled, serve_watched,
+    JournalFolder, JournaledEnd, ServeEnd, Serving, SocketWatch, Watch, WatchOptions,
+    WatchedOutbox, serve_journaled, serve_watched,
 };
 use std::io;
 use std::io::BufWriter;
@@ -23,16 +23,14 @@ use std::time::Clock;
 pub(crate) fn run_serve<R: Threads + Wait + Clock + Sync>(
     rt: &HostRuntime,
     waiting: &R,
-    serving: Serving,
+    arguments: ServeArguments,
 ) -> Result<u8, StartError> {
-    let Serving {
+    let ServeArguments {
         socket,
         host,
-        site,
-        agents,
-        max_use,
+        serving,
         options,
-    } = serving;
+    } = arguments;
     let ServeOptions {
         journal,
         outbox,
@@ -55,21 +53,19 @@ pub(crate) fn run_serve<R: Threads + Wait + Clock + Sync>(
         Ok(listening) => listening,
         Err(error) => return Ok(print_socket_fault(rt, &socket, &error)),
     };
-    print_start(rt, &watch, &socket, &host, agents, max_use);
+    print_start(rt, &watch, &socket, &host, &serving);
     let outbox = Plain::new(WatchedOutbox::new(writer, &watch));
     let notes = &mut Plain::new(rt.stderr());
     let alloc = rt.alloc();
     let end = match folder {
-        None => serve_watched(
-            waiting, alloc, &listener, &watch, site, agents, max_use, outbox, notes,
-        ),
+        None => serve_watched(waiting, alloc, &listener, &watch, serving, outbox, notes),
         Some(folder) => {
             let JournaledEnd {
                 end,
                 journal: _,
                 marks: _,
             } = serve_journaled(
-                waiting, alloc, &listener, &watch, site, agents, max_use, outbox, folder, notes,
+                waiting, alloc, &listener, &watch, serving, outbox, folder, notes,
             );
             end
         }
@@ -124,17 +120,15 @@ fn listen<'a>(
 
 /// Prints to the event log that the daemon listens. If the host's name is one for examples, prints
 /// that too.
-fn print_start(
-    rt: &HostRuntime,
-    watch: &impl Watch,
-    socket: &str,
-    host: &str,
-    agents: u32,
-    max_use: u32,
-) {
+fn print_start(rt: &HostRuntime, watch: &impl Watch, socket: &str, host: &str, serving: &Serving) {
     if !watch.logs() {
         return;
     }
+    let Serving {
+        agents,
+        max_use,
+        ..
+    } = serving;
     let _ = eprintln!(rt;
         "listening on {socket} for {host}: {agents} agents, {max_use} connections each"
     );

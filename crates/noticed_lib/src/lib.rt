@@ -9,8 +9,8 @@ mod daemon;
 pub use batch_run::{BatchEnd, MemoryRun, batch, batch_bytes};
 pub use client::{SendEnd, send, sends_are_sessions_of_a_client};
 pub use daemon::{
-    JournalFolder, JournaledEnd, ServeEnd, SocketWatch, Watch, WatchOptions, WatchedOutbox, serve,
-    serve_journaled, serve_watched,
+    JournalFolder, JournaledEnd, ServeEnd, Serving, SocketWatch, Watch, WatchOptions,
+    WatchedOutbox, serve, serve_journaled, serve_watched,
 };
 pub use dsn_book::Limits;
 pub use dsn_listing::{ListingFault, list_journal};

@@ -17,7 +17,6 @@ use Rattle.dsn_outcome.proofs.SendLemmas.{letter_send}
 use Rattle.dsn_report.proofs.SendLemmas.{outgoing_send}
 use Rattle.dsn_report.specs.contracts.outgoing.Outgoing as Outgoing
 use Rattle.dsn_crew.specs.contracts.post.letter_source.LetterSource as LetterSource
-use Rattle.dsn_crew.specs.contracts.post.letters_end.LettersEnd as LettersEnd
 use Rattle.dsn_crew.specs.contracts.post.parcel.Parcel as Parcel
 use Rattle.dsn_crew.specs.contracts.post.parcel.ParcelCarried.TheImpl as ParcelCarried
 use Rattle.dsn_crew.specs.contracts.post.posting.Posting as Posting
@@ -34,9 +33,6 @@ count_send = search sendable depth 20
 source_send : IsSend LetterSource.the_row
 source_send = search (parcels_out_send, sendable) depth 20
 
-end_send : IsSend (as_row LettersEnd.the_field)
-end_send = search sendable depth 20
-
 -- what the closure holds: the runtime, the poster, and the half by which the letters come
 abbrev pub captured : NamedLft → RattleType → RattleType → List RattleType
 captured r R W = ShrRef r.mir r.lft (param 1 R) ∷ Outgoing.the_row (param 2 W) ∷ LetterSource.the_row ∷ []
@@ -50,4 +46,4 @@ posts_send ν r R W sync send = closure_send ν (captured r R W) (runtime_send r
 pub posting_send : (W : RattleType) → IsSend (param 2 W) → IsSend (Posting.the_row (param 2 W))
 posting_send W send =
     declared_send (Posting.the_type (param 2 W))
-    (as_row_send (row_field (Outgoing.the_row (param 2 W))) (outgoing_send (param 2 W) send), (count_send, (as_row_send (row_field LetterSource.the_row) source_send, (end_send, tt))))
+    (as_row_send (row_field (Outgoing.the_row (param 2 W))) (outgoing_send (param 2 W) send), (count_send, (as_row_send (row_field LetterSource.the_row) source_send, (search (option.the_field_send, sendable) depth 20, tt))))

@@ -1,11 +1,12 @@
 -- Of private parts: how a run is concluded, from how it was collected, what came of its agents, and
 -- what was posted.
 use Rattle.std.specs.Prelude
-use Rattle.std.specs.Prelude.{◌≡◌, Bool, true, false, List, [], ◌++◌, Result, Ok, Err, Some}
+use Rattle.std.specs.Prelude.{◌≡◌, true, List, [], ◌++◌, Option, None, Some, Result, Ok, Err, is_some}
 use Rattle.dsn_book.specs.declared.keeper.Keeper.{Ghosts as Keeper}
 use Rattle.dsn_book.specs.Step.{letters_in}
 use Rattle.dsn_outcome.specs.History.{Exchange}
 use Rattle.dsn_outcome.specs.Letter.{Letter}
+use Rattle.dsn_crew.specs.declared.lane.lane_gone.LaneGone.{LaneGone}
 use Rattle.dsn_crew.specs.declared.post.posted.Posted.{Posted}
 use Rattle.dsn_crew.specs.agents.Agent.{LaneHalves, IsFinished}
 use Rattle.dsn_crew.specs.desk.Close.{AreCrew, AreOf, IsHeard}
@@ -37,9 +38,9 @@ abbrev pub account_of :
 account_of lines agents desk posted = record {
   agents = lines;
   letters = posted.posted;
-  unsent = posted.unsent;
-  whole = posted.whole;
-  outbox = posted.outbox;
+  unsent = posted.end.unsent;
+  whole = posted.end.whole;
+  outbox = posted.end.outbox;
   book = desk.book;
   taken = desk.requests.taken;
   halves = agents;
@@ -52,8 +53,8 @@ abbrev pub fault_of :
 fault_of cause held book desk posted =
     record {
       cause = cause;
-      outbox = posted.outbox;
-      unsent = posted.unsent ++ held;
+      outbox = posted.end.outbox;
+      unsent = posted.end.unsent ++ held;
       book = Some book;
       taken = desk.requests.taken;
       behind = desk.behind;
@@ -63,7 +64,7 @@ fault_of cause held book desk posted =
 pub record HasClosed {B W : Type 0} (keeper : Keeper B) (lines : List AgentLine)
     (agents : List LaneHalves) (desk : Desk B) (posted : Posted W)
     (account : Account W B) : Type 0 where
-  pub all : posted.all ≡ true
+  pub all : posted.lost ≡ None
   pub account_is : account ≡ account_of lines agents desk posted
   pub heard : (before : List Exchange) → BeginsWith keeper desk.start before
       → Prelude.All (IsHeard keeper before desk) agents
@@ -72,10 +73,10 @@ pub record HasClosed {B W : Type 0} (keeper : Keeper B) (lines : List AgentLine)
   pub has : (before : List Exchange) → BeginsWith keeper desk.start before
       → keeper.has account.book (history keeper before desk) []
 
--- the cause of one in which an agent was not started, by whether all letters came to the poster
-abbrev pub missing_cause : Bool → CrewCause
-missing_cause true = causes.Refused
-missing_cause false = causes.Lost
+-- the cause of one in which an agent was not started, by whether the lane of letters was lost
+abbrev pub missing_cause : Option LaneGone → CrewCause
+missing_cause None = causes.Refused
+missing_cause (Some gone) = causes.Lost
 
 -- where all went well the crew is closed; else this is its fault
 abbrev pub Concludes :
@@ -84,10 +85,10 @@ abbrev pub Concludes :
 Concludes keeper (Whole desk) (All lines agents) posted (Ok account) =
     HasClosed keeper lines.items agents.items desk posted account
 Concludes keeper (Whole desk) (All lines agents) posted (Err fault) =
-    (posted.all ≡ false) × (fault ≡ fault_of causes.Lost [] desk.book desk posted)
+    (is_some posted.lost ≡ true) × (fault ≡ fault_of causes.Lost [] desk.book desk posted)
 Concludes keeper (Whole desk) Missing posted (Ok account) = ⊥
 Concludes keeper (Whole desk) Missing posted (Err fault) =
-    fault ≡ fault_of (missing_cause posted.all) [] desk.book desk posted
+    fault ≡ fault_of (missing_cause posted.lost) [] desk.book desk posted
 Concludes keeper (Whole desk) (Lost unheard) posted (Ok account) = ⊥
 Concludes keeper (Whole desk) (Lost unheard) posted (Err fault) =
     fault ≡ fault_of causes.Lost [] desk.book desk posted

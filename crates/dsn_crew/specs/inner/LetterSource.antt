@@ -2,10 +2,8 @@
 use Rattle.std.specs.Prelude.{Bool, List, Option, Some, None, ◌≡◌, false, [], ◌∷◌, ◌++◌, Result, Ok, Err, ℕ, suc, true}
 use Rattle.std.specs.Option.{option_to_list}
 use Rattle.dsn_crew.specs.declared.lane.lane_gone.LaneGone.{LaneGone}
-use Rattle.dsn_crew.specs.declared.post.letters_end.LettersEnd.TheVariants.{Marked, Gone}
-use Rattle.dsn_crew.specs.declared.post.letters_end.LettersEnd.{LettersEnd}
 use Rattle.dsn_crew.specs.lane.Halves.{Identity, Out}
-use Rattle.dsn_crew.specs.post.LetterSource.{LetterSource, is_marked}
+use Rattle.dsn_crew.specs.post.LetterSource.{LetterSource}
 use Rattle.dsn_crew.specs.post.Parcel.{Parcel}
 use Rattle.dsn_outcome.specs.Letter.{Letter}
 
@@ -15,18 +13,15 @@ pub record FinishedSink : Type 0 where
   pub letters : List Letter
   pub marked : Bool
 
--- what the lane reported, where it was lost
-abbrev pub lane_lost : LettersEnd → Option LaneGone
-lane_lost Marked = None
-lane_lost (Gone gone) = Some gone
-
--- what taking comes to: the next letter; or none, once the end mark came or where the lane is lost
-abbrev pub HasTaken : LetterSource → LetterSource → Result Letter LettersEnd → Type 0
-HasTaken old new (Ok letter) =
+-- the result of taking: the next letter; or none, once the end mark came or if the lane is lost
+abbrev pub HasTaken : LetterSource → LetterSource → Result (Option Letter) LaneGone → Type 0
+HasTaken old new (Ok (Some letter)) =
     (old.marked ≡ false)
     × (new ≡ record { lane = old.lane; letters = old.letters ++ letter ∷ []; marked = false })
-HasTaken old new (Err end) =
-    (new.lane ≡ old.lane) × (new.letters ≡ old.letters) × (new.marked ≡ is_marked end)
+HasTaken old new (Ok None) =
+    (new.lane ≡ old.lane) × (new.letters ≡ old.letters) × (new.marked ≡ true)
+HasTaken old new (Err gone) =
+    (new.lane ≡ old.lane) × (new.letters ≡ old.letters) × (new.marked ≡ false)
 
 -- the parcels of these letters, numbered from one on, and after them the end mark where there is
 -- one

@@ -1,5 +1,5 @@
 -- Posting: what the poster's thread comes to, and the outbox at its end.
-use Rattle.std.specs.Prelude.{◌≡◌, ℕ, ◌+◌, ◌≤◌, List, [], ◌++◌, length}
+use Rattle.std.specs.Prelude.{◌≡◌, ℕ, ◌+◌, ◌≤◌, List, [], ◌++◌, length, is_none}
 use Rattle.std.specs.Io.KnownBytes.{Appends}
 use mathlib.Core.List.{IsPrefix}
 use Rattle.dsn_device.specs.UntilFailure.{TakesNoTime}
@@ -7,7 +7,6 @@ use Rattle.dsn_device.specs.declared.drain.Drain.{Ghosts as Drain}
 use Rattle.dsn_crew.specs.lane.Halves.{Identity}
 use Rattle.dsn_outcome.specs.Letter.{Letter}
 use Rattle.dsn_report.specs.Outgoing.{Delivered, Outgoing}
-use Rattle.dsn_crew.specs.post.LetterSource.{is_marked}
 use Rattle.dsn_crew.specs.post.Parcel.{Parcel}
 use Rattle.dsn_crew.specs.declared.post.posting.Posting.{Posting}
 
@@ -27,7 +26,7 @@ pub record IsPosting {W : Type 0} (drain : Drain W) (begun : Outgoing W) (lane :
       → Delivered drain host start end.outgoing (first ++ end.source.letters)
   pub few : length end.outgoing.unsent ≤ length begun.unsent + length end.source.letters
   pub idle : end.source.letters ≡ [] → end.outgoing ≡ begun
-  pub ended : end.source.marked ≡ is_marked end.end
+  pub ended : end.source.marked ≡ is_none end.lost
 
 -- an outbox to which nothing was written, of whose marks a crash leaves what it left before
 pub record IsUntouched {W : Type 0} (drain : Drain W) (start end : W) : Type 0 where

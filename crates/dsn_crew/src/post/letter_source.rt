@@ -1,10 +1,9 @@
 //! The poster's side of the lane of letters.
-ghost use Rattle.std.specs.Prelude.{◌≡◌, ◌≤◌, OnOk, false, [], length};
+ghost use Rattle.std.specs.Prelude.{◌≡◌, ◌≤◌, false, [], length, IfOk, IsSome};
 ghost use Rattle.dsn_crew.specs.lane.Lane.{most_sent};
 ghost use Rattle.dsn_crew.specs.inner.LetterSource.{HasTaken};
 
-use crate::lane::LaneOut;
-use crate::post::letters_end::LettersEnd;
+use crate::lane::{LaneGone, LaneOut};
 use crate::post::parcel::Parcel;
 use dsn_outcome::Letter;
 use std::marker::Model;
@@ -53,26 +52,27 @@ impl LetterSource {
         }
     }
 
-    /// Takes the next letter, and waits while there is none. `Marked` comes at the end mark and
-    /// after it, `Gone` where the sending half is gone before its mark.
+    /// Takes the next letter, and waits for it. Returns `None` at the end mark and after it, and
+    /// `LaneGone` if the sending half is gone before its mark.
     #[tactic(auto, using(crate::proofs::post::LetterSourceLemmas::parcels))]
-    pub(super) fn take(&mut self, rt: &impl Wait) -> Result<Letter, LettersEnd>
+    pub(super) fn take(&mut self, rt: &impl Wait) -> Result<Option<Letter>, LaneGone>
         ensures taken { HasTaken self.old self.new result }
-        ensures few { OnOk result (length self.new.letters ≤ most_sent) }
+        ensures few { IfOk result
+            (λ letter. IsSome letter → length self.new.letters ≤ most_sent) }
     {
         if self.marked {
-            return Err(LettersEnd::Marked);
+            return Ok(None);
         }
         let parcel = match self.parcels.take(rt) {
             Ok(parcel) => parcel,
-            Err(end) => return Err(LettersEnd::Gone(end.gone)),
+            Err(end) => return Err(end.gone),
         };
         let Parcel { letter, .. } = parcel;
         match letter {
-            Some(letter) => Ok(letter),
+            Some(letter) => Ok(Some(letter)),
             None => {
                 self.marked = true;
-                Err(LettersEnd::Marked)
+                Ok(None)
             }
         }
     }

@@ -2,8 +2,8 @@
 ghost use Rattle.std.specs.Prelude.{◌≡◌, []};
 ghost use Rattle.dsn_crew.specs.post.Posting.{IsPosting};
 
+use crate::lane::LaneGone;
 use crate::post::letter_source::LetterSource;
-use crate::post::letters_end::LettersEnd;
 use dsn_device::Drain;
 use dsn_report::Outgoing;
 use std::sync::Wait;
@@ -17,8 +17,8 @@ pub struct Posting<W> {
     pub handed: u32,
     /// The half by which they came, for the close.
     pub source: LetterSource,
-    /// Why no more came.
-    pub end: LettersEnd,
+    /// What the lane reported if it was lost; `None` if the end mark came.
+    pub lost: Option<LaneGone>,
 }
 
 /// Posts the letters that come over a lane, one after another, until the end mark comes or the lane
@@ -34,16 +34,24 @@ pub(super) fn post_all<W: Drain>(
     let mut handed = 0;
     for _ in rt.forever() {
         match source.take(rt) {
-            Ok(letter) => {
+            Ok(Some(letter)) => {
                 outgoing.hand(letter);
                 handed += 1;
             }
-            Err(end) => {
+            Ok(None) => {
                 return Posting {
                     outgoing,
                     handed,
                     source,
-                    end,
+                    lost: None,
+                };
+            }
+            Err(gone) => {
+                return Posting {
+                    outgoing,
+                    handed,
+                    source,
+                    lost: Some(gone),
                 };
             }
         }

@@ -7,7 +7,6 @@ use crate::post::posted::Posted;
 use crate::post::posting::Posting;
 use crate::post::posting_start::Posts;
 use dsn_device::Drain;
-use dsn_report::OutboxEnd;
 use std::sync::Wait;
 use std::thread::{PromisedHandle, Threads};
 
@@ -27,23 +26,15 @@ pub(crate) fn end_posting<W: Drain + Drop>(
         outgoing,
         handed,
         source,
-        end,
+        lost,
     } = handle.join(rt);
-    let lost = end.into_lost();
     sink.close(rt, source);
-    let OutboxEnd {
-        outbox,
-        whole,
-        unsent,
-    } = outgoing.finish();
+    let end = outgoing.finish();
     Posted {
-        outbox,
-        whole,
         // After a lost lane the letters that still waited in it are dropped, and are in neither
         // list.
-        posted: handed - unsent.len() as u32,
-        unsent,
-        all: lost.is_none(),
+        posted: handed - end.unsent.len() as u32,
+        end,
         lost,
     }
 }

@@ -8,7 +8,8 @@ use Rattle.dsn_book.specs.declared.keeper.Keeper.{Ghosts as Keeper}
 use Rattle.dsn_crew.specs.agents.Agent.{LaneHalves}
 use Rattle.dsn_crew.specs.agents.Port.{AreOverPort, Given, all_given}
 use Rattle.dsn_crew.specs.Crew.{Account, AreAgentAccounts, IsAccountAfter, IsAgentAccount, PostedBefore, most_ports, none_posted}
-use Rattle.dsn_crew.specs.declared.crew_cause.CrewCause.TheVariants.{PortCount, Unkept}
+use Rattle.dsn_crew.specs.declared.crew_cause.CrewCause.{CrewCause}
+use Rattle.dsn_crew.specs.declared.crew_cause.CrewCause.TheVariants.{PortCount, Refused, Unkept}
 use Rattle.dsn_crew.specs.declared.agents.agent_line.AgentLine.{AgentLine}
 use Rattle.dsn_crew.specs.declared.agents.port.Port.{Ghosts as Port}
 use Rattle.dsn_device.specs.declared.drain.Drain.{Ghosts as Drain}
@@ -19,10 +20,11 @@ use Rattle.dsn_outcome.specs.History.{Limits, Exchange, history_of, sealed_lette
 use Rattle.dsn_outcome.specs.Letter.{Letter}
 use Rattle.dsn_outcome.specs.Request.{Request}
 use Rattle.dsn_report.specs.Outgoing.{Outgoing}
-use Rattle.noticed_lib.specs.daemon.Journaled.{IsRunOver, IsServeOver, marking_drain}
+use Rattle.noticed_lib.specs.daemon.Journaled.{IsRunOver, IsServeOver, IsSocketServeOver, marking_drain}
 use Rattle.dsn_ledger.specs.KeptBook.{ledger_keeper}
-use Rattle.noticed_lib.specs.daemon.Serve.{IsServe, WritesFault}
+use Rattle.noticed_lib.specs.daemon.Serve.{IsServe, IsSocketServe, WritesFault}
 use Rattle.noticed_lib.specs.daemon.SocketUses.{IsWithin, socket_port}
+use Rattle.noticed_lib.specs.inner.Daemon.{HasNoPorts}
 use Rattle.noticed_lib.specs.declared.daemon.serve_end.ServeEnd.{ServeEnd}
 
 -- a port that doesn't tell its connections, and may give no more than these uses have it
@@ -142,7 +144,7 @@ module _ {P H : Type 0} (ends : H → Type 0) (watch_of : P → H) (left_of : P 
   ports-fit (one ∷ ports) are = All-cons GivesWithin one ports (port-fits one (All-head IsOf one ports are)) (ports-fit ports (All-tail IsOf one ports are))
 
 -- a run that was refused for the number of its agents
-pub serve-refused : {W N : Type 0} (may_end : Type 0) (uses : ℕ) (drain : Drain W) (notes_device : Drain N) (host : List ℕ) (limits : Limits) (agents : ℕ) (start : W) (notes later : N) (end : ServeEnd W) → (agents ≡ 0) ⊎ (most_ports < agents) → WritesFault notes_device PortCount start [] notes later end → IsServe (socket_port may_end) drain notes_device host limits (replicate agents uses) start notes later end
+serve-refused : {W N : Type 0} (may_end : Type 0) (uses : ℕ) (drain : Drain W) (notes_device : Drain N) (host : List ℕ) (limits : Limits) (agents : ℕ) (start : W) (notes later : N) (end : ServeEnd W) → (agents ≡ 0) ⊎ (most_ports < agents) → WritesFault notes_device PortCount start [] notes later end → IsServe (socket_port may_end) drain notes_device host limits (replicate agents uses) start notes later end
 serve-refused may_end uses drain notes_device host limits agents start notes later end few noted = inr (record {
   fault = record { cause = PortCount; outbox = start; unsent = []; book = None; taken = []; behind = [] };
   crew = (refl, refl, refl, refl);
@@ -155,3 +157,20 @@ serve-refused may_end uses drain notes_device host limits agents start notes lat
 pub no_crew : (agents : ℕ) → (1 ≤ agents) × (agents ≤ most_ports) → (agents ≡ 0) ⊎ (most_ports < agents) → ⊥
 no_crew agents crew (inl none) = omega (arith, crew.0, none)
 no_crew agents crew (inr more) = omega (arith, crew.1, more)
+
+-- a run over a socket whose agents get no ports
+module _ {W N : Type 0} (may_end : Type 0) (uses : ℕ) (drain : Drain W) (notes_device : Drain N) (host : List ℕ) (limits : Limits) (agents : ℕ) (start : W) (notes later : N) (end : ServeEnd W) where
+  pub no-ports : (cause : CrewCause) → HasNoPorts agents cause → WritesFault notes_device cause start [] notes later end → IsSocketServe drain notes_device may_end host limits agents uses start notes later end
+  no-ports cause (inl count) noted = inl (serve-refused may_end uses drain notes_device host limits agents start notes later end count.1 (subst (λ (it : CrewCause). WritesFault notes_device it start [] notes later end) count.0 noted))
+  no-ports cause (inr refused) noted = inr ((refused.1, refused.2), subst (λ (it : CrewCause). WritesFault notes_device it start [] notes later end) refused.0 noted)
+
+  pub no-ports-over : {D M : Type 0} (disk : Disk.Ghosts D) (marks_disk : Disk.Ghosts M) (journal last : D) (marks last_marks : M) (cause : CrewCause) → HasNoPorts agents cause → WritesFault notes_device cause start [] notes later end → last ≡ journal → last_marks ≡ marks
+      → IsSocketServeOver disk marks_disk drain notes_device may_end host limits agents uses journal marks start notes later end last last_marks
+  no-ports-over disk marks_disk journal last marks last_marks cause (inl count) noted same same_marks = record {
+    crew = λ crew. absurd (no_crew agents crew count.1);
+    none = λ _. (subst (λ (it : CrewCause). WritesFault notes_device it start [] notes later end) count.0 noted, same, same_marks);
+  }
+  no-ports-over disk marks_disk journal last marks last_marks cause (inr refused) noted same same_marks = record {
+    crew = λ _. inr (subst (λ (it : CrewCause). WritesFault notes_device it start [] notes later end) refused.0 noted, same, same_marks);
+    none = λ few. absurd (no_crew agents (refused.1, refused.2) few);
+  }

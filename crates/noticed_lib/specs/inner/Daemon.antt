@@ -1,10 +1,12 @@
 -- The start of a daemon over a journal, and the notes of a run.
 use Rattle.std.specs.Prelude.{List, ◌≡◌, ℕ, ◌+◌, ◌^◌, ◌<◌, [], ◌≢◌, ◌≤◌, Bool, true, false, length, Option, ◌⊎◌}
 use Rattle.dsn_book.specs.declared.open_line.OpenLine.{OpenLine}
-use Rattle.dsn_crew.specs.Crew.{IsPostedBy, PostedBefore}
+use Rattle.dsn_crew.specs.Crew.{IsPostedBy, PostedBefore, most_ports}
 use Rattle.dsn_crew.specs.KeeperHistory.{BeginsWith}
 use Rattle.dsn_crew.specs.agents.Port.{Given, connection, done, failed}
 use Rattle.dsn_crew.specs.declared.agents.agent_line.AgentLine.{AgentLine}
+use Rattle.dsn_crew.specs.declared.crew_cause.CrewCause.{CrewCause}
+use Rattle.dsn_crew.specs.declared.crew_cause.CrewCause.TheVariants.{PortCount, Refused}
 use Rattle.dsn_device.specs.UntilFailure.{WritesUntilFailure}
 use Rattle.dsn_device.specs.declared.drain.Drain.{Ghosts as Drain}
 use Rattle.dsn_ledger.specs.Compacted.{compacted}
@@ -100,6 +102,12 @@ pub record WritesRun {N : Type 0} (notes_device : Drain N) (history : List Excha
   pub noted : WritesUntilFailure notes_device false lost notes later
       (run_lines agents whole unsent logs)
   pub status_is : status ≡ run_status lost agents whole logs
+
+-- so many agents that get no ports: they are not 1 to `most_ports`, or the ports found no memory
+abbrev pub HasNoPorts : ℕ → CrewCause → Type 0
+HasNoPorts agents cause =
+    ((cause ≡ PortCount) × ((agents ≡ 0) ⊎ (most_ports < agents)))
+    ⊎ ((cause ≡ Refused) × (1 ≤ agents) × (agents ≤ most_ports))
 
 -- one answer of a port, by its uses before and after: with none left it is done. Else there is one
 -- use fewer, and it is done only where its watch may end the run

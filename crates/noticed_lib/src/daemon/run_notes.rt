@@ -11,6 +11,7 @@ ghost use Rattle.noticed_lib.specs.daemon.Serve.{WritesAccount, WritesNumber};
 ghost use Rattle.noticed_lib.specs.inner.Daemon.{WritesRun};
 
 use crate::daemon::agent_lines::agent_line;
+use crate::daemon::journal_start::NotStarted;
 use crate::daemon::journaled_end::JournaledEnd;
 use crate::daemon::serve_end::ServeEnd;
 use dsn_book::Book;
@@ -133,6 +134,29 @@ pub(crate) fn write_fault<W, N: Drain>(
     let fault = Some(code);
     drop(write_last_lines(notes, &mut writing, fault, true, unsent, &no_logs));
     ServeEnd { outbox, status: 1 }
+}
+
+/// Writes the number of the fault for which a run over a journal didn't begin.
+pub(crate) fn write_not_started<W, D, M, N: Drain>(
+    alloc: Global,
+    not: NotStarted<W, D, M>,
+    notes: &mut N,
+) -> JournaledEnd<W, D, M>
+    ensures notes { WritesNumber N.Drain not.code not.outbox [] notes.old notes.new result.end }
+    ensures journal { result.journal ≡ not.journal }
+    ensures marks { result.marks ≡ not.marks }
+{
+    let NotStarted {
+        code,
+        outbox,
+        journal,
+        marks,
+    } = not;
+    JournaledEnd {
+        end: write_fault(alloc, code, outbox, Letters::new(), notes),
+        journal,
+        marks,
+    }
 }
 
 fn write_agents<N: Drain>(notes: &mut N, writing: &mut UntilFailure, agents: &[AgentLine])

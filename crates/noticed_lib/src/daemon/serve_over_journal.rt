@@ -4,15 +4,14 @@ ghost use Rattle.noticed_lib.specs.daemon.Journaled.{IsRunOver, IsServeOver};
 ghost use Rattle.noticed_lib.specs.inner.Daemon.{MayRunOver};
 
 use crate::daemon::journal_folder::JournalFolder;
-use crate::daemon::journal_start::{JournalStart, NotStarted, start_over};
+use crate::daemon::journal_start::{JournalStart, start_over};
 use crate::daemon::journaled_end::JournaledEnd;
-use crate::daemon::run_notes::{write_fault, write_kept_account};
+use crate::daemon::run_notes::{write_fault, write_kept_account, write_not_started};
 use dsn_book::Limits;
 use dsn_crew::{CrewFault, Gate, Port, run_crew_over};
 use dsn_device::Drain;
 use dsn_journal::{MarkCount, Replaceable, SharedMarkCount};
 use dsn_ledger::KeptBook;
-use dsn_outcome::Letters;
 use dsn_report::Site;
 use std::alloc::Global;
 use std::sync::Wait;
@@ -63,18 +62,7 @@ pub(crate) fn serve_ports_over<
     let count = SharedMarkCount::new(rt);
     match start_over(alloc, site, limits, outbox, folder, &count) {
         Ok(start) => run_over(rt, alloc, start, ports, gate, notes),
-        Err(
-            NotStarted {
-                code,
-                outbox,
-                journal,
-                marks,
-            },
-        ) => JournaledEnd {
-            end: write_fault(alloc, code, outbox, Letters::new(), notes),
-            journal,
-            marks,
-        },
+        Err(not) => write_not_started(alloc, not, notes),
     }
 }
 

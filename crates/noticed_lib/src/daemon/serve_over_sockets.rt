@@ -1,17 +1,20 @@
 //! The run of the daemon over a listening socket.
-ghost use Rattle.std.specs.Prelude.{◌≡◌, ◌≤◌, ◌<◌, ◌⊎◌, All, length, true, false, IfOk};
+ghost use Rattle.std.specs.Prelude.{◌≡◌, ◌≤◌, All, length, IfErr, IfOk};
 ghost use Rattle.dsn_book.specs.Limits.{limits_of};
 ghost use Rattle.dsn_crew.specs.Crew.{most_ports};
 ghost use Rattle.noticed_lib.specs.daemon.Journaled.{IsSocketServeOver};
 ghost use Rattle.noticed_lib.specs.daemon.Serve.{IsSocketServe};
+ghost use Rattle.noticed_lib.specs.inner.Daemon.{HasNoPorts};
 
 use crate::daemon::journal_folder::JournalFolder;
+use crate::daemon::journal_start::NotStarted;
 use crate::daemon::journaled_end::JournaledEnd;
 use crate::daemon::no_watch::NoWatch;
-use crate::daemon::run_notes::write_fault;
+use crate::daemon::run_notes::{write_fault, write_not_started};
 use crate::daemon::serve_end::ServeEnd;
 use crate::daemon::serve_over_journal::serve_ports_over;
 use crate::daemon::serve_over_ports::serve_ports;
+use crate::daemon::serving::Serving;
 use crate::daemon::socket_port::SocketPort;
 use crate::daemon::watch::Watch;
 use crate::daemon::watch_gate::WatchGate;
@@ -19,7 +22,7 @@ use dsn_book::Limits;
 use dsn_crew::CrewCause;
 use dsn_device::Drain;
 use dsn_journal::Replaceable;
-use dsn_outcome::{Letters, NoMemory};
+use dsn_outcome::Letters;
 use dsn_report::Site;
 use std::alloc::Global;
 use std::os::unix::net::UnixListener;
@@ -32,8 +35,8 @@ const MOST_AGENTS: u32 = 16;
 
 /// Serves what connects to `listener` by a crew of `agents` agents, as `serve_ports` does. All of
 /// them accept on the one listener, and each is done once it has served `max_use` connections; its
-/// port fails where an accept fails. Where there are not 1 to 16 agents that is noted (43) before
-/// any memory is taken; refused memory for the ports is noted as the crew's is (42).
+/// port fails if an accept fails. If there are not 1 to 16 agents that is noted (43) before any
+/// memory is taken; refused memory for the ports is noted as the crew's is (42).
 pub fn serve<R: Threads + Wait + Sync, W: Drain + Drop + Send, N: Drain>(
     rt: &R,
     alloc: Global,
@@ -49,9 +52,12 @@ pub fn serve<R: Threads + Wait + Sync, W: Drain + Drop + Send, N: Drain>(
         result }
 {
     let watch = NoWatch;
-    serve_socket(
-        rt, alloc, listener, &watch, site, limits, agents, max_use, outbox, notes,
-    )
+    let serving = Serving {
+        site,
+        agents,
+        max_use,
+    };
+    serve_socket(rt, alloc, listener, &watch, serving, limits, outbox, notes)
 }
 
 /// Serves with the program's limits, under a watch: each agent is done also once the watch finds
@@ -61,23 +67,20 @@ pub fn serve_watched<R: Threads + Wait + Sync, H: Watch + Sync, W: Drain + Drop 
     alloc: Global,
     listener: &UnixListener,
     watch: &H,
-    site: Site,
-    agents: u32,
-    max_use: u32,
+    serving: Serving,
     outbox: W,
     notes: &mut N,
 ) -> ServeEnd<W>
-    ensures { IsSocketServe W.Drain N.Drain (H.may_end watch.now) site
-        (limits_of 4096 1000 1000000) agents max_use outbox notes.old notes.new result }
+    ensures { IsSocketServe W.Drain N.Drain (H.may_end watch.now) serving.site
+        (limits_of 4096 1000 1000000) serving.agents serving.max_use outbox notes.old notes.new
+        result }
 {
     let limits = Limits::of_program();
-    serve_socket(
-        rt, alloc, listener, watch, site, limits, agents, max_use, outbox, notes,
-    )
+    serve_socket(rt, alloc, listener, watch, serving, limits, outbox, notes)
 }
 
 /// Serves as [`serve_watched`] does, over the disks of a journal's folder, as `serve_ports_over` has
-/// it. Where there are not 1 to 16 agents that is noted (43) before a disk is touched.
+/// it. If there are not 1 to 16 agents that is noted (43) before a disk is touched.
 pub fn serve_journaled<
     R: Threads + Wait + Clock + Sync,
     H: Watch + Sync,
@@ -90,26 +93,20 @@ pub fn serve_journaled<
     alloc: Global,
     listener: &UnixListener,
     watch: &H,
-    site: Site,
-    agents: u32,
-    max_use: u32,
+    serving: Serving,
     outbox: W,
     folder: JournalFolder<D, M>,
     notes: &mut N,
 ) -> JournaledEnd<W, D, M>
-    ensures { IsSocketServeOver D.Disk M.Disk W.Drain N.Drain (H.may_end watch.now) site
-        (limits_of 4096 1000 1000000) agents max_use folder.journal folder.marks outbox notes.old
-        notes.new result.end result.journal result.marks }
+    ensures { IsSocketServeOver D.Disk M.Disk W.Drain N.Drain (H.may_end watch.now) serving.site
+        (limits_of 4096 1000 1000000) serving.agents serving.max_use folder.journal folder.marks
+        outbox notes.old notes.new result.end result.journal result.marks }
 {
-    if !is_crew(agents) {
-        let code = CrewCause::PortCount.code();
-        let end = write_fault(alloc, code, outbox, Letters::new(), notes);
-        return JournaledEnd {
-            end,
-            journal: folder.journal,
-            marks: folder.marks,
-        };
-    }
+    let Serving {
+        site,
+        agents,
+        max_use,
+    } = serving;
     match socket_ports(alloc, listener, watch, agents, max_use) {
         Ok(ports) => {
             let program = Limits::of_program();
@@ -118,15 +115,14 @@ pub fn serve_journaled<
                 rt, alloc, site, program, ports, outbox, folder, &gate, notes,
             )
         }
-        Err(NoMemory) => {
-            // Nothing has begun, so it is noted as the crew's own want of memory is.
-            let code = CrewCause::Refused.code();
-            let end = write_fault(alloc, code, outbox, Letters::new(), notes);
-            JournaledEnd {
-                end,
+        Err(cause) => {
+            let not = NotStarted {
+                code: cause.code(),
+                outbox,
                 journal: folder.journal,
                 marks: folder.marks,
-            }
+            };
+            write_not_started(alloc, not, notes)
         }
     }
 }
@@ -137,53 +133,49 @@ fn serve_socket<R: Threads + Wait + Sync, H: Watch + Sync, W: Drain + Drop + Sen
     alloc: Global,
     listener: &UnixListener,
     watch: &H,
-    site: Site,
+    serving: Serving,
     limits: Limits,
-    agents: u32,
-    max_use: u32,
     outbox: W,
     notes: &mut N,
 ) -> ServeEnd<W>
-    ensures { IsSocketServe W.Drain N.Drain (H.may_end watch.now) site limits agents max_use outbox
-        notes.old notes.new result }
+    ensures { IsSocketServe W.Drain N.Drain (H.may_end watch.now) serving.site limits serving.agents
+        serving.max_use outbox notes.old notes.new result }
 {
-    if !is_crew(agents) {
-        let code = CrewCause::PortCount.code();
-        return write_fault(alloc, code, outbox, Letters::new(), notes);
-    }
+    let Serving {
+        site,
+        agents,
+        max_use,
+    } = serving;
     match socket_ports(alloc, listener, watch, agents, max_use) {
         Ok(ports) => {
             let gate = WatchGate { watch };
             serve_ports(rt, alloc, site, limits, ports, outbox, &gate, notes)
         }
-        Err(NoMemory) => {
-            let code = CrewCause::Refused.code();
-            write_fault(alloc, code, outbox, Letters::new(), notes)
-        }
+        Err(cause) => write_fault(alloc, cause.code(), outbox, Letters::new(), notes),
     }
 }
 
-/// Whether a crew may have so many agents.
-fn is_crew(agents: u32) -> bool
-    ensures crew { result ≡ true → (1 ≤ agents) × (agents ≤ most_ports) }
-    ensures none { result ≡ false → (agents ≡ 0) ⊎ (most_ports < agents) }
-{
-    agents >= 1 && agents <= MOST_AGENTS
-}
-
-/// So many ports over one listener.
+/// A port over one listener for each of these agents. Returns `PortCount` if they are not 1 to 16,
+/// before any memory is taken, and `Refused` if memory is refused.
 fn socket_ports<'a, H>(
     alloc: Global,
     listener: &'a UnixListener,
     watch: &'a H,
     agents: u32,
     max_use: u32,
-) -> Result<Vec<SocketPort<'a, H>>, NoMemory>
+) -> Result<Vec<SocketPort<'a, H>>, CrewCause>
+    ensures crew { IfOk result (λ _. (1 ≤ agents) × (agents ≤ most_ports)) }
+    ensures none { IfErr result (HasNoPorts agents) }
     ensures count { IfOk result (λ ports. length ports.items ≡ agents) }
     ensures uses { IfOk result (λ ports. All
         (λ port. (port.left ≡ max_use) × (port.watch.now ≡ watch.now)) ports.items) }
 {
-    let mut ports = Vec::with_capacity(alloc, agents as usize).map_err(|_| NoMemory)?;
+    if agents == 0 || agents > MOST_AGENTS {
+        return Err(CrewCause::PortCount);
+    }
+    let Ok(mut ports) = Vec::with_capacity(alloc, agents as usize) else {
+        return Err(CrewCause::Refused);
+    };
     for _ in 0..agents {
         ports.push_reserved(SocketPort {
             listener,

@@ -9,13 +9,13 @@ pub run_crew_over-requires-clause-begins : goal.run_crew_over-requires-clause-be
 run_crew_over-requires-clause-begins g c κs within = ([], (c.in-Ok.ensures.empty.0, none_earlier))
 
 pub returns-in-Ok-clause-account : goal.returns-in-Ok-clause-account
-returns-in-Ok-clause-account g c = book_account _ _ _ _ _ _ _ _ c.in-Ok.ensures.limits (c.run_crew_over.ensures.account (none_posted c.args.site c.args.outbox) (nothing_posted g.W.Drain c.args.site c.args.outbox _ c.new.ensures.delivered c.new.ensures.new) [] (c.in-Ok.ensures.empty.0, none_earlier))
+returns-in-Ok-clause-account g c = book_account _ _ _ _ _ _ _ _ c.in-Ok.ensures.limits (c.run_crew_over.ensures.run.account (none_posted c.args.site c.args.outbox) (nothing_posted g.W.Drain c.args.site c.args.outbox _ c.new.ensures.delivered c.new.ensures.new) [] (c.in-Ok.ensures.empty.0, none_earlier))
 
 pub returns-in-Ok-clause-fault : goal.returns-in-Ok-clause-fault
-returns-in-Ok-clause-fault g c = book_fault _ _ _ _ _ _ _ c.in-Ok.ensures.limits (c.run_crew_over.ensures.fault (none_posted c.args.site c.args.outbox) (nothing_posted g.W.Drain c.args.site c.args.outbox _ c.new.ensures.delivered c.new.ensures.new) [] (c.in-Ok.ensures.empty.0, none_earlier))
+returns-in-Ok-clause-fault g c = book_fault _ _ _ _ _ _ _ c.in-Ok.ensures.limits (c.run_crew_over.ensures.run.fault (none_posted c.args.site c.args.outbox) (nothing_posted g.W.Drain c.args.site c.args.outbox _ c.new.ensures.delivered c.new.ensures.new) [] (c.in-Ok.ensures.empty.0, none_earlier))
 
 pub returns-in-Ok-clause-kept : goal.returns-in-Ok-clause-kept
-returns-in-Ok-clause-kept g c = book_kept _ _ _ _ _ _ (c.run_crew_over.ensures.fault (none_posted c.args.site c.args.outbox) (nothing_posted g.W.Drain c.args.site c.args.outbox _ c.new.ensures.delivered c.new.ensures.new) [] (c.in-Ok.ensures.empty.0, none_earlier))
+returns-in-Ok-clause-kept g c = book_kept _ _ _ _ _ _ (c.run_crew_over.ensures.run.fault (none_posted c.args.site c.args.outbox) (nothing_posted g.W.Drain c.args.site c.args.outbox _ c.new.ensures.delivered c.new.ensures.new) [] (c.in-Ok.ensures.empty.0, none_earlier))
 
 pub returns-in-Ok-clause-book : goal.returns-in-Ok-clause-book
-returns-in-Ok-clause-book g c = book_left _ _ _ _ _ _ _ c.in-Ok.ensures.limits (c.run_crew_over.ensures.fault (none_posted c.args.site c.args.outbox) (nothing_posted g.W.Drain c.args.site c.args.outbox _ c.new.ensures.delivered c.new.ensures.new) [] (c.in-Ok.ensures.empty.0, none_earlier))
+returns-in-Ok-clause-book g c = book_left _ _ _ _ _ _ _ c.in-Ok.ensures.limits (c.run_crew_over.ensures.run.fault (none_posted c.args.site c.args.outbox) (nothing_posted g.W.Drain c.args.site c.args.outbox _ c.new.ensures.delivered c.new.ensures.new) [] (c.in-Ok.ensures.empty.0, none_earlier))

@@ -5,7 +5,7 @@ use Rattle.dsn_crew.specs.post.LetterSink.{LetterSink}
 use Rattle.dsn_crew.specs.post.Parcel.{Parcel}
 use Rattle.dsn_crew.specs.inner.Posting.{IsPosted}
 use Rattle.dsn_crew.specs.post.Posting.{Posts}
-use Rattle.dsn_crew.proofs.CrewLemmas.{account_is, begins, collected_lane, crash_at_end, crash_at_fault, ends_length, fault_is, handles_length, left_few, may_close, may_miss, missing_few, never_begun, never_begun_with, never_crashed, never_more, no_count, sealed_few}
+use Rattle.dsn_crew.proofs.CrewLemmas.{begins, collected_lane, crew_run, ends_length, handles_length, may_close, may_miss, missing_few, never_begun, never_begun_with, never_ran, no_count}
 use Rattle.dsn_crew.specs.declared.crew_cause.CrewCause.TheVariants as causes
 use Rattle.dsn_crew.proofs.crew_run.run_in.Goals as goal
 
@@ -59,74 +59,31 @@ pub conclude-requires : goal.conclude-requires
 conclude-requires g c =
     let room = c.in-Ok.ensures.room in
     let same = c.in-Ok-start_posting.ensures.sink in
-    record { unlost = c.end_posting-posted.ensures.unlost; close = may_close g.B.Keeper g.P.Port c.args.book c.args.ports.items _ _ _ room.opened (search rules) _ c.start_all-handles.ensures _ c.join_all.ensures _ _ c.miss.ensures.missed _ _ (ap (λ (sink : LetterSink). sink.letters) same ∙ room.sink) c.requires.begins.0 _ _ (c.by-collected.ensures c.requires.begins.0 (begins g.B.Keeper g.P.Port c.args.book c.args.ports.items _ _ _ room.opened (search rules) _ c.start_all-handles.ensures _ c.join_all.ensures _ _ c.miss.ensures.missed c.requires.begins.0 c.requires.begins.1)) c.of-gathered.ensures }
+    record { close = may_close g.B.Keeper g.P.Port c.args.book c.args.ports.items _ _ _ room.opened (search rules) _ c.start_all-handles.ensures _ c.join_all.ensures _ _ c.miss.ensures.missed _ _ (ap (λ (sink : LetterSink). sink.letters) same ∙ room.sink) c.requires.begins.0 _ _ (c.by-collected.ensures c.requires.begins.0 (begins g.B.Keeper g.P.Port c.args.book c.args.ports.items _ _ _ room.opened (search rules) _ c.start_all-handles.ensures _ c.join_all.ensures _ _ c.miss.ensures.missed c.requires.begins.0 c.requires.begins.1)) c.of-gathered.ensures }
 
-pub returns-clause-account : goal.returns-clause-account
-returns-clause-account g c = λ from by before with_it.
+pub returns-clause-run : goal.returns-clause-run
+returns-clause-run g c =
     let room = c.in-Ok.ensures.room in
     let same = c.in-Ok-start_posting.ensures.sink in
-    let lane = collected_lane g.B.Keeper g.P.Port c.args.book c.args.ports.items _ _ _ room.opened (search rules) _ c.start_all-handles.ensures _ c.join_all.ensures _ _ c.miss.ensures.missed _ _ (ap (λ (sink : LetterSink). sink.letters) same ∙ room.sink) c.requires.begins.0 _ (c.by-collected.ensures c.requires.begins.0 (begins g.B.Keeper g.P.Port c.args.book c.args.ports.items _ _ _ room.opened (search rules) _ c.start_all-handles.ensures _ c.join_all.ensures _ _ c.miss.ensures.missed c.requires.begins.0 c.requires.begins.1)) in
+    let fresh = ap (λ (sink : LetterSink). sink.letters) same ∙ room.sink in
+    let lane = collected_lane g.B.Keeper g.P.Port c.args.book c.args.ports.items _ _ _ room.opened (search rules) _ c.start_all-handles.ensures _ c.join_all.ensures _ _ c.miss.ensures.missed _ _ fresh c.requires.begins.0 _ (c.by-collected.ensures c.requires.begins.0 (begins g.B.Keeper g.P.Port c.args.book c.args.ports.items _ _ _ room.opened (search rules) _ c.start_all-handles.ensures _ c.join_all.ensures _ _ c.miss.ensures.missed c.requires.begins.0 c.requires.begins.1)) in
     let waiting = ap (λ (it : Identity Parcel). it.capacity) (lane ∙ ap (λ (sink : LetterSink). sink.lane) same) ∙ room.waiting in
-    let posted =
-    subst (λ (posts : Posts g.row.W.Denot). IsPosted g.W.Drain posts.begun c.by-collected.new.sink.lane.capacity c.by-collected.new.sink.letters c.end_posting-posted.result) c.in-Ok-start_posting.ensures.promise c.end_posting-posted.ensures in
+    let posted = subst (λ (posts : Posts g.row.W.Denot). IsPosted g.W.Drain posts.begun c.by-collected.new.sink.lane.capacity c.by-collected.new.sink.letters c.end_posting-posted.result) c.in-Ok-start_posting.ensures.promise c.end_posting-posted.ensures in
     let post = subst (λ (most : ℕ). IsPosted g.W.Drain c.args.outgoing most c.by-collected.new.sink.letters c.end_posting-posted.result) waiting posted in
-    account_is g.B.Keeper g.P.Port c.args.book c.args.ports.items _ _ _ room.opened (search rules) _ c.start_all-handles.ensures _ c.join_all.ensures _ _ c.miss.ensures.missed _ _ (ap (λ (sink : LetterSink). sink.letters) same ∙ room.sink) before g.W.Drain from c.args.outgoing by _ post with_it _ _ _ (c.by-collected.ensures before (begins g.B.Keeper g.P.Port c.args.book c.args.ports.items _ _ _ room.opened (search rules) _ c.start_all-handles.ensures _ c.join_all.ensures _ _ c.miss.ensures.missed before with_it)) c.of-gathered.ensures c.conclude.ensures
-
-pub returns-clause-fault : goal.returns-clause-fault
-returns-clause-fault g c = λ from by before with_it.
-    let room = c.in-Ok.ensures.room in
-    let same = c.in-Ok-start_posting.ensures.sink in
-    let lane = collected_lane g.B.Keeper g.P.Port c.args.book c.args.ports.items _ _ _ room.opened (search rules) _ c.start_all-handles.ensures _ c.join_all.ensures _ _ c.miss.ensures.missed _ _ (ap (λ (sink : LetterSink). sink.letters) same ∙ room.sink) c.requires.begins.0 _ (c.by-collected.ensures c.requires.begins.0 (begins g.B.Keeper g.P.Port c.args.book c.args.ports.items _ _ _ room.opened (search rules) _ c.start_all-handles.ensures _ c.join_all.ensures _ _ c.miss.ensures.missed c.requires.begins.0 c.requires.begins.1)) in
-    let waiting = ap (λ (it : Identity Parcel). it.capacity) (lane ∙ ap (λ (sink : LetterSink). sink.lane) same) ∙ room.waiting in
-    let posted =
-    subst (λ (posts : Posts g.row.W.Denot). IsPosted g.W.Drain posts.begun c.by-collected.new.sink.lane.capacity c.by-collected.new.sink.letters c.end_posting-posted.result) c.in-Ok-start_posting.ensures.promise c.end_posting-posted.ensures in
-    let post = subst (λ (most : ℕ). IsPosted g.W.Drain c.args.outgoing most c.by-collected.new.sink.letters c.end_posting-posted.result) waiting posted in
-    fault_is g.B.Keeper g.P.Port c.args.book c.args.ports.items _ _ _ room.opened (search rules) _ c.start_all-handles.ensures _ c.join_all.ensures _ _ c.miss.ensures.missed _ _ (ap (λ (sink : LetterSink). sink.letters) same ∙ room.sink) before g.W.Drain from c.args.outgoing by _ post with_it _ _ _ (c.by-collected.ensures before (begins g.B.Keeper g.P.Port c.args.book c.args.ports.items _ _ _ room.opened (search rules) _ c.start_all-handles.ensures _ c.join_all.ensures _ _ c.miss.ensures.missed before with_it)) c.conclude.ensures
-
-pub returns-clause-sealed : goal.returns-clause-sealed
-returns-clause-sealed g c =
-    let room = c.in-Ok.ensures.room in
-    let same = c.in-Ok-start_posting.ensures.sink in
-    sealed_few g.B.Keeper g.P.Port c.args.book c.args.ports.items _ _ _ room.opened (search rules) _ c.start_all-handles.ensures _ c.join_all.ensures _ _ c.miss.ensures.missed _ _ (ap (λ (sink : LetterSink). sink.letters) same ∙ room.sink) c.requires.begins.0 _ _ _ _ (c.by-collected.ensures c.requires.begins.0 (begins g.B.Keeper g.P.Port c.args.book c.args.ports.items _ _ _ room.opened (search rules) _ c.start_all-handles.ensures _ c.join_all.ensures _ _ c.miss.ensures.missed c.requires.begins.0 c.requires.begins.1)) c.conclude.ensures
-
-pub returns-clause-left : goal.returns-clause-left
-returns-clause-left g c =
-    let room = c.in-Ok.ensures.room in
-    let same = c.in-Ok-start_posting.ensures.sink in
-    left_few g.B.Keeper g.P.Port c.args.book c.args.ports.items _ _ _ room.opened (search rules) _ c.start_all-handles.ensures _ c.join_all.ensures _ _ c.miss.ensures.missed _ _ (ap (λ (sink : LetterSink). sink.letters) same ∙ room.sink) c.requires.begins.0 _ _ _ _ (c.by-collected.ensures c.requires.begins.0 (begins g.B.Keeper g.P.Port c.args.book c.args.ports.items _ _ _ room.opened (search rules) _ c.start_all-handles.ensures _ c.join_all.ensures _ _ c.miss.ensures.missed c.requires.begins.0 c.requires.begins.1)) c.conclude.ensures
-
-pub returns-clause-crash : goal.returns-clause-crash
-returns-clause-crash g c = λ before with_it.
-    let room = c.in-Ok.ensures.room in
-    let same = c.in-Ok-start_posting.ensures.sink in
-    crash_at_end g.B.Keeper g.P.Port c.args.book c.args.ports.items _ _ _ room.opened (search rules) _ c.start_all-handles.ensures _ c.join_all.ensures _ _ c.miss.ensures.missed _ _ (ap (λ (sink : LetterSink). sink.letters) same ∙ room.sink) before _ _ _ _ with_it (c.by-collected.ensures before (begins g.B.Keeper g.P.Port c.args.book c.args.ports.items _ _ _ room.opened (search rules) _ c.start_all-handles.ensures _ c.join_all.ensures _ _ c.miss.ensures.missed before with_it)) c.conclude.ensures
-
-pub returns-clause-crash_at_fault : goal.returns-clause-crash_at_fault
-returns-clause-crash_at_fault g c = λ before with_it.
-    let room = c.in-Ok.ensures.room in
-    let same = c.in-Ok-start_posting.ensures.sink in
-    crash_at_fault g.B.Keeper g.P.Port c.args.book c.args.ports.items _ _ _ room.opened (search rules) _ c.start_all-handles.ensures _ c.join_all.ensures _ _ c.miss.ensures.missed _ _ (ap (λ (sink : LetterSink). sink.letters) same ∙ room.sink) before _ _ _ _ with_it (c.by-collected.ensures before (begins g.B.Keeper g.P.Port c.args.book c.args.ports.items _ _ _ room.opened (search rules) _ c.start_all-handles.ensures _ c.join_all.ensures _ _ c.miss.ensures.missed before with_it)) c.conclude.ensures
+    crew_run g.B.Keeper g.P.Port c.args.book c.args.ports.items _ _ _ room.opened (search rules) _ c.start_all-handles.ensures _ c.join_all.ensures _ _ c.miss.ensures.missed _ _ fresh g.W.Drain c.args.outgoing _ post _ _ _ c.requires.begins c.by-collected.ensures c.of-gathered.ensures c.conclude.ensures
 
 pub returns-clause-counted : goal.returns-clause-counted
 returns-clause-counted g c = no_count g.B.Keeper _ _ _ _ c.conclude.ensures
 
-pub returns-in-Err-clause-fault : goal.returns-in-Err-clause-fault
-returns-in-Err-clause-fault g c = λ from by before with_it.
-    never_begun g.B.Keeper g.W.Drain from before _ c.args.book _ _ with_it.0 (by.outbox ∙ sym c.into_outbox.ensures) (c.unbegun.ensures ∙ ap (never_begun_with causes.Refused c.into_outbox.result) c.in-Err.ensures.back)
+pub returns-in-Err-clause-run : goal.returns-in-Err-clause-run
+returns-in-Err-clause-run g c =
+    let is = c.unbegun.ensures ∙ ap (never_begun_with causes.Refused c.into_outbox.result) c.in-Err.ensures.back in
+    never_ran g.B.Keeper g.P.Port g.W.Drain c.args.book c.args.ports.items c.args.outgoing causes.Refused c.into_outbox.result _ g.met.B.Keeper.leaves_kept is
+    (λ from by before with_it. never_begun g.B.Keeper g.W.Drain from before _ c.args.book _ _ with_it.0 (by.outbox ∙ sym c.into_outbox.ensures) is)
 
-pub returns-in-Err-clause-crash_at_fault : goal.returns-in-Err-clause-crash_at_fault
-returns-in-Err-clause-crash_at_fault g c = λ before with_it.
-    never_crashed g.B.Keeper before _ causes.Refused c.into_outbox.result c.args.book _ g.met.B.Keeper.leaves_kept with_it.0 (c.unbegun.ensures ∙ ap (never_begun_with causes.Refused c.into_outbox.result) c.in-Err.ensures.back)
-
-pub returns-in-Err-clause-left : goal.returns-in-Err-clause-left
-returns-in-Err-clause-left g c = never_more g.B.Keeper causes.Refused c.into_outbox.result c.args.book _ (c.unbegun.ensures ∙ ap (never_begun_with causes.Refused c.into_outbox.result) c.in-Err.ensures.back)
-
-pub returns-in-Err-start_posting-clause-fault : goal.returns-in-Err-start_posting-clause-fault
-returns-in-Err-start_posting-clause-fault g c = λ from by before with_it.
+pub returns-in-Err-start_posting-clause-run : goal.returns-in-Err-start_posting-clause-run
+returns-in-Err-start_posting-clause-run g c =
     let back = c.into_book.ensures ∙ c.in-Ok.ensures.room.opened.book_is in
-    never_begun g.B.Keeper g.W.Drain from before _ c.args.book _ _ with_it.0 (by.outbox ∙ sym c.in-Err-start_posting.ensures.refused) (c.unbegun-in-Err-start_posting.ensures ∙ ap (never_begun_with causes.Refused c.in-Err-start_posting.outbox) back)
-
-pub returns-in-Err-start_posting-clause-crash_at_fault : goal.returns-in-Err-start_posting-clause-crash_at_fault
-returns-in-Err-start_posting-clause-crash_at_fault g c = λ before with_it.
-    let back = c.into_book.ensures ∙ c.in-Ok.ensures.room.opened.book_is in
-    never_crashed g.B.Keeper before _ causes.Refused c.in-Err-start_posting.outbox c.args.book _ g.met.B.Keeper.leaves_kept with_it.0 (c.unbegun-in-Err-start_posting.ensures ∙ ap (never_begun_with causes.Refused c.in-Err-start_posting.outbox) back)
+    let is = c.unbegun-in-Err-start_posting.ensures ∙ ap (never_begun_with causes.Refused c.in-Err-start_posting.outbox) back in
+    never_ran g.B.Keeper g.P.Port g.W.Drain c.args.book c.args.ports.items c.args.outgoing causes.Refused c.in-Err-start_posting.outbox _ g.met.B.Keeper.leaves_kept is
+    (λ from by before with_it. never_begun g.B.Keeper g.W.Drain from before _ c.args.book _ _ with_it.0 (by.outbox ∙ sym c.in-Err-start_posting.ensures.refused) is)

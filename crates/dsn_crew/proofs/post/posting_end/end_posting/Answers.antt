@@ -3,12 +3,12 @@ use Rattle.std.proofs.Common.{rules, ap, length, ◌<◌, ◌∙◌, subst, arit
 use mathlib.Core.List.{IsPrefix}
 use Rattle.dsn_crew.specs.lane.Halves.{Identity}
 use Rattle.dsn_crew.specs.post.Parcel.{Parcel}
-use Rattle.dsn_crew.proofs.post.PostingLemmas.{left_within, none_lost, whole_exactly}
+use Rattle.dsn_crew.proofs.post.PostingLemmas.{left_within, whole_unlost}
 use Rattle.dsn_crew.proofs.post.posting_end.end_posting.Goals as goal
 
 pub overflow_cast-result : goal.overflow_cast-result
 overflow_cast-result g c =
-    let within = left_within _ _ _ _ c.finish-outbox.ensures.unsent c.requires.all_sent c.join-outgoing.ensures.few in
+    let within = left_within _ _ _ _ c.finish-end.ensures.unsent c.requires.all_sent c.join-outgoing.ensures.few in
     let few : c.join-outgoing.result.handed < 4294967296 = search rules in
     let count = c.join-outgoing.ensures.count in
     let left = c.len.ensures in
@@ -16,13 +16,13 @@ overflow_cast-result g c =
 
 pub overflow_sub-result : goal.overflow_sub-result
 overflow_sub-result g c =
-    let within = left_within _ _ _ _ c.finish-outbox.ensures.unsent c.requires.all_sent c.join-outgoing.ensures.few in
+    let within = left_within _ _ _ _ c.finish-end.ensures.unsent c.requires.all_sent c.join-outgoing.ensures.few in
     let count = c.join-outgoing.ensures.count in
     let left = c.len.ensures in omega arith
 
 pub returns : goal.returns
 returns g c =
-    let within = left_within _ _ _ _ c.finish-outbox.ensures.unsent c.requires.all_sent c.join-outgoing.ensures.few in
+    let within = left_within _ _ _ _ c.finish-end.ensures.unsent c.requires.all_sent c.join-outgoing.ensures.few in
     let few : c.join-outgoing.result.handed < 4294967296 = search rules in
     let first = c.close.ensures.first in
     let letters_are = c.mark-sink.ensures.1 in record {
@@ -30,8 +30,7 @@ returns g c =
       came = subst (IsPrefix c.join-outgoing.result.source.letters) letters_are first;
       few = (let few = c.close.ensures.few in let lane = ap (λ (it : Identity Parcel). it.capacity) c.mark-sink.ensures.0 in let long = ap length letters_are in omega arith);
       marked = c.join-outgoing.result.source.marked;
-      whole = whole_exactly c.join-outgoing.result.end _ _ _ (c.join-outgoing.ensures.ended) (λ marked. c.close.ensures.marked marked ∙ letters_are) _ c.into_lost-lost.ensures _ (search rules);
-      unlost = none_lost _ _ (search rules);
+      whole = whole_unlost c.join-outgoing.result.lost _ _ _ c.join-outgoing.ensures.ended (λ marked. c.close.ensures.marked marked ∙ letters_are);
       count = (let count = c.join-outgoing.ensures.count in let left = c.len.ensures in omega arith);
-      outbox = λ host start first before. c.finish-outbox.ensures.outbox host start _ (c.join-outgoing.ensures.delivered host start first before);
+      outbox = λ host start first before. c.finish-end.ensures.outbox host start _ (c.join-outgoing.ensures.delivered host start first before);
     }

@@ -5,4 +5,4 @@ pub returns-in-Ok : goal.returns-in-Ok
 returns-in-Ok g c = inr (record { ledger = c.in-Ok.start.keeper; poster = c.in-Ok.start.outgoing; start = c.in-Ok.ensures.start; run = c.run_over.ensures })
 
 pub returns-in-Err : goal.returns-in-Err
-returns-in-Err g c = inl (record { code = _; back = _; why = c.in-Err.ensures.fault; noted = rw c.new.ensures at c.write_fault.ensures; crash = c.in-Err.ensures.crash })
+returns-in-Err g c = inl (record { code = _; back = _; why = rw (c.write_not_started.ensures.journal, c.write_not_started.ensures.marks) c.in-Err.ensures.fault; noted = c.write_not_started.ensures.notes; crash = rw c.write_not_started.ensures.journal c.in-Err.ensures.crash })

@@ -8,7 +8,7 @@ use Rattle.dsn_crew.proofs.post.LetterSourceLemmas.{number_is, some_letters, sou
 use Rattle.dsn_crew.proofs.post.letter_source.LetterSource.take.Goals as goal
 
 pub returns-in-Some-clause-few : goal.returns-in-Some-clause-few
-returns-in-Some-clause-few g c =
+returns-in-Some-clause-few g c = λ _.
     let kept = c.self.invariant ∙ ap (λ (marked : Bool). taken_parcels (source c.self.inside.parcels.lane (letters_of c.self.inside.parcels.taken) marked)) c.if-self.false in
     let letter = ap (λ (parcel : Parcel). parcel.letter) (sym c.parcel.view_is) ∙ c.in-Some.is in
     let letters = some_letters _ _ _ _ kept c.in-Ok.ensures.same.0 c.in-Ok.ensures.same.1 c.in-Ok.ensures.same.2 c.in-Ok.ensures.item c.in-Ok.ensures.number c.in-Some.letter letter in

@@ -1,5 +1,5 @@
 -- Crews: what each agent's thread, the collector and the poster came to, put together.
-use Rattle.std.proofs.Common.{◌≡◌, ◌≢◌, ℕ, suc, ◌+◌, ◌<◌, ◌≤◌, inl, inr, Bool, true, false, All, List, [], ◌∷◌, ◌++◌, length, map, refl, ap, sym, ◌∙◌, subst, append_assoc, length-append, arith}
+use Rattle.std.proofs.Common.{◌≡◌, ◌≢◌, ℕ, suc, ◌+◌, ◌<◌, ◌≤◌, ◌⊎◌, inl, inr, Bool, true, false, All, List, [], ◌∷◌, ◌++◌, length, map, refl, ap, sym, ◌∙◌, subst, append_assoc, length-append, arith}
 use Rattle.std.specs.Prelude.{IfErr, IfOk, IfSome, Option, Some, None, Result, Ok, Err, is_none, is_some, not}
 use Rattle.std.proofs.lemmas.Bool.{false≢true}
 use Rattle.std.specs.declared.thread.PromisedHandle.{PromisedHandle}
@@ -35,15 +35,15 @@ use Rattle.dsn_report.specs.Outgoing as outgoing
 use Rattle.dsn_report.specs.Outgoing.{Delivered, IsOutbox, Outgoing}
 use Rattle.dsn_crew.specs.agents.Agent.{Agent, LaneHalves, after_reply}
 use Rattle.dsn_crew.specs.desk.Close.{IsHeard}
-use Rattle.dsn_crew.specs.inner.Breach.{stop_cause}
-use Rattle.dsn_crew.specs.inner.CollectorResult.{IsCollectorResult}
-use Rattle.dsn_crew.specs.inner.Conclude.{Concludes, MayClose, account_of, fault_of, missing_cause}
+use Rattle.dsn_crew.specs.inner.Breach.{cause_of}
+use Rattle.dsn_crew.specs.inner.BrokenOff.{IsCollected}
+use Rattle.dsn_crew.specs.inner.Conclude.{Concludes, IsOfAgents, MayClose, account_of, broken_cause, fault_of}
 use Rattle.dsn_crew.specs.Crew.{Account, AreAgentAccounts, AreSealedAfter, CrewFault, HasAccount, HasFault, IsAccount, IsAccountAfter, IsAgentAccount, IsBrokenOff, IsCrewFault, IsCrewRun, IsFaultWith, IsHandedBack, IsPostedBy, MayCrashWithin, PostedBefore, StandsAtFault, none_posted}
 use Rattle.dsn_crew.specs.KeeperHistory.{AreNextOf, BeginsWith, StandsOrRefused}
 use Rattle.dsn_crew.specs.desk.Desk.{Desk, IsDesk, IsRun, all_gone, history, letter_kept, missing as missing_more, places_of}
 use Rattle.dsn_crew.specs.inner.Desk.{IsStopped}
 use Rattle.dsn_crew.specs.desk.Intake.{goodbyes}
-use Rattle.dsn_crew.specs.inner.AgentsResult.{AreEnded, IsAgentsResult}
+use Rattle.dsn_crew.specs.inner.Gathered.{AreEnded, IsGathered}
 use Rattle.dsn_crew.specs.desk.Open.{IsOpened, opened_agent}
 use Rattle.dsn_crew.specs.agents.Place.{place_at, place_of}
 use Rattle.dsn_crew.specs.agents.Port.{AreOverPort, Conn, Given, HasGiven, Session, answers_of, bodies_of}
@@ -51,15 +51,13 @@ use Rattle.dsn_crew.specs.inner.Agent.{IsPortServed}
 use Rattle.dsn_crew.specs.agents.Serve.{after_requests, answers_from, numbered_answer, numbered_from, numbered_request, requests_from}
 use Rattle.dsn_crew.specs.inner.StartServing.{AreServed, AreStarted, IsJoined, missing_threads}
 use Rattle.dsn_crew.specs.declared.agents.agent_line.AgentLine.{AgentLine}
-use Rattle.dsn_crew.specs.declared.collector_result.CollectorResult.{CollectorResult}
-use Rattle.dsn_crew.specs.declared.collector_result.CollectorResult.TheVariants.{Whole, Failed}
+use Rattle.dsn_crew.specs.declared.breach.Breach.{Breach}
+use Rattle.dsn_crew.specs.declared.breach.Breach.TheVariants as breaches
+use Rattle.dsn_crew.specs.declared.broken_off.BrokenOff.{BrokenOff}
 use Rattle.dsn_crew.specs.declared.crew_cause.CrewCause.{CrewCause}
 use Rattle.dsn_crew.specs.declared.crew_cause.CrewCause.TheVariants as causes
 use Rattle.dsn_crew.specs.declared.desk.desk_fault.DeskFault.{DeskFault}
-use Rattle.dsn_crew.specs.declared.desk.stop_cause.StopCause.{StopCause}
-use Rattle.dsn_crew.specs.declared.desk.stop_cause.StopCause.TheVariants as stops
-use Rattle.dsn_crew.specs.declared.agents_result.AgentsResult.{AgentsResult}
-use Rattle.dsn_crew.specs.declared.agents_result.AgentsResult.TheVariants as gathered
+use Rattle.dsn_crew.specs.declared.gathered.Gathered.{Gathered}
 use Rattle.dsn_crew.specs.declared.agents.port.Port.{Ghosts as Port}
 use Rattle.dsn_crew.specs.inner.PortEnd.{PortEnd}
 use Rattle.dsn_crew.specs.declared.start_serving.Serves.{Serves}
@@ -201,27 +199,31 @@ module _ {B W : Type 0} (keeper : Keeper B) (drain : Drain W) (from : PostedBefo
     handed_back = refl;
   }
 
-  stopped_is : (stop : StopCause) (book : B) (held : Option Letter) → IsFaultWith drain from (sent ++ letters_in held) agents (fault_of (stop_cause stop) (letters_in held) book desk posted) (stop_cause stop)
-  stopped_is (stops.Gone gone) book held = broken_off causes.Lost book (letters_in held) (option_few held) (sent ++ letters_in held) refl
-  stopped_is (stops.Refused refused) book held = broken_off causes.Lost book (letters_in held) (option_few held) (sent ++ letters_in held) refl
-  stopped_is stops.Full book held = broken_off causes.Lost book (letters_in held) (option_few held) (sent ++ letters_in held) refl
-  stopped_is (stops.Unkept why) book held = broken_off (causes.Unkept why) book (letters_in held) (option_few held) (sent ++ letters_in held) refl
+  -- a collector that failed, for this reason
+  stopped_is : (breach : Breach) (book : B) (held : Option Letter) → IsStopped keeper desk breach → IsFaultWith drain from (sent ++ letters_in held) agents (fault_of (cause_of breach) (letters_in held) book desk posted) (cause_of breach)
+  stopped_is (breaches.AgentGone gone) book held is = broken_off causes.Lost book (letters_in held) (option_few held) (sent ++ letters_in held) refl
+  stopped_is (breaches.HandedBack back) book held is = broken_off causes.Lost book (letters_in held) (option_few held) (sent ++ letters_in held) refl
+  stopped_is breaches.Full book held is = broken_off causes.Lost book (letters_in held) (option_few held) (sent ++ letters_in held) refl
+  stopped_is (breaches.Unkept why) book held is = broken_off (causes.Unkept why) book (letters_in held) (option_few held) (sent ++ letters_in held) refl
+  stopped_is (breaches.CollectorGone gone) book held is = absurd is
+  stopped_is (breaches.Unheard unheard) book held is = absurd is
+  stopped_is breaches.Refused book held is = absurd is
+  stopped_is breaches.PortCount book held is = absurd is
 
-  pub failed_fault : (fault : CrewFault W B) (stop : StopCause) (book : B) (held : Option Letter) → fault ≡ fault_of (stop_cause stop) (letters_in held) book desk posted → IsFaultWith drain from (sent ++ letters_in held) agents fault fault.cause
-  failed_fault fault stop book held fault_is =
-      subst (λ (it : CrewFault W B). IsFaultWith drain from (sent ++ letters_in held) agents it it.cause) (sym fault_is) (stopped_is stop book held)
+  pub failed_fault : (fault : CrewFault W B) (breach : Breach) (book : B) (held : Option Letter) → IsStopped keeper desk breach → fault ≡ fault_of (cause_of breach) (letters_in held) book desk posted → IsFaultWith drain from (sent ++ letters_in held) agents fault fault.cause
+  failed_fault fault breach book held is fault_is =
+      subst (λ (it : CrewFault W B). IsFaultWith drain from (sent ++ letters_in held) agents it it.cause) (sym fault_is) (stopped_is breach book held is)
 
-  pub lost_fault : (fault : CrewFault W B) → fault ≡ fault_of causes.Lost [] desk.book desk posted → IsFaultWith drain from sent agents fault fault.cause
-  lost_fault fault fault_is =
-      subst (λ (it : CrewFault W B). IsFaultWith drain from sent agents it it.cause) (sym fault_is) (broken_off causes.Lost desk.book [] (omega arith) sent (sym (append-nil sent)))
+  -- a collector that ended well, in a run that was broken off
+  broken_is : (cause : CrewCause) → (cause ≡ causes.Lost) ⊎ ((cause ≡ causes.Refused) × (posted.lost ≡ None)) → desk.behind ≡ [] → IsFaultWith drain from sent agents (fault_of cause [] desk.book desk posted) cause
+  broken_is cause (inl lost) none = subst (λ (it : CrewCause). IsFaultWith drain from sent agents (fault_of it [] desk.book desk posted) it) (sym lost) (broken_off causes.Lost desk.book [] (omega arith) sent (sym (append-nil sent)))
+  broken_is cause (inr refused) none =
+      subst (λ (it : CrewCause). IsFaultWith drain from sent agents (fault_of it [] desk.book desk posted) it) (sym refused.0)
+      (inr (broken_off causes.Refused desk.book [] (omega arith) sent (sym (append-nil sent)), (is.whole.0 refused.1).1, none))
 
-  missing_is : (lost : Option LaneGone) → posted.lost ≡ lost → desk.behind ≡ [] → IsFaultWith drain from sent agents (fault_of (missing_cause lost) [] desk.book desk posted) (missing_cause lost)
-  missing_is None unlost none = inr (broken_off causes.Refused desk.book [] (omega arith) sent (sym (append-nil sent)), (is.whole.0 unlost).1, none)
-  missing_is (Some gone) lost none = broken_off causes.Lost desk.book [] (omega arith) sent (sym (append-nil sent))
-
-  pub missing_fault : (fault : CrewFault W B) → fault ≡ fault_of (missing_cause posted.lost) [] desk.book desk posted → desk.behind ≡ [] → IsFaultWith drain from sent agents fault fault.cause
-  missing_fault fault fault_is none =
-      subst (λ (it : CrewFault W B). IsFaultWith drain from sent agents it it.cause) (sym fault_is) (missing_is posted.lost refl none)
+  pub broken_fault : (fault : CrewFault W B) (cause : CrewCause) → (cause ≡ causes.Lost) ⊎ ((cause ≡ causes.Refused) × (posted.lost ≡ None)) → fault ≡ fault_of cause [] desk.book desk posted → desk.behind ≡ [] → IsFaultWith drain from sent agents fault fault.cause
+  broken_fault fault cause why fault_is none =
+      subst (λ (it : CrewFault W B). IsFaultWith drain from sent agents it it.cause) (sym fault_is) (broken_is cause why none)
 
 -- a run that never began, with what it was given
 abbrev pub never_begun_with : {B W : Type 0} → CrewCause → W → B → CrewFault W B
@@ -336,41 +338,86 @@ book_left drain host limits of_book agents start (Err fault) same has =
     subst (λ (l : Limits). IfSome fault.book (λ book. (book.limits ≡ l) × Represents book (history_of l fault.taken))) same
     (left_book of_book fault.behind (history_after of_book [] fault.taken) fault.cause fault.book has.book)
 
+-- ---- why a run was broken off
+
+-- What broke a run off whose collector ended well: a lane was lost, or else the thread of an agent could
+-- not be made, and all letters came to the poster
+abbrev pub IsBrokenFor : {B W : Type 0} → Desk B → Posted W → CrewFault W B → CrewCause → Type 0
+IsBrokenFor desk posted fault cause = (fault ≡ fault_of cause [] desk.book desk posted) × ((cause ≡ causes.Lost) ⊎ ((cause ≡ causes.Refused) × (posted.lost ≡ None)))
+
+cause_found : (ends : List (Option PortEnd)) (lost : Option LaneGone) (breach : Breach) → IsGathered ends (Err breach) → (broken_cause lost breach ≡ causes.Lost) ⊎ ((broken_cause lost breach ≡ causes.Refused) × (lost ≡ None))
+cause_found ends (Some gone) breach is = inl refl
+cause_found ends None (breaches.Unheard unheard) is = inl refl
+cause_found ends None breaches.Refused is = inr (refl, refl)
+cause_found ends None (breaches.AgentGone gone) is = absurd is
+cause_found ends None (breaches.CollectorGone gone) is = absurd is
+cause_found ends None (breaches.HandedBack back) is = absurd is
+cause_found ends None breaches.Full is = absurd is
+cause_found ends None (breaches.Unkept why) is = absurd is
+cause_found ends None breaches.PortCount is = absurd is
+
+broken_for : {B W : Type 0} (keeper : Keeper B) (ends : List (Option PortEnd)) (desk : Desk B) (all : Result Gathered Breach) (posted : Posted W) (fault : CrewFault W B) → IsGathered ends all → Concludes keeper (Ok desk) all posted (Err fault) → (cause : CrewCause) × IsBrokenFor desk posted fault cause
+broken_for keeper ends desk (Ok gathered) posted fault is faulted = (causes.Lost, (faulted.1, inl refl))
+broken_for keeper ends desk (Err breach) posted fault is faulted = (broken_cause posted.lost breach, (faulted, cause_found ends posted.lost breach is))
+
+-- what came of the agents shows it, whatever the collector came to
+of_agents : {B : Type 0} (keeper : Keeper B) (ends : List (Option PortEnd)) (breach : Breach) → IsGathered ends (Err breach) → IsOfAgents keeper breach
+of_agents keeper ends (breaches.Unheard unheard) is = λ desk. tt
+of_agents keeper ends breaches.Refused is = λ desk. tt
+of_agents keeper ends (breaches.AgentGone gone) is = absurd is
+of_agents keeper ends (breaches.CollectorGone gone) is = absurd is
+of_agents keeper ends (breaches.HandedBack back) is = absurd is
+of_agents keeper ends breaches.Full is = absurd is
+of_agents keeper ends (breaches.Unkept why) is = absurd is
+of_agents keeper ends breaches.PortCount is = absurd is
+
 -- no crew that began is refused since its ports are too few or too many
 lost≢count : causes.Lost ≢ causes.PortCount
 lost≢count same = let never : causes.Lost ≡ causes.PortCount = same in cc
 
-missing≢count : (lost : Option LaneGone) → missing_cause lost ≢ causes.PortCount
-missing≢count None same = let never : causes.Refused ≡ causes.PortCount = same in cc
-missing≢count (Some gone) same = lost≢count same
+refused≢count : causes.Refused ≢ causes.PortCount
+refused≢count same = let never : causes.Refused ≡ causes.PortCount = same in cc
 
-stop≢count : (stop : StopCause) → stop_cause stop ≢ causes.PortCount
-stop≢count (stops.Gone gone) same = let never : causes.Lost ≡ causes.PortCount = same in cc
-stop≢count (stops.Refused refused) same = let never : causes.Lost ≡ causes.PortCount = same in cc
-stop≢count stops.Full same = let never : causes.Lost ≡ causes.PortCount = same in cc
-stop≢count (stops.Unkept why) same = let never : causes.Unkept why ≡ causes.PortCount = same in cc
+unkept≢count : (why : NotKept) → causes.Unkept why ≢ causes.PortCount
+unkept≢count why same = let never : causes.Unkept why ≡ causes.PortCount = same in cc
 
-pub no_count : {B W : Type 0} (keeper : Keeper B) (collected : CollectorResult B) (all : AgentsResult) (posted : Posted W) (result : Result (Account W B) (CrewFault W B)) → Concludes keeper collected all posted result → IfErr result (λ fault. fault.cause ≢ causes.PortCount)
-no_count keeper collected all posted (Ok account) ends_so = tt
-no_count keeper (Whole new) (gathered.All lines crew) posted (Err fault) faulted = λ same. lost≢count (sym (ap (λ it. it.cause) faulted.1) ∙ same)
-no_count keeper (Whole new) gathered.Missing posted (Err fault) faulted = λ same. missing≢count posted.lost (sym (ap (λ it. it.cause) faulted) ∙ same)
-no_count keeper (Whole new) (gathered.Lost unheard) posted (Err fault) faulted = λ same. lost≢count (sym (ap (λ it. it.cause) faulted) ∙ same)
-no_count keeper (Failed book stop held new) all posted (Err fault) faulted = λ same. stop≢count stop (sym (ap (λ it. it.cause) faulted) ∙ same)
+stopped≢count : {B : Type 0} (keeper : Keeper B) (desk : Desk B) (breach : Breach) → IsStopped keeper desk breach → cause_of breach ≢ causes.PortCount
+stopped≢count keeper desk (breaches.AgentGone gone) is = lost≢count
+stopped≢count keeper desk (breaches.HandedBack back) is = lost≢count
+stopped≢count keeper desk breaches.Full is = lost≢count
+stopped≢count keeper desk (breaches.Unkept why) is = unkept≢count why
+stopped≢count keeper desk (breaches.CollectorGone gone) is = absurd is
+stopped≢count keeper desk (breaches.Unheard unheard) is = absurd is
+stopped≢count keeper desk breaches.Refused is = absurd is
+stopped≢count keeper desk breaches.PortCount is = absurd is
+
+broken≢count : {B W : Type 0} (desk : Desk B) (posted : Posted W) (fault : CrewFault W B) (cause : CrewCause) → IsBrokenFor desk posted fault cause → fault.cause ≢ causes.PortCount
+broken≢count desk posted fault cause (is, inl lost) = λ same. lost≢count (sym lost ∙ (sym (ap (λ (it : CrewFault _ _). it.cause) is) ∙ same))
+broken≢count desk posted fault cause (is, inr refused) = λ same. refused≢count (sym refused.0 ∙ (sym (ap (λ (it : CrewFault _ _). it.cause) is) ∙ same))
+
+pub no_count : {B W : Type 0} (keeper : Keeper B) (ends : List (Option PortEnd)) (collected : Result (Desk B) (BrokenOff B)) (all : Result Gathered Breach) (posted : Posted W) (result : Result (Account W B) (CrewFault W B)) → MayClose keeper collected all → IsGathered ends all → Concludes keeper collected all posted result → IfErr result (λ fault. fault.cause ≢ causes.PortCount)
+no_count keeper ends collected all posted (Ok account) may is ends_so = tt
+no_count keeper ends (Ok new) all posted (Err fault) may is faulted = let why = broken_for keeper ends new all posted fault is faulted in broken≢count new posted fault why.0 why.1
+no_count keeper ends (Err broken) all posted (Err fault) may is faulted = λ same. stopped≢count keeper broken.desk.value broken.breach may (sym (ap (λ it. it.cause) faulted) ∙ same)
 
 -- ---- what is handed back
 
 module _ {B : Type 0} (keeper : Keeper B) (desk : Desk B) (exchanges : List Exchange) where
-  -- where a collector has failed, for this reason
-  pub stopped_stands : (stop : StopCause) → IsStopped keeper desk stop → StandsOrRefused keeper desk.unkept desk.behind exchanges desk.book → StandsAtFault keeper desk.behind exchanges (stop_cause stop) desk.book
-  stopped_stands (stops.Gone gone) is stands = subst (λ (u : Option NotKept). StandsOrRefused keeper u desk.behind exchanges desk.book) is stands
-  stopped_stands (stops.Refused refused) is stands = subst (λ (u : Option NotKept). StandsOrRefused keeper u desk.behind exchanges desk.book) is stands
-  stopped_stands stops.Full is stands = subst (λ (u : Option NotKept). StandsOrRefused keeper u desk.behind exchanges desk.book) is.0 stands
-  stopped_stands (stops.Unkept why) is stands = subst (λ (u : Option NotKept). StandsOrRefused keeper u desk.behind exchanges desk.book) is.unkept stands
+  -- if a collector has failed, for this reason
+  pub stopped_stands : (breach : Breach) → IsStopped keeper desk breach → StandsOrRefused keeper desk.unkept desk.behind exchanges desk.book → StandsAtFault keeper desk.behind exchanges (cause_of breach) desk.book
+  stopped_stands (breaches.AgentGone gone) is stands = subst (λ (u : Option NotKept). StandsOrRefused keeper u desk.behind exchanges desk.book) is stands
+  stopped_stands (breaches.HandedBack back) is stands = subst (λ (u : Option NotKept). StandsOrRefused keeper u desk.behind exchanges desk.book) is stands
+  stopped_stands breaches.Full is stands = subst (λ (u : Option NotKept). StandsOrRefused keeper u desk.behind exchanges desk.book) is.0 stands
+  stopped_stands (breaches.Unkept why) is stands = subst (λ (u : Option NotKept). StandsOrRefused keeper u desk.behind exchanges desk.book) is.unkept stands
+  stopped_stands (breaches.CollectorGone gone) is stands = absurd is
+  stopped_stands (breaches.Unheard unheard) is stands = absurd is
+  stopped_stands breaches.Refused is stands = absurd is
+  stopped_stands breaches.PortCount is stands = absurd is
 
-  -- and where it has not, and an agent was not started
-  pub missing_stands : (lost : Option LaneGone) → keeper.has desk.book exchanges desk.behind → StandsAtFault keeper desk.behind exchanges (missing_cause lost) desk.book
-  missing_stands None has = has
-  missing_stands (Some gone) has = has
+  -- and if it has not
+  pub broken_stands : (cause : CrewCause) (Q : Type 0) → (cause ≡ causes.Lost) ⊎ ((cause ≡ causes.Refused) × Q) → keeper.has desk.book exchanges desk.behind → StandsAtFault keeper desk.behind exchanges cause desk.book
+  broken_stands cause Q (inl lost) has = subst (λ (it : CrewCause). StandsAtFault keeper desk.behind exchanges it desk.book) (sym lost) has
+  broken_stands cause Q (inr refused) has = subst (λ (it : CrewCause). StandsAtFault keeper desk.behind exchanges it desk.book) (sym refused.0) has
 
 -- ---- the whole
 
@@ -408,29 +455,27 @@ module _ {B P S : Type 0} (keeper : Keeper B) (port : Port P S) (book : B) (port
       begins before is = subst (λ (b : B). BeginsWith keeper b before) (sym start_is) is
 
       module _ (sink after : LetterSink) (fresh : sink.letters ≡ []) (before : List Exchange) where
-        pub collected_lane : (collected : CollectorResult B) → IsCollectorResult keeper before begun sink after collected → after.lane ≡ sink.lane
-        collected_lane (Whole new) has = (run_letters keeper before begun new sink after (Ok tt) has.0 (ap (λ (d : Desk B). d.requests.taken) begun_is ∙ opened.taken.0) fresh).1
-        collected_lane (Failed book stop held new) has = (run_letters keeper before begun new.value sink after (Err has.0) has.1 (ap (λ (d : Desk B). d.requests.taken) begun_is ∙ opened.taken.0) fresh).1
+        pub collected_lane : (collected : Result (Desk B) (BrokenOff B)) → IsCollected keeper before begun sink after collected → after.lane ≡ sink.lane
+        collected_lane (Ok new) has = (run_letters keeper before begun new sink after (Ok tt) has.0 (ap (λ (d : Desk B). d.requests.taken) begun_is ∙ opened.taken.0) fresh).1
+        collected_lane (Err broken) has = (run_letters keeper before begun broken.desk.value sink after (Err has.0) has.1 (ap (λ (d : Desk B). d.requests.taken) begun_is ∙ opened.taken.0) fresh).1
 
-        pub may_close : (collected : CollectorResult B) (all : AgentsResult) → IsCollectorResult keeper before begun sink after collected → IsAgentsResult ends all → MayClose keeper collected all
-        may_close (Whole new) (gathered.All lines crew) has is = (
-          same_places port limits desk.requests.lane desk.answers ports ends lines.items crew.items served is
+        pub may_close : (collected : Result (Desk B) (BrokenOff B)) (all : Result Gathered Breach) → IsCollected keeper before begun sink after collected → IsGathered ends all → MayClose keeper collected all
+        may_close (Ok new) (Ok gathered) has is = (
+          same_places port limits desk.requests.lane desk.answers ports ends gathered.lines.items gathered.agents.items served is
               ∙ (sym (ap places_of begun_is) ∙ sym has.0.places),
           has.1,
         )
-        may_close (Whole new) gathered.Missing has is = tt
-        may_close (Whole new) (gathered.Lost unheard) has is = tt
-        may_close (Failed book stop held new) all has is = has.4
+        may_close (Ok new) (Err breach) has is = of_agents keeper ends breach is
+        may_close (Err broken) all has is = has.4
 
         -- each request seals one letter at most
-        sealed_few : {W : Type 0} (collected : CollectorResult B) (all : AgentsResult) (posted : Posted W) (result : Result (Account W B) (CrewFault W B)) → IsCollectorResult keeper before begun sink after collected → Concludes keeper collected all posted result → IfOk result (λ account. keeper.sealed account.book ≤ keeper.sealed book + length account.taken)
+        sealed_few : {W : Type 0} (collected : Result (Desk B) (BrokenOff B)) (all : Result Gathered Breach) (posted : Posted W) (result : Result (Account W B) (CrewFault W B)) → IsCollected keeper before begun sink after collected → Concludes keeper collected all posted result → IfOk result (λ account. keeper.sealed account.book ≤ keeper.sealed book + length account.taken)
         sealed_few collected all posted (Err fault) has ends_so = tt
-        sealed_few (Whole new) (gathered.All lines crew) posted (Ok account) has closed =
+        sealed_few (Ok new) (Ok gathered) posted (Ok account) has closed =
             subst (λ (it : Account _ B). keeper.sealed it.book ≤ keeper.sealed book + length it.taken) (sym closed.account_is)
             (subst (λ (b : B). keeper.sealed new.book ≤ keeper.sealed b + length new.requests.taken) (has.0.start ∙ start_is) has.2.sealed)
-        sealed_few (Whole new) gathered.Missing posted (Ok account) has closed = absurd closed
-        sealed_few (Whole new) (gathered.Lost unheard) posted (Ok account) has closed = absurd closed
-        sealed_few (Failed book stop held new) all posted (Ok account) has closed = absurd closed
+        sealed_few (Ok new) (Err breach) posted (Ok account) has closed = absurd closed
+        sealed_few (Err broken) all posted (Ok account) has closed = absurd closed
 
         -- what is handed back sealed no more than it took
         few_of : {W : Type 0} (cause : CrewCause) (held : List Letter) (new : Desk B) (left : B) (posted : Posted W) (fault : CrewFault W B) → fault ≡ fault_of cause held left new posted → left ≡ new.book → new.start ≡ book → IsDesk keeper new → IfSome fault.book (λ it. keeper.sealed it ≤ keeper.sealed book + length fault.taken)
@@ -439,12 +484,10 @@ module _ {B P S : Type 0} (keeper : Keeper B) (port : Port P S) (book : B) (port
             (subst (λ (b : B). keeper.sealed b ≤ keeper.sealed book + length new.requests.taken) (sym left_is)
             (subst (λ (b : B). keeper.sealed new.book ≤ keeper.sealed b + length new.requests.taken) start_was kept.sealed))
 
-        left_few : {W : Type 0} (collected : CollectorResult B) (all : AgentsResult) (posted : Posted W) (result : Result (Account W B) (CrewFault W B)) → IsCollectorResult keeper before begun sink after collected → Concludes keeper collected all posted result → IfErr result (λ fault. IfSome fault.book (λ left. keeper.sealed left ≤ keeper.sealed book + length fault.taken))
-        left_few collected all posted (Ok account) has ends_so = tt
-        left_few (Whole new) (gathered.All lines crew) posted (Err fault) has faulted = few_of _ _ new new.book posted fault faulted.1 refl (has.0.start ∙ start_is) has.2
-        left_few (Whole new) gathered.Missing posted (Err fault) has faulted = few_of _ _ new new.book posted fault faulted refl (has.0.start ∙ start_is) has.2
-        left_few (Whole new) (gathered.Lost unheard) posted (Err fault) has faulted = few_of _ _ new new.book posted fault faulted refl (has.0.start ∙ start_is) has.2
-        left_few (Failed left stop held new) all posted (Err fault) has faulted = few_of _ _ new.value left posted fault faulted has.5 (has.1.start ∙ start_is) has.3
+        left_few : {W : Type 0} (collected : Result (Desk B) (BrokenOff B)) (all : Result Gathered Breach) (posted : Posted W) (result : Result (Account W B) (CrewFault W B)) → IsCollected keeper before begun sink after collected → IsGathered ends all → Concludes keeper collected all posted result → IfErr result (λ fault. IfSome fault.book (λ left. keeper.sealed left ≤ keeper.sealed book + length fault.taken))
+        left_few collected all posted (Ok account) has is ends_so = tt
+        left_few (Ok new) all posted (Err fault) has is faulted = few_of _ _ new new.book posted fault (broken_for keeper ends new all posted fault is faulted).1.0 refl (has.0.start ∙ start_is) has.2
+        left_few (Err broken) all posted (Err fault) has is faulted = few_of _ _ broken.desk.value broken.book posted fault faulted has.5 (has.1.start ∙ start_is) has.3
 
         lines_of : (new : Desk B) → places_of new ≡ places_of begun → length new.answers ≡ length ports
         lines_of new places =
@@ -458,15 +501,14 @@ module _ {B P S : Type 0} (keeper : Keeper B) (port : Port P S) (book : B) (port
             subst (λ (b : B). MayCrash keeper b new.book (keeper.limits b) before (new.requests.taken ++ new.behind)) start_was
             (kept.stands before (subst (λ (b : B). BeginsWith keeper b before) (sym start_was) with_it)).crash
 
-        crash_at_end : {W : Type 0} (collected : CollectorResult B) (all : AgentsResult) (posted : Posted W) (result : Result (Account W B) (CrewFault W B)) → BeginsWith keeper book before → IsCollectorResult keeper before begun sink after collected → Concludes keeper collected all posted result → IfOk result (λ account. MayCrash keeper book account.book limits before account.taken)
+        crash_at_end : {W : Type 0} (collected : Result (Desk B) (BrokenOff B)) (all : Result Gathered Breach) (posted : Posted W) (result : Result (Account W B) (CrewFault W B)) → BeginsWith keeper book before → IsCollected keeper before begun sink after collected → Concludes keeper collected all posted result → IfOk result (λ account. MayCrash keeper book account.book limits before account.taken)
         crash_at_end collected all posted (Err fault) with_it has ends_so = tt
-        crash_at_end (Whole new) (gathered.All lines crew) posted (Ok account) with_it has closed =
+        crash_at_end (Ok new) (Ok gathered) posted (Ok account) with_it has closed =
             subst (λ (it : Account _ B). MayCrash keeper book it.book limits before it.taken) (sym closed.account_is)
             (subst (λ (requests : List Request). MayCrash keeper book new.book limits before requests) (ap (λ (q : List Request). new.requests.taken ++ q) (none_behind keeper new has.2 has.1) ∙ append-nil new.requests.taken)
             (crash_of new with_it (has.0.start ∙ start_is) has.2))
-        crash_at_end (Whole new) gathered.Missing posted (Ok account) with_it has closed = absurd closed
-        crash_at_end (Whole new) (gathered.Lost unheard) posted (Ok account) with_it has closed = absurd closed
-        crash_at_end (Failed book stop held new) all posted (Ok account) with_it has closed = absurd closed
+        crash_at_end (Ok new) (Err breach) posted (Ok account) with_it has closed = absurd closed
+        crash_at_end (Err broken) all posted (Ok account) with_it has closed = absurd closed
 
         crash_left : {W : Type 0} (cause : CrewCause) (held : List Letter) (new : Desk B) (left : B) (posted : Posted W) (fault : CrewFault W B) → fault ≡ fault_of cause held left new posted → left ≡ new.book → BeginsWith keeper book before → places_of new ≡ places_of begun → new.start ≡ book → IsDesk keeper new
             → IfSome fault.book (MayCrashWithin keeper book limits before (length ports) fault.taken fault.behind)
@@ -479,13 +521,11 @@ module _ {B P S : Type 0} (keeper : Keeper B) (port : Port P S) (book : B) (port
               at_each_moment = crash_of new with_it start_was kept;
             }))
 
-        crash_at_fault : {W : Type 0} (collected : CollectorResult B) (all : AgentsResult) (posted : Posted W) (result : Result (Account W B) (CrewFault W B)) → BeginsWith keeper book before → IsCollectorResult keeper before begun sink after collected → Concludes keeper collected all posted result
+        crash_at_fault : {W : Type 0} (collected : Result (Desk B) (BrokenOff B)) (all : Result Gathered Breach) (posted : Posted W) (result : Result (Account W B) (CrewFault W B)) → BeginsWith keeper book before → IsCollected keeper before begun sink after collected → IsGathered ends all → Concludes keeper collected all posted result
             → IfErr result (λ fault. IfSome fault.book (MayCrashWithin keeper book limits before (length ports) fault.taken fault.behind))
-        crash_at_fault collected all posted (Ok account) with_it has ends_so = tt
-        crash_at_fault (Whole new) (gathered.All lines crew) posted (Err fault) with_it has faulted = crash_left _ _ new new.book posted fault faulted.1 refl with_it has.0.places (has.0.start ∙ start_is) has.2
-        crash_at_fault (Whole new) gathered.Missing posted (Err fault) with_it has faulted = crash_left _ _ new new.book posted fault faulted refl with_it has.0.places (has.0.start ∙ start_is) has.2
-        crash_at_fault (Whole new) (gathered.Lost unheard) posted (Err fault) with_it has faulted = crash_left _ _ new new.book posted fault faulted refl with_it has.0.places (has.0.start ∙ start_is) has.2
-        crash_at_fault (Failed left stop held new) all posted (Err fault) with_it has faulted = crash_left _ _ new.value left posted fault faulted has.5 with_it has.1.places (has.1.start ∙ start_is) has.3
+        crash_at_fault collected all posted (Ok account) with_it has is ends_so = tt
+        crash_at_fault (Ok new) all posted (Err fault) with_it has is faulted = crash_left _ _ new new.book posted fault (broken_for keeper ends new all posted fault is faulted).1.0 refl with_it has.0.places (has.0.start ∙ start_is) has.2
+        crash_at_fault (Err broken) all posted (Err fault) with_it has is faulted = crash_left _ _ broken.desk.value broken.book posted fault faulted has.5 with_it has.1.places (has.1.start ∙ start_is) has.3
 
         module _ {W : Type 0} (drain : Drain W) (from : PostedBefore W) (poster : Outgoing W) (by : IsPostedBy drain from poster) (posted : Posted W) (post : IsPosted drain poster 16 after.letters posted) where
           module _ (new : Desk B) {result : Result (Unit {0}) DeskFault} (run : IsRun keeper before TakesLetter begun new sink after result) where
@@ -525,14 +565,13 @@ module _ {B P S : Type 0} (keeper : Keeper B) (port : Port P S) (book : B) (port
           new_begins : (new : Desk B) → IsRun keeper before TakesLetter begun new sink after (Ok tt) → BeginsWith keeper book before → BeginsWith keeper new.start before
           new_begins new run is = subst (λ (b : B). BeginsWith keeper b before) (sym (run.start ∙ start_is)) is
 
-          account_is : BeginsWith keeper book before → (collected : CollectorResult B) (all : AgentsResult) (result : Result (Account W B) (CrewFault W B)) → IsCollectorResult keeper before begun sink after collected → IsAgentsResult ends all → Concludes keeper collected all posted result → IfOk result (HasAccount keeper port drain from limits before ports)
+          account_is : BeginsWith keeper book before → (collected : Result (Desk B) (BrokenOff B)) (all : Result Gathered Breach) (result : Result (Account W B) (CrewFault W B)) → IsCollected keeper before begun sink after collected → IsGathered ends all → Concludes keeper collected all posted result → IfOk result (HasAccount keeper port drain from limits before ports)
           account_is with_it collected all (Err fault) has is ends_so = tt
-          account_is with_it (Whole new) (gathered.All lines crew) (Ok account) has is closed =
+          account_is with_it (Ok new) (Ok gathered) (Ok account) has is closed =
               subst (HasAccount keeper port drain from limits before ports) (sym closed.account_is)
-              (account_at new lines.items crew.items has.0 has.2 is closed.all (closed.heard before (new_begins new has.0 with_it)) (subst (λ (it : Account W B). keeper.has it.book (history keeper before new) []) closed.account_is (closed.has before (new_begins new has.0 with_it))))
-          account_is with_it (Whole new) gathered.Missing (Ok account) has is closed = absurd closed
-          account_is with_it (Whole new) (gathered.Lost unheard) (Ok account) has is closed = absurd closed
-          account_is with_it (Failed book stop held new) all (Ok account) has is closed = absurd closed
+              (account_at new gathered.lines.items gathered.agents.items has.0 has.2 is closed.all (closed.heard before (new_begins new has.0 with_it)) (subst (λ (it : Account W B). keeper.has it.book (history keeper before new) []) closed.account_is (closed.has before (new_begins new has.0 with_it))))
+          account_is with_it (Ok new) (Err breach) (Ok account) has is closed = absurd closed
+          account_is with_it (Err broken) all (Ok account) has is closed = absurd closed
 
           -- a fault whose requests are those of the collector
           has_fault : (cause : CrewCause) (held : List Letter) (new : Desk B) (left : B) (fault : CrewFault W B) (letters : List Letter) → fault ≡ fault_of cause held left new posted → AreSealedAfter before (history_after limits before new.requests.taken) letters → IsHandedBack keeper limits new.behind (history_after limits before new.requests.taken) cause left → IsFaultWith drain from letters (length ports) fault fault.cause
@@ -551,57 +590,49 @@ module _ {B P S : Type 0} (keeper : Keeper B) (port : Port P S) (book : B) (port
                   subst (λ (l : Limits). keeper.has new.book (history_after l before new.requests.taken) new.behind) (limits_are new run)
                   (has_here keeper new kept (going_on new gone) before (new_begins new run with_it))
 
-              lost_at : fault ≡ fault_of causes.Lost [] new.book new posted → HasFault keeper drain from limits before (length ports) fault
-              lost_at is =
-                  has_fault causes.Lost [] new new.book fault after.letters is (all_sealed new run) (record { limits_are = kept.limits ∙ limits_are new run; stands = left_has })
-                  (lost_fault keeper drain from poster by after.letters posted post new kept (length ports) (lines_length new run) fault is)
-
-              missing_at : fault ≡ fault_of (missing_cause posted.lost) [] new.book new posted → HasFault keeper drain from limits before (length ports) fault
-              missing_at is =
-                  has_fault (missing_cause posted.lost) [] new new.book fault after.letters is (all_sealed new run) (record { limits_are = kept.limits ∙ limits_are new run; stands = missing_stands keeper new _ posted.lost left_has })
-                  (missing_fault keeper drain from poster by after.letters posted post new kept (length ports) (lines_length new run) fault is (none_behind keeper new kept gone))
+              broken_at : (cause : CrewCause) → IsBrokenFor new posted fault cause → HasFault keeper drain from limits before (length ports) fault
+              broken_at cause is =
+                  has_fault cause [] new new.book fault after.letters is.0 (all_sealed new run) (record { limits_are = kept.limits ∙ limits_are new run; stands = broken_stands keeper new _ cause _ is.1 left_has })
+                  (broken_fault keeper drain from poster by after.letters posted post new kept (length ports) (lines_length new run) fault cause is.1 is.0 (none_behind keeper new kept gone))
 
             -- the collector has failed, for this reason
-            handed_at : (stop : StopCause) (new : Desk B) (left : B) {result : Result (Unit {0}) DeskFault} → IsRun keeper before TakesLetter begun new sink after result → IsDesk keeper new → IsStopped keeper new stop → left ≡ new.book → IsHandedBack keeper limits new.behind (history_after limits before new.requests.taken) (stop_cause stop) left
-            handed_at stop new left run kept stopped left_is =
+            handed_at : (breach : Breach) (new : Desk B) (left : B) {result : Result (Unit {0}) DeskFault} → IsRun keeper before TakesLetter begun new sink after result → IsDesk keeper new → IsStopped keeper new breach → left ≡ new.book → IsHandedBack keeper limits new.behind (history_after limits before new.requests.taken) (cause_of breach) left
+            handed_at breach new left run kept stopped left_is =
                 let limited = limits_are new run in
                 let stands = kept.stands before (subst (λ (b : B). BeginsWith keeper b before) (sym (run.start ∙ start_is)) with_it) in
-                subst (IsHandedBack keeper limits new.behind (history_after limits before new.requests.taken) (stop_cause stop)) (sym left_is)
+                subst (IsHandedBack keeper limits new.behind (history_after limits before new.requests.taken) (cause_of breach)) (sym left_is)
                 (record {
                   limits_are = kept.limits ∙ limited;
                   stands =
-                      subst (λ (l : Limits). StandsAtFault keeper new.behind (history_after l before new.requests.taken) (stop_cause stop) new.book) limited
-                      (stopped_stands keeper new (history keeper before new) stop stopped stands.has);
+                      subst (λ (l : Limits). StandsAtFault keeper new.behind (history_after l before new.requests.taken) (cause_of breach) new.book) limited
+                      (stopped_stands keeper new (history keeper before new) breach stopped stands.has);
                 })
 
-            fault_is : (collected : CollectorResult B) (all : AgentsResult) (result : Result (Account W B) (CrewFault W B)) → IsCollectorResult keeper before begun sink after collected → Concludes keeper collected all posted result → IfErr result (HasFault keeper drain from limits before (length ports))
-            fault_is collected all (Ok account) has ends_so = tt
-            fault_is (Whole new) (gathered.All lines crew) (Err fault) has faulted = lost_at new fault has.0 has.1 has.2 faulted.1
-            fault_is (Whole new) gathered.Missing (Err fault) has faulted = missing_at new fault has.0 has.1 has.2 faulted
-            fault_is (Whole new) (gathered.Lost unheard) (Err fault) has faulted = lost_at new fault has.0 has.1 has.2 faulted
-            fault_is (Failed left stop held new) all (Err fault) has faulted =
-                has_fault (stop_cause stop) (letters_in held) new.value left fault (after.letters ++ letters_in held) faulted
-                (subst (λ (ls : List Letter). AreSealedAfter before (history_after limits before new.value.requests.taken) (after.letters ++ ls)) (sym has.2) (sealed_are new.value has.1))
-                (handed_at stop new.value left has.1 has.3 has.4 has.5)
-                (failed_fault keeper drain from poster by after.letters posted post new.value has.3 (length ports) (lines_length new.value has.1) fault stop left held faulted)
+            fault_is : (collected : Result (Desk B) (BrokenOff B)) (all : Result Gathered Breach) (result : Result (Account W B) (CrewFault W B)) → IsCollected keeper before begun sink after collected → IsGathered ends all → Concludes keeper collected all posted result → IfErr result (HasFault keeper drain from limits before (length ports))
+            fault_is collected all (Ok account) has is ends_so = tt
+            fault_is (Ok new) all (Err fault) has is faulted = let why = broken_for keeper ends new all posted fault is faulted in broken_at new fault has.0 has.1 has.2 why.0 why.1
+            fault_is (Err broken) all (Err fault) has is faulted =
+                let new = broken.desk.value in
+                has_fault (cause_of broken.breach) (letters_in broken.held) new broken.book fault (after.letters ++ letters_in broken.held) faulted
+                (subst (λ (ls : List Letter). AreSealedAfter before (history_after limits before new.requests.taken) (after.letters ++ ls)) (sym has.2) (sealed_are new has.1))
+                (handed_at broken.breach new broken.book has.1 has.3 has.4 has.5)
+                (failed_fault keeper drain from poster by after.letters posted post new has.3 (length ports) (lines_length new has.1) fault broken.breach broken.book broken.held has.4 faulted)
 
       -- ---- all that is said of a run
 
-      handed : {W : Type 0} (collected : CollectorResult B) (all : AgentsResult) (posted : Posted W) (result : Result (Account W B) (CrewFault W B)) → Concludes keeper collected all posted result → IfErr result (λ fault. is_some fault.book ≡ true)
-      handed collected all posted (Ok account) ends_so = tt
-      handed (Whole new) (gathered.All lines crew) posted (Err fault) faulted = ap (λ (it : CrewFault _ B). is_some it.book) faulted.1
-      handed (Whole new) gathered.Missing posted (Err fault) faulted = ap (λ (it : CrewFault _ B). is_some it.book) faulted
-      handed (Whole new) (gathered.Lost unheard) posted (Err fault) faulted = ap (λ (it : CrewFault _ B). is_some it.book) faulted
-      handed (Failed left stop held new) all posted (Err fault) faulted = ap (λ (it : CrewFault _ B). is_some it.book) faulted
+      handed : {W : Type 0} (collected : Result (Desk B) (BrokenOff B)) (all : Result Gathered Breach) (posted : Posted W) (result : Result (Account W B) (CrewFault W B)) → IsGathered ends all → Concludes keeper collected all posted result → IfErr result (λ fault. is_some fault.book ≡ true)
+      handed collected all posted (Ok account) is ends_so = tt
+      handed (Ok new) all posted (Err fault) is faulted = ap (λ (it : CrewFault _ B). is_some it.book) (broken_for keeper ends new all posted fault is faulted).1.0
+      handed (Err broken) all posted (Err fault) is faulted = ap (λ (it : CrewFault _ B). is_some it.book) faulted
 
-      pub crew_run : {W : Type 0} (sink after : LetterSink) (fresh : sink.letters ≡ []) (drain : Drain W) (poster : Outgoing W) (posted : Posted W) → IsPosted drain poster 16 after.letters posted → (collected : CollectorResult B) (all : AgentsResult) (result : Result (Account W B) (CrewFault W B)) → (before : List Exchange) × BeginsWith keeper book before
-          → ((before : List Exchange) → BeginsWith keeper begun.start before → IsCollectorResult keeper before begun sink after collected) → IsAgentsResult ends all → Concludes keeper collected all posted result → IsCrewRun keeper port drain book ports poster result
+      pub crew_run : {W : Type 0} (sink after : LetterSink) (fresh : sink.letters ≡ []) (drain : Drain W) (poster : Outgoing W) (posted : Posted W) → IsPosted drain poster 16 after.letters posted → (collected : Result (Desk B) (BrokenOff B)) (all : Result Gathered Breach) (result : Result (Account W B) (CrewFault W B)) → (before : List Exchange) × BeginsWith keeper book before
+          → ((before : List Exchange) → BeginsWith keeper begun.start before → IsCollected keeper before begun sink after collected) → IsGathered ends all → Concludes keeper collected all posted result → IsCrewRun keeper port drain book ports poster result
       crew_run sink after fresh drain poster posted post collected all result some has is ends_so = record {
         account = λ from by before with_it. account_is sink after fresh before drain from poster by posted post with_it collected all result (has before (begins before with_it)) is ends_so;
         sealed = sealed_few sink after fresh some.0 collected all posted result (has some.0 (begins some.0 some.1)) ends_so;
-        fault = λ from by before with_it. fault_is sink after fresh before drain from poster by posted post with_it collected all result (has before (begins before with_it)) ends_so;
-        left = left_few sink after fresh some.0 collected all posted result (has some.0 (begins some.0 some.1)) ends_so;
+        fault = λ from by before with_it. fault_is sink after fresh before drain from poster by posted post with_it collected all result (has before (begins before with_it)) is ends_so;
+        left = left_few sink after fresh some.0 collected all posted result (has some.0 (begins some.0 some.1)) is ends_so;
         crash = λ before with_it. crash_at_end sink after fresh before collected all posted result with_it (has before (begins before with_it)) ends_so;
-        crash_at_fault = λ before with_it. crash_at_fault sink after fresh before collected all posted result with_it (has before (begins before with_it)) ends_so;
-        handed_back = handed collected all posted result ends_so;
+        crash_at_fault = λ before with_it. crash_at_fault sink after fresh before collected all posted result with_it (has before (begins before with_it)) is ends_so;
+        handed_back = handed collected all posted result is ends_so;
       }

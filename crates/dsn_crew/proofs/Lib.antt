@@ -1,6 +1,6 @@
-pub mod AgentsResultLemmas
 pub mod CrewExamples
 pub mod CrewLemmas
+pub mod GatheredLemmas
 pub mod LaneHalfLemmas
 pub mod LaneSendLemmas
 pub mod OpenLemmas

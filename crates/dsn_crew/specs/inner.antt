@@ -1,11 +1,11 @@
 pub mod Agent
-pub mod AgentsResult
 pub mod Breach
-pub mod CollectorResult
+pub mod BrokenOff
 pub mod Conclude
 pub mod CrewMemory
 pub mod CrewRun
 pub mod Desk
+pub mod Gathered
 pub mod Halves
 pub mod LetterSource
 pub mod PortEnd

@@ -1,22 +1,21 @@
 //! The end of a run: an account of it, or its fault.
 ghost use Rattle.dsn_crew.specs.inner.Conclude.{Concludes, MayClose};
 
-use crate::agents_result::AgentsResult;
-use crate::breach::{Breach, Loss};
-use crate::collector_result::CollectorResult;
+use crate::breach::Breach;
+use crate::broken_off::BrokenOff;
 use crate::crew_account::Account;
 use crate::crew_fault::CrewFault;
-use crate::desk::close_crew;
+use crate::desk::{Desk, close_crew};
+use crate::gathered::Gathered;
 use crate::post::Posted;
 use dsn_book::Keeper;
-use std::snapshot::Snapshot;
 use std::sync::Wait;
 
-/// Closes the crew where all went well; else says what is left of it.
+/// Closes the crew if all went well; else returns what is left of it.
 pub(crate) fn conclude<W, B: Keeper + Drop>(
     rt: &impl Wait,
-    collected: CollectorResult<B>,
-    gathered: AgentsResult,
+    collected: Result<Desk<B>, BrokenOff<B>>,
+    gathered: Result<Gathered, Breach>,
     posted: Posted<W>,
 ) -> Result<Account<W, B>, CrewFault<W, B>>
     requires close { MayClose B.Keeper collected gathered }
@@ -24,23 +23,21 @@ pub(crate) fn conclude<W, B: Keeper + Drop>(
 {
     let Posted { end, posted, lost } = posted;
     let desk = match collected {
-        CollectorResult::Whole(desk) => desk,
-        CollectorResult::Failed(book, stop, held, desk) => {
-            let breach = Breach::Lost(Loss::Collector(stop));
-            return Err(CrewFault::broken_off(breach, end, held, book, desk));
+        Ok(desk) => desk,
+        Err(broken) => return Err(CrewFault::broken_off(broken, end)),
+    };
+    if let Some(gone) = lost {
+        let broken = BrokenOff::new(desk, Breach::CollectorGone(gone), None);
+        return Err(CrewFault::broken_off(broken, end));
+    }
+    match gathered {
+        Ok(Gathered { lines, agents }) => {
+            let shut = close_crew(rt, agents, desk);
+            Ok(Account::new(shut, lines, end, posted))
         }
-    };
-    let breach = match lost {
-        Some(gone) => Breach::Lost(Loss::Poster(gone)),
-        None => match gathered {
-            AgentsResult::All(lines, agents) => {
-                let shut = close_crew(rt, agents, desk);
-                return Ok(Account::new(shut, lines, end, posted));
-            }
-            AgentsResult::Missing => Breach::Refused,
-            AgentsResult::Lost(unheard) => Breach::Lost(Loss::Agent(unheard)),
-        },
-    };
-    let collector = Snapshot::of(&desk);
-    Err(CrewFault::broken_off(breach, end, None, desk.into_book(), collector))
+        Err(breach) => {
+            let broken = BrokenOff::new(desk, breach, None);
+            Err(CrewFault::broken_off(broken, end))
+        }
+    }
 }

@@ -6,10 +6,11 @@ ghost use Rattle.dsn_crew.specs.inner.Breach.{cause_of, IsShown};
 ghost use Rattle.dsn_crew.specs.Crew.{crew_cause_code};
 
 use crate::breach::Breach;
+use crate::broken_off::BrokenOff;
 use crate::crew_cause::CrewCause;
 use crate::desk::Desk;
 use dsn_book::{Book, Keeper};
-use dsn_outcome::{Letter, Letters};
+use dsn_outcome::Letters;
 use dsn_report::OutboxEnd;
 use std::marker::Model;
 use std::snapshot::Snapshot;
@@ -85,25 +86,24 @@ impl<W, B: Keeper> CrewFault<W, B> {
         }
     }
 
-    /// The fault of a run that was broken off, with what carried its requests out, the collector as
-    /// it was then, and the letter that the collector still held.
-    pub(crate) fn broken_off(
-        breach: Breach,
-        end: OutboxEnd<W>,
-        held: Option<Letter>,
-        book: B,
-        desk: Snapshot<Desk<B>>,
-    ) -> CrewFault<W, B>
-        requires shown { IsShown B.Keeper (Some desk) breach }
+    /// The fault of a run that was broken off, with what is left of its collector, and of its outbox.
+    pub(crate) fn broken_off(broken: BrokenOff<B>, end: OutboxEnd<W>) -> CrewFault<W, B>
+        requires shown { IsShown B.Keeper (Some broken.desk) broken.breach }
         ensures { result ≡ record {
-          cause = cause_of breach;
+          cause = cause_of broken.breach;
           outbox = end.outbox;
-          unsent = end.unsent ++ letters_in held;
-          book = Some book;
-          taken = desk.value.requests.taken;
-          behind = desk.value.behind;
+          unsent = end.unsent ++ letters_in broken.held;
+          book = Some broken.book;
+          taken = broken.desk.value.requests.taken;
+          behind = broken.desk.value.behind;
         } }
     {
+        let BrokenOff {
+            breach,
+            held,
+            book,
+            desk,
+        } = broken;
         let OutboxEnd {
             outbox,
             mut unsent,

@@ -9,14 +9,14 @@ ghost use Rattle.dsn_crew.specs.inner.CrewRun.{MayRun};
 
 use crate::agent_memory::AgentMemory;
 use crate::agents::{Gate, Port};
-use crate::agents_result::AgentsResult;
 use crate::breach::Breach;
-use crate::collector_result::CollectorResult;
+use crate::broken_off::collect;
 use crate::conclude::conclude;
 use crate::crew_account::Account;
 use crate::crew_cause::CrewCause;
 use crate::crew_fault::CrewFault;
 use crate::crew_memory::CrewMemory;
+use crate::gathered::gather;
 use crate::post::{end_posting, start_posting};
 use crate::start_serving::{count_missing, join_all, start_all};
 use dsn_book::{Book, Keeper, Limits};
@@ -190,8 +190,8 @@ fn run_in<
     } = slots;
     let handles = start_all(scope, rt, alloc, agents, ports, handles, gate);
     desk.miss(count_missing(&handles) as u32);
-    let collected = CollectorResult::by(rt, desk, &mut sink);
-    let gathered = AgentsResult::of(join_all(rt, handles, ends), lines, finished);
+    let collected = collect(rt, desk, &mut sink);
+    let gathered = gather(join_all(rt, handles, ends), lines, finished);
     let posted = end_posting(rt, sink, poster);
     conclude(rt, collected, gathered, posted)
 }

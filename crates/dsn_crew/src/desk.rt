@@ -9,7 +9,6 @@ mod desk_fault;
 mod intake;
 mod open;
 mod returned_letter;
-mod stop_cause;
 
 pub use close::close_crew;
 pub use crew_open_fault::CrewOpenFault;
@@ -18,4 +17,4 @@ pub use desk::Desk;
 pub use desk_fault::DeskFault;
 pub(crate) use open::open_room;
 pub use open::{open_crew, open_crew_over};
-pub(crate) use stop_cause::StopCause;
+pub(crate) use returned_letter::HandedBack;

@@ -4,9 +4,8 @@
 
 mod agent_memory;
 mod agents;
-mod agents_result;
 mod breach;
-mod collector_result;
+mod broken_off;
 mod conclude;
 mod crew_account;
 mod crew_cause;
@@ -14,6 +13,7 @@ mod crew_fault;
 mod crew_memory;
 mod crew_run;
 mod desk;
+mod gathered;
 mod lane;
 mod post;
 mod start_serving;

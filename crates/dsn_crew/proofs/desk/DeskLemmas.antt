@@ -22,7 +22,7 @@ use Rattle.dsn_crew.specs.KeeperHistory.{AreNextOf, BeginsWith}
 use Rattle.dsn_crew.specs.inner.Desk.{desk_seen}
 use Rattle.dsn_crew.specs.inner.Desk.{Intake}
 use Rattle.dsn_crew.specs.desk.Intake.{goodbyes, taken_request}
-use Rattle.dsn_crew.specs.declared.desk.stop_cause.StopCause.{StopCause}
+use Rattle.dsn_crew.specs.declared.breach.Breach.{Breach}
 use Rattle.dsn_crew.specs.agents.Place.{Place, place_at}
 use Rattle.dsn_crew.proofs.desk.EarlierLemmas.{more_after}
 use Rattle.dsn_crew.proofs.desk.IntakeLemmas.{next_of, are_numbered_first, number_next}
@@ -277,11 +277,11 @@ module _ {B : Type 0} (keeper : Keeper B) (desk : Desk B) (request : Request) (r
         }
 
 -- a collector that has not failed has no reason for it
-pub none_stopped : (P : StopCause → Type 0) (stop : Option StopCause) → is_some stop ≡ false → IfSome stop P
+pub none_stopped : (P : Breach → Type 0) (stop : Option Breach) → is_some stop ≡ false → IfSome stop P
 none_stopped P None going = tt
 none_stopped P (Some stop) going = absurd (false≢true (sym going))
 
 -- and is seen so
-pub seen_going : {B : Type 0} (start book : B) (stop : Option StopCause) (intake : Intake) (lines : List (Half Answer)) (missed : ℕ) → is_some stop ≡ false → desk_seen start book stop intake lines missed ≡ desk_seen start book None intake lines missed
+pub seen_going : {B : Type 0} (start book : B) (stop : Option Breach) (intake : Intake) (lines : List (Half Answer)) (missed : ℕ) → is_some stop ≡ false → desk_seen start book stop intake lines missed ≡ desk_seen start book None intake lines missed
 seen_going start book None intake lines missed going = refl
 seen_going start book (Some stop) intake lines missed going = absurd (false≢true (sym going))

@@ -10,27 +10,31 @@ use Rattle.dsn_crew.specs.declared.lane.lane_gone.LaneGone.{LaneGone}
 use Rattle.dsn_crew.specs.declared.post.posted.Posted.{Posted}
 use Rattle.dsn_crew.specs.agents.Agent.{LaneHalves, IsFinished}
 use Rattle.dsn_crew.specs.desk.Close.{AreCrew, AreOf, IsHeard}
-use Rattle.dsn_crew.specs.inner.Breach.{stop_cause}
+use Rattle.dsn_crew.specs.inner.Breach.{IsShown, cause_of}
 use Rattle.dsn_crew.specs.Crew.{Account, CrewFault}
 use Rattle.dsn_crew.specs.KeeperHistory.{BeginsWith}
 use Rattle.dsn_crew.specs.desk.Desk.{Desk, all_gone, history}
 use Rattle.dsn_crew.specs.inner.Desk.{IsStopped}
 use Rattle.dsn_crew.specs.declared.agents.agent_line.AgentLine.{AgentLine}
-use Rattle.dsn_crew.specs.declared.collector_result.CollectorResult.{CollectorResult}
-use Rattle.dsn_crew.specs.declared.collector_result.CollectorResult.TheVariants.{Whole, Failed}
+use Rattle.dsn_crew.specs.declared.breach.Breach.{Breach}
+use Rattle.dsn_crew.specs.declared.broken_off.BrokenOff.{BrokenOff}
+use Rattle.dsn_crew.specs.declared.gathered.Gathered.{Gathered}
+use Rattle.std.specs.declared.snapshot.Snapshot.{Snapshot}
 use Rattle.dsn_crew.specs.declared.crew_cause.CrewCause.{CrewCause}
 use Rattle.dsn_crew.specs.declared.crew_cause.CrewCause.TheVariants as causes
-use Rattle.dsn_crew.specs.declared.agents_result.AgentsResult.{AgentsResult}
-use Rattle.dsn_crew.specs.declared.agents_result.AgentsResult.TheVariants.{All, Missing, Lost}
 
--- where all went well, the agents are those of the collector, and all of them are gone; a collector
--- that has failed did so for this reason
-abbrev pub MayClose : {B : Type 0} → Keeper B → CollectorResult B → AgentsResult → Type 0
-MayClose keeper (Whole desk) (All lines agents) =
-    AreCrew agents.items desk × (all_gone desk ≡ true)
-MayClose keeper (Whole desk) Missing = Unit {0}
-MayClose keeper (Whole desk) (Lost unheard) = Unit {0}
-MayClose keeper (Failed book stop held desk) gathered = IsStopped keeper desk.value stop
+-- What a breach of the agents' part shows, whatever the collector came to
+abbrev pub IsOfAgents : {B : Type 0} → Keeper B → Breach → Type 0
+IsOfAgents keeper breach = (desk : Option (Snapshot (Desk _))) → IsShown keeper desk breach
+
+-- a collector that ended well has all agents gone. If all went well, the agents are its; if not, what
+-- came of them shows why. One that has failed did so for this reason
+abbrev pub MayClose :
+    {B : Type 0} → Keeper B → Result (Desk B) (BrokenOff B) → Result Gathered Breach → Type 0
+MayClose keeper (Ok desk) (Ok gathered) =
+    AreCrew gathered.agents.items desk × (all_gone desk ≡ true)
+MayClose keeper (Ok desk) (Err breach) = IsOfAgents keeper breach
+MayClose keeper (Err broken) gathered = IsStopped keeper broken.desk.value broken.breach
 
 -- what a closed crew comes to, with its outbox
 abbrev pub account_of :
@@ -73,25 +77,24 @@ pub record HasClosed {B W : Type 0} (keeper : Keeper B) (lines : List AgentLine)
   pub has : (before : List Exchange) → BeginsWith keeper desk.start before
       → keeper.has account.book (history keeper before desk) []
 
--- the cause of one in which an agent was not started, by whether the lane of letters was lost
-abbrev pub missing_cause : Option LaneGone → CrewCause
-missing_cause None = causes.Refused
-missing_cause (Some gone) = causes.Lost
+-- the cause of one in which the agents came to this, by whether the lane of letters was lost
+abbrev pub broken_cause : Option LaneGone → Breach → CrewCause
+broken_cause None breach = cause_of breach
+broken_cause (Some gone) breach = causes.Lost
 
--- where all went well the crew is closed; else this is its fault
+-- if all went well the crew is closed; else this is its fault
 abbrev pub Concludes :
-    {B W : Type 0} → Keeper B → CollectorResult B → AgentsResult → Posted W
+    {B W : Type 0} → Keeper B → Result (Desk B) (BrokenOff B) → Result Gathered Breach → Posted W
     → Result (Account W B) (CrewFault W B) → Type 0
-Concludes keeper (Whole desk) (All lines agents) posted (Ok account) =
-    HasClosed keeper lines.items agents.items desk posted account
-Concludes keeper (Whole desk) (All lines agents) posted (Err fault) =
+Concludes keeper (Ok desk) (Ok gathered) posted (Ok account) =
+    HasClosed keeper gathered.lines.items gathered.agents.items desk posted account
+Concludes keeper (Ok desk) (Ok gathered) posted (Err fault) =
     (is_some posted.lost ≡ true) × (fault ≡ fault_of causes.Lost [] desk.book desk posted)
-Concludes keeper (Whole desk) Missing posted (Ok account) = ⊥
-Concludes keeper (Whole desk) Missing posted (Err fault) =
-    fault ≡ fault_of (missing_cause posted.lost) [] desk.book desk posted
-Concludes keeper (Whole desk) (Lost unheard) posted (Ok account) = ⊥
-Concludes keeper (Whole desk) (Lost unheard) posted (Err fault) =
-    fault ≡ fault_of causes.Lost [] desk.book desk posted
-Concludes keeper (Failed book stop held desk) gathered posted (Ok account) = ⊥
-Concludes keeper (Failed book stop held desk) gathered posted (Err fault) =
-    fault ≡ fault_of (stop_cause stop) (letters_in held) book desk.value posted
+Concludes keeper (Ok desk) (Err breach) posted (Ok account) = ⊥
+Concludes keeper (Ok desk) (Err breach) posted (Err fault) =
+    fault ≡ fault_of (broken_cause posted.lost breach) [] desk.book desk posted
+Concludes keeper (Err broken) gathered posted (Ok account) = ⊥
+Concludes keeper (Err broken) gathered posted (Err fault) =
+    fault
+    ≡ fault_of (cause_of broken.breach) (letters_in broken.held) broken.book broken.desk.value
+    posted

@@ -2,8 +2,8 @@
 use Rattle.std.specs.Prelude.{ℕ, Bool, List, [], None, Option, Some, ◌≡◌, ◌≤◌, length, is_some, ◌+◌, ◌∷◌, ◌++◌, take, drop}
 use Rattle.dsn_book.specs.declared.keeper.Keeper.{Ghosts as Keeper}
 use Rattle.dsn_book.specs.declared.not_kept.NotKept.{NotKept}
-use Rattle.dsn_crew.specs.declared.desk.stop_cause.StopCause.TheVariants.{Gone, Refused, Full, Unkept}
-use Rattle.dsn_crew.specs.declared.desk.stop_cause.StopCause.{StopCause}
+use Rattle.dsn_crew.specs.declared.breach.Breach.TheVariants.{AgentGone, CollectorGone, Unheard, HandedBack, Full, Unkept, Refused, PortCount}
+use Rattle.dsn_crew.specs.declared.breach.Breach.{Breach}
 use Rattle.dsn_crew.specs.desk.Desk.{Desk}
 use Rattle.dsn_crew.specs.desk.Intake.{most_taken}
 use Rattle.dsn_crew.specs.lane.Halves.{Half, Out}
@@ -26,12 +26,16 @@ desk_of start book requests answers missed failed = record {
 }
 
 -- why requests were not kept, where that is why a collector has failed
-abbrev pub unkept_of : Option StopCause → Option NotKept
+abbrev pub unkept_of : Option Breach → Option NotKept
 unkept_of None = None
-unkept_of (Some (Gone gone)) = None
-unkept_of (Some (Refused refused)) = None
+unkept_of (Some (AgentGone gone)) = None
+unkept_of (Some (CollectorGone gone)) = None
+unkept_of (Some (Unheard unheard)) = None
+unkept_of (Some (HandedBack back)) = None
 unkept_of (Some Full) = None
 unkept_of (Some (Unkept why)) = Some why
+unkept_of (Some Refused) = None
+unkept_of (Some PortCount) = None
 
 -- a collector whose keeper refused those behind for this reason
 pub record HasRefused {B : Type 0} (keeper : Keeper B) (desk : Desk B)
@@ -42,13 +46,17 @@ pub record HasRefused {B : Type 0} (keeper : Keeper B) (desk : Desk B)
   pub some : 1 ≤ length desk.behind
 
 -- why it has failed: a lane reported that its other side is gone; its sink handed a letter back; it
--- carried out all that it may; or its keeper refused requests
-abbrev pub IsStopped : {B : Type 0} → Keeper B → Desk B → StopCause → Type 0
-IsStopped keeper desk (Gone gone) = desk.unkept ≡ None
-IsStopped keeper desk (Refused refused) = desk.unkept ≡ None
+-- carried out all that it may; or its keeper refused requests. It fails for nothing else
+abbrev pub IsStopped : {B : Type 0} → Keeper B → Desk B → Breach → Type 0
+IsStopped keeper desk (AgentGone gone) = desk.unkept ≡ None
+IsStopped keeper desk (HandedBack back) = desk.unkept ≡ None
 IsStopped keeper desk Full =
     (desk.unkept ≡ None) × (length desk.requests.taken ≡ most_taken)
 IsStopped keeper desk (Unkept why) = HasRefused keeper desk why
+IsStopped keeper desk (CollectorGone gone) = ⊥
+IsStopped keeper desk (Unheard unheard) = ⊥
+IsStopped keeper desk Refused = ⊥
+IsStopped keeper desk PortCount = ⊥
 
 -- what holds nothing yet, and has room for a half of each agent
 abbrev pub HasRoom : List (Half Answer) → List (Half Request) → ℕ → Type 0
@@ -66,7 +74,7 @@ pub record Intake : Type 0 where
 
 -- what is seen of a collector by its parts, with why it has failed
 abbrev pub desk_seen :
-    {B : Type 0} → B → B → Option StopCause → Intake → List (Half Answer) → ℕ → Desk B
+    {B : Type 0} → B → B → Option Breach → Intake → List (Half Answer) → ℕ → Desk B
 desk_seen start book stop intake answers missed = record {
   start = start;
   book = book;

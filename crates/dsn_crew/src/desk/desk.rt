@@ -11,11 +11,11 @@ ghost use Rattle.dsn_crew.specs.inner.Desk.{HasRoom, IsStopped, MayBeSent, desk_
 ghost use Rattle.dsn_crew.specs.desk.Desk.{HasStopped, IsAnswerSent, IsDesk, IsRequestTaken, IsRun, all_gone, missing, places_of, with_failed};
 ghost use Rattle.dsn_crew.specs.desk.Intake.{goodbyes, most_taken};
 
+use crate::breach::Breach;
 use crate::desk::answer_lane::AnswerLane;
 use crate::desk::desk_fault::DeskFault;
 use crate::desk::intake::Intake;
 use crate::desk::returned_letter::{ReturnedLetter, offer};
-use crate::desk::stop_cause::StopCause;
 use crate::lane::{LaneGone, LaneIn};
 use crate::post::Sink;
 use dsn_book::{Book, Keeper, Step};
@@ -39,7 +39,7 @@ pub struct Desk<B: Keeper = Book> {
     gone: u32,
     missed: u32,
     /// Why it has failed, if it has.
-    stop: Option<StopCause>,
+    stop: Option<Breach>,
 }
 
 impl<B: Keeper> Model for Desk<B> {
@@ -99,7 +99,7 @@ impl<B: Keeper> Desk<B> {
     }
 
     /// Why it has failed. It asks that it has.
-    pub(crate) fn stopped(&self) -> StopCause
+    pub(crate) fn stopped(&self) -> Breach
         requires { self.now.failed ≡ true }
         ensures { IsStopped B.Keeper self.now result }
     {
@@ -154,7 +154,7 @@ impl<B: Keeper> Desk<B> {
             return Err(DeskFault::Requests);
         }
         if self.intake.count() == u32::MAX {
-            self.stop = Some(StopCause::Full);
+            self.stop = Some(Breach::Full);
             return Err(DeskFault::Requests);
         }
         if self.intake.is_empty() {
@@ -182,12 +182,12 @@ impl<B: Keeper> Desk<B> {
     {
         let heard = u64::from(self.gone) + u64::from(self.missed);
         if let Err(gone) = self.intake.fill(rt, heard, self.lines.len() as u64) {
-            self.stop = Some(StopCause::Gone(gone));
+            self.stop = Some(Breach::AgentGone(gone));
             return Err(DeskFault::Requests);
         }
         if let Err(why) = self.intake.keep_by(&mut self.book) {
             // It isn't known which of them are on the disk, so no answer about them would be true.
-            self.stop = Some(StopCause::Unkept(why));
+            self.stop = Some(Breach::Unkept(why));
             return Err(DeskFault::Requests);
         }
         Ok(())
@@ -223,7 +223,7 @@ impl<B: Keeper> Desk<B> {
         ) {
             Ok(()) => Ok(letter),
             Err(gone) => {
-                self.stop = Some(StopCause::Gone(gone));
+                self.stop = Some(Breach::AgentGone(gone));
                 Err(DeskFault::Answers(agent, letter))
             }
         }
@@ -278,8 +278,8 @@ impl<B: Keeper> Desk<B> {
         };
         match offer(rt, sink, letter) {
             Ok(()) => Ok(()),
-            Err(ReturnedLetter { letter, refused }) => {
-                self.stop = Some(StopCause::Refused(refused));
+            Err(ReturnedLetter { letter, evidence }) => {
+                self.stop = Some(Breach::HandedBack(evidence));
                 Err(DeskFault::Letters(letter))
             }
         }

@@ -7,15 +7,15 @@ use std::sync::Wait;
 
 /// A sink handed a letter back. Only [`offer`] makes it, so whoever shows one has asked a sink.
 #[derive(Clone, Copy, Debug, Drop, PartialEq, Eq)]
-pub(crate) struct Refused {
-    handed_back: (),
+pub(crate) struct HandedBack {
+    asked: (),
 }
 
 /// A letter that a sink handed back.
 #[derive(Drop)]
 pub(crate) struct ReturnedLetter {
     pub(crate) letter: Letter,
-    pub(crate) refused: Refused,
+    pub(crate) evidence: HandedBack,
 }
 
 /// Hands a letter to a sink.
@@ -31,7 +31,7 @@ pub(crate) fn offer<K: Sink>(
         Ok(()) => Ok(()),
         Err(letter) => Err(ReturnedLetter {
             letter,
-            refused: Refused { handed_back: () },
+            evidence: HandedBack { asked: () },
         }),
     }
 }

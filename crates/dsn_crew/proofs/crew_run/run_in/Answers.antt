@@ -31,15 +31,15 @@ join_all-requires-clause-room g c κs within =
     let fits = room.slots.ends.1 in
     (room.slots.ends.0, omega arith)
 
-pub of-gathered-requires-clause-lines : goal.of-gathered-requires-clause-lines
-of-gathered-requires-clause-lines g c =
+pub gather-gathered-requires-clause-lines : goal.gather-gathered-requires-clause-lines
+gather-gathered-requires-clause-lines g c =
     let room = c.in-Ok.ensures.room in
     let long = ends_length g.B.Keeper g.P.Port c.args.book c.args.ports.items _ _ _ room.opened (search rules) _ c.start_all-handles.ensures _ c.join_all.ensures in
     let fits = room.slots.lines.1 in
     (room.slots.lines.0, omega arith)
 
-pub of-gathered-requires-clause-finished : goal.of-gathered-requires-clause-finished
-of-gathered-requires-clause-finished g c =
+pub gather-gathered-requires-clause-finished : goal.gather-gathered-requires-clause-finished
+gather-gathered-requires-clause-finished g c =
     let room = c.in-Ok.ensures.room in
     let long = ends_length g.B.Keeper g.P.Port c.args.book c.args.ports.items _ _ _ room.opened (search rules) _ c.start_all-handles.ensures _ c.join_all.ensures in
     let fits = room.slots.finished.1 in
@@ -49,7 +49,7 @@ pub end_posting-posted-requires : goal.end_posting-posted-requires
 end_posting-posted-requires g c =
     let room = c.in-Ok.ensures.room in
     let same = c.in-Ok-start_posting.ensures.sink in
-    let lane = collected_lane g.B.Keeper g.P.Port c.args.book c.args.ports.items _ _ _ room.opened (search rules) _ c.start_all-handles.ensures _ c.join_all.ensures _ _ c.miss.ensures.missed _ _ (ap (λ (sink : LetterSink). sink.letters) same ∙ room.sink) c.requires.begins.0 _ (c.by-collected.ensures c.requires.begins.0 (begins g.B.Keeper g.P.Port c.args.book c.args.ports.items _ _ _ room.opened (search rules) _ c.start_all-handles.ensures _ c.join_all.ensures _ _ c.miss.ensures.missed c.requires.begins.0 c.requires.begins.1)) in
+    let lane = collected_lane g.B.Keeper g.P.Port c.args.book c.args.ports.items _ _ _ room.opened (search rules) _ c.start_all-handles.ensures _ c.join_all.ensures _ _ c.miss.ensures.missed _ _ (ap (λ (sink : LetterSink). sink.letters) same ∙ room.sink) c.requires.begins.0 _ (c.collect-collected.ensures c.requires.begins.0 (begins g.B.Keeper g.P.Port c.args.book c.args.ports.items _ _ _ room.opened (search rules) _ c.start_all-handles.ensures _ c.join_all.ensures _ _ c.miss.ensures.missed c.requires.begins.0 c.requires.begins.1)) in
     record {
       lane = ap (λ (posts : Posts g.row.W.Denot). posts.lane) c.in-Ok-start_posting.ensures.promise ∙ (ap (λ (sink : LetterSink). sink.lane) (sym same) ∙ sym lane);
       all_sent = ap (λ (posts : Posts g.row.W.Denot). posts.begun.unsent) c.in-Ok-start_posting.ensures.promise ∙ c.requires.all_sent;
@@ -59,21 +59,24 @@ pub conclude-requires : goal.conclude-requires
 conclude-requires g c =
     let room = c.in-Ok.ensures.room in
     let same = c.in-Ok-start_posting.ensures.sink in
-    record { close = may_close g.B.Keeper g.P.Port c.args.book c.args.ports.items _ _ _ room.opened (search rules) _ c.start_all-handles.ensures _ c.join_all.ensures _ _ c.miss.ensures.missed _ _ (ap (λ (sink : LetterSink). sink.letters) same ∙ room.sink) c.requires.begins.0 _ _ (c.by-collected.ensures c.requires.begins.0 (begins g.B.Keeper g.P.Port c.args.book c.args.ports.items _ _ _ room.opened (search rules) _ c.start_all-handles.ensures _ c.join_all.ensures _ _ c.miss.ensures.missed c.requires.begins.0 c.requires.begins.1)) c.of-gathered.ensures }
+    record { close = may_close g.B.Keeper g.P.Port c.args.book c.args.ports.items _ _ _ room.opened (search rules) _ c.start_all-handles.ensures _ c.join_all.ensures _ _ c.miss.ensures.missed _ _ (ap (λ (sink : LetterSink). sink.letters) same ∙ room.sink) c.requires.begins.0 _ _ (c.collect-collected.ensures c.requires.begins.0 (begins g.B.Keeper g.P.Port c.args.book c.args.ports.items _ _ _ room.opened (search rules) _ c.start_all-handles.ensures _ c.join_all.ensures _ _ c.miss.ensures.missed c.requires.begins.0 c.requires.begins.1)) c.gather-gathered.ensures }
 
 pub returns-clause-run : goal.returns-clause-run
 returns-clause-run g c =
     let room = c.in-Ok.ensures.room in
     let same = c.in-Ok-start_posting.ensures.sink in
     let fresh = ap (λ (sink : LetterSink). sink.letters) same ∙ room.sink in
-    let lane = collected_lane g.B.Keeper g.P.Port c.args.book c.args.ports.items _ _ _ room.opened (search rules) _ c.start_all-handles.ensures _ c.join_all.ensures _ _ c.miss.ensures.missed _ _ fresh c.requires.begins.0 _ (c.by-collected.ensures c.requires.begins.0 (begins g.B.Keeper g.P.Port c.args.book c.args.ports.items _ _ _ room.opened (search rules) _ c.start_all-handles.ensures _ c.join_all.ensures _ _ c.miss.ensures.missed c.requires.begins.0 c.requires.begins.1)) in
+    let lane = collected_lane g.B.Keeper g.P.Port c.args.book c.args.ports.items _ _ _ room.opened (search rules) _ c.start_all-handles.ensures _ c.join_all.ensures _ _ c.miss.ensures.missed _ _ fresh c.requires.begins.0 _ (c.collect-collected.ensures c.requires.begins.0 (begins g.B.Keeper g.P.Port c.args.book c.args.ports.items _ _ _ room.opened (search rules) _ c.start_all-handles.ensures _ c.join_all.ensures _ _ c.miss.ensures.missed c.requires.begins.0 c.requires.begins.1)) in
     let waiting = ap (λ (it : Identity Parcel). it.capacity) (lane ∙ ap (λ (sink : LetterSink). sink.lane) same) ∙ room.waiting in
-    let posted = subst (λ (posts : Posts g.row.W.Denot). IsPosted g.W.Drain posts.begun c.by-collected.new.sink.lane.capacity c.by-collected.new.sink.letters c.end_posting-posted.result) c.in-Ok-start_posting.ensures.promise c.end_posting-posted.ensures in
-    let post = subst (λ (most : ℕ). IsPosted g.W.Drain c.args.outgoing most c.by-collected.new.sink.letters c.end_posting-posted.result) waiting posted in
-    crew_run g.B.Keeper g.P.Port c.args.book c.args.ports.items _ _ _ room.opened (search rules) _ c.start_all-handles.ensures _ c.join_all.ensures _ _ c.miss.ensures.missed _ _ fresh g.W.Drain c.args.outgoing _ post _ _ _ c.requires.begins c.by-collected.ensures c.of-gathered.ensures c.conclude.ensures
+    let posted = subst (λ (posts : Posts g.row.W.Denot). IsPosted g.W.Drain posts.begun c.collect-collected.new.sink.lane.capacity c.collect-collected.new.sink.letters c.end_posting-posted.result) c.in-Ok-start_posting.ensures.promise c.end_posting-posted.ensures in
+    let post = subst (λ (most : ℕ). IsPosted g.W.Drain c.args.outgoing most c.collect-collected.new.sink.letters c.end_posting-posted.result) waiting posted in
+    crew_run g.B.Keeper g.P.Port c.args.book c.args.ports.items _ _ _ room.opened (search rules) _ c.start_all-handles.ensures _ c.join_all.ensures _ _ c.miss.ensures.missed _ _ fresh g.W.Drain c.args.outgoing _ post _ _ _ c.requires.begins c.collect-collected.ensures c.gather-gathered.ensures c.conclude.ensures
 
 pub returns-clause-counted : goal.returns-clause-counted
-returns-clause-counted g c = no_count g.B.Keeper _ _ _ _ c.conclude.ensures
+returns-clause-counted g c =
+    let room = c.in-Ok.ensures.room in
+    let same = c.in-Ok-start_posting.ensures.sink in
+    no_count g.B.Keeper _ _ _ _ _ (may_close g.B.Keeper g.P.Port c.args.book c.args.ports.items _ _ _ room.opened (search rules) _ c.start_all-handles.ensures _ c.join_all.ensures _ _ c.miss.ensures.missed _ _ (ap (λ (sink : LetterSink). sink.letters) same ∙ room.sink) c.requires.begins.0 _ _ (c.collect-collected.ensures c.requires.begins.0 (begins g.B.Keeper g.P.Port c.args.book c.args.ports.items _ _ _ room.opened (search rules) _ c.start_all-handles.ensures _ c.join_all.ensures _ _ c.miss.ensures.missed c.requires.begins.0 c.requires.begins.1)) c.gather-gathered.ensures) c.gather-gathered.ensures c.conclude.ensures
 
 pub returns-in-Err-clause-run : goal.returns-in-Err-clause-run
 returns-in-Err-clause-run g c =

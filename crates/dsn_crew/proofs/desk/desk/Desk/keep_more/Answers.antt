@@ -8,7 +8,7 @@ use Rattle.dsn_crew.specs.desk.Desk.{AreLeft, Desk, IsDesk}
 use Rattle.dsn_crew.specs.inner.Desk.{desk_seen}
 use Rattle.dsn_crew.specs.inner.Desk.{Intake}
 use Rattle.dsn_crew.specs.desk.Intake.{goodbyes}
-use Rattle.dsn_crew.specs.declared.desk.stop_cause.StopCause.TheVariants.{Unkept}
+use Rattle.dsn_crew.specs.declared.breach.Breach.TheVariants.{Unkept}
 use Rattle.dsn_crew.proofs.desk.desk.Desk.keep_more.Goals as goal
 
 pub invariant_of-self : goal.invariant_of-self

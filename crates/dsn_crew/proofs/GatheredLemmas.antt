@@ -6,7 +6,7 @@ use Rattle.std.proofs.Math.Bool.{or-false}
 use mathlib.Core.Bool.{or_assoc}
 use Rattle.std.proofs.lemmas.List.{append-nil, nil_from_length}
 use Rattle.dsn_crew.specs.agents.Agent.{LaneHalves}
-use Rattle.dsn_crew.specs.inner.AgentsResult.{AreEnded}
+use Rattle.dsn_crew.specs.inner.Gathered.{AreEnded}
 use Rattle.dsn_crew.specs.declared.agents.agent_line.AgentLine.{AgentLine}
 use Rattle.dsn_crew.specs.inner.PortEnd.{PortEnd}
 

@@ -3,9 +3,9 @@ use Rattle.std.proofs.Common.{◌≡◌, ap, sym, ◌∙◌, false, length, leng
 use Rattle.std.proofs.Math.Bool.{or-false}
 use Rattle.std.specs.Prelude.{Some, is_none, is_some}
 use Rattle.std.specs.Result.{result_ok}
-use Rattle.dsn_crew.specs.inner.AgentsResult.{has_port_lost}
-use Rattle.dsn_crew.proofs.AgentsResultLemmas.{ended_more, found_more}
-use Rattle.dsn_crew.proofs.agents_result.AgentsResult.of.Goals as goal
+use Rattle.dsn_crew.specs.inner.Gathered.{has_port_lost}
+use Rattle.dsn_crew.proofs.GatheredLemmas.{ended_more, found_more}
+use Rattle.dsn_crew.proofs.gathered.gather.Goals as goal
 
 pub loop-end-preserved : goal.loop-end-preserved
 loop-end-preserved c =

@@ -2,9 +2,9 @@
 use Rattle.std.proofs.Common.{◌≡◌, ◌+◌, ◌≤◌, false, length, vec_capacity}
 use Rattle.std.specs.Prelude.{is_none, is_some}
 use Rattle.std.specs.Vec.Iter.{into_iter_items}
-use Rattle.dsn_crew.specs.inner.AgentsResult.{has_port_lost}
-use Rattle.dsn_crew.proofs.AgentsResultLemmas.{EndedSoFar, FoundSoFar}
-use Rattle.dsn_crew.proofs.agents_result.AgentsResult.of.Given as goal
+use Rattle.dsn_crew.specs.inner.Gathered.{has_port_lost}
+use Rattle.dsn_crew.proofs.GatheredLemmas.{EndedSoFar, FoundSoFar}
+use Rattle.dsn_crew.proofs.gathered.gather.Given as goal
 
 abbrev pub invariant-loop-end : goal.invariant-loop-end
 invariant-loop-end l = record {

@@ -1,4 +1,4 @@
-//! Room for what comes of each agent.
+//! Memory for the results of the agents' threads.
 ghost use Rattle.std.specs.Prelude.{IfOk};
 ghost use Rattle.dsn_crew.specs.inner.CrewMemory.{AreSlots};
 
@@ -8,7 +8,7 @@ use dsn_outcome::NoMemory;
 use std::alloc::Global;
 use std::thread::PromisedHandle;
 
-/// Room for the agents' threads, for what comes of them, and for its two parts.
+/// Room for the agents' threads, for their results, and for the two parts of these.
 #[derive(Drop)]
 pub(crate) struct AgentMemory<P: Port> {
     pub(crate) handles: Vec<Option<PromisedHandle<PortEnd, Serves<P>>>>,
@@ -18,7 +18,7 @@ pub(crate) struct AgentMemory<P: Port> {
 }
 
 impl<P: Port> AgentMemory<P> {
-    /// Room for so many agents. `NoMemory` comes only where memory was refused.
+    /// Room for this number of agents. Returns `NoMemory` only if memory is refused.
     pub(crate) fn take(alloc: Global, agents: u32) -> Result<AgentMemory<P>, NoMemory>
         ensures { IfOk result (AreSlots agents) }
     {

@@ -1,4 +1,4 @@
-//! What a crew's run that ended well comes to.
+//! The account of a crew's run that ended well.
 ghost use Rattle.std.specs.Prelude.{◌≡◌};
 
 use crate::agents::AgentLine;

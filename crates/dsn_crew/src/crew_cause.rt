@@ -12,8 +12,8 @@ pub enum CrewCause {
     /// A lane was lost: the collector, an agent or the poster was gone before its time.
     #[error("a lane was lost")]
     Lost,
-    /// Memory or a thread was refused. Where it was the thread of an agent, the other agents were
-    /// served to their ends.
+    /// Memory or a thread was refused. If it was the thread of an agent, the other agents were served
+    /// to their ends.
     #[error("memory or a thread was refused")]
     Refused,
     /// There are not 1 to 16 ports.

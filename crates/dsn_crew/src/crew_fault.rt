@@ -24,14 +24,14 @@ pub struct CrewFault<W, B: Keeper = Book> {
     pub cause: CrewCause,
     /// The outbox.
     pub outbox: W,
-    /// The letters that came to the poster and could not be written, in order, and then the one
-    /// that the collector still held.
+    /// The letters that reached the poster and could not be written, in order, and then the one that
+    /// the collector still held.
     pub unsent: Letters,
-    /// What carried the requests out, with the logs that are still open; none where it could not be
+    /// What carried the requests out, with the logs that are still open; `None` if it could not be
     /// made.
     pub book: Option<B>,
     desk: Option<Snapshot<Desk<B>>>,
-    /// Why, with what shows that a lane was lost, or a request not kept, where it was so.
+    /// Why, with what shows it.
     breach: Breach,
 }
 

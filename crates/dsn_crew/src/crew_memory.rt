@@ -13,7 +13,7 @@ use dsn_book::Keeper;
 use std::alloc::Global;
 use std::sync::Wait;
 
-/// All that a run needs memory for, but for what the system takes to start a thread: so once the
+/// All that a run needs memory for, except what the system takes to start a thread. So once the
 /// first is started no growth of the run's own is refused.
 #[derive(Drop)]
 pub(crate) struct CrewMemory<P: Port, B: Keeper> {
@@ -25,8 +25,8 @@ pub(crate) struct CrewMemory<P: Port, B: Keeper> {
 }
 
 impl<P: Port, B: Keeper + Drop> CrewMemory<P, B> {
-    /// The room of a run with so many agents. What carries the requests out comes back where memory
-    /// was refused.
+    /// The room of a run with this number of agents. Returns what carries the requests out if memory
+    /// is refused.
     pub(crate) fn take(
         rt: &impl Wait,
         alloc: Global,

@@ -34,13 +34,13 @@ const MOST_PORTS: usize = 16;
 /// connections until the port is done and then says goodbye; the collector, on this thread; and a
 /// poster on a thread of its own, which writes a notice of each letter while requests are taken.
 ///
-/// `PortCount` (43) comes where there are not 1 to 16 ports, before anything else. `Refused` (42)
-/// comes where memory or the poster's thread is refused, before any agent is started and with
-/// nothing written; and where an agent's thread is refused, once all other agents were served.
-/// `Lost` (41) comes where the collector, an agent or the poster was gone before its time. An
-/// outbox that fails is no fault: the letters from the failed one on are `unsent`.
+/// Returns `PortCount` (43) if there are not 1 to 16 ports, before anything else. Returns `Refused`
+/// (42) if memory or the poster's thread is refused, before any agent is started and with nothing
+/// written; and if an agent's thread is refused, once all other agents were served. Returns `Lost`
+/// (41) if the collector, an agent or the poster was gone before its time. An outbox that fails is
+/// no fault: the letters from the failed one on are `unsent`.
 ///
-/// It asks that each port may be asked, and asks none again that was done or failed.
+/// Requires that each port may be asked. None is asked again that was done or failed.
 pub fn run_crew<
     R: Threads + Wait + Sync,
     P: Port + Drop + Send,
@@ -74,7 +74,8 @@ pub fn run_crew<
     }
 }
 
-/// A book that is empty, for a crew of so many ports; else why there can be none.
+/// An empty book for a crew of this number of ports. Returns `PortCount` if they are not 1 to 16,
+/// and `Refused` if memory is refused.
 fn empty_book(alloc: Global, limits: Limits, ports: usize) -> Result<Book, Breach>
     ensures limits { IfOk result (λ book. book.limits ≡ limits) }
     ensures empty { IfOk result (λ book. (Represents book []) × (book.sealed ≡ 0)) }
@@ -95,13 +96,13 @@ fn empty_book(alloc: Global, limits: Limits, ports: usize) -> Result<Book, Breac
 /// Runs a crew as [`run_crew`] does, over what keeps its requests and carries them out. Its notices
 /// come after those that were posted before.
 ///
-/// Requests that wait are kept together, up to 16. Beside what it says there, `Unkept` (45) comes
-/// where they were not kept; none of them is carried out or answered then, nor a later one. At a
-/// fault what carried the requests out, or was to, is handed back.
+/// Requests that wait are kept together, up to 16. Beside what [`run_crew`] returns, it returns
+/// `Unkept` (45) if they were not kept; none of them is carried out or answered then, nor a later
+/// one. A fault has what carried the requests out, or was to.
 ///
-/// At each moment of the run a crash leaves what a later run stands by for the history with the
-/// first of the requests that were taken, and no other. Each request is among them before its answer
-/// is sent. It asks that fewer than 2^63 letters were sealed before, that there is a history to begin
+/// At each moment of the run a crash leaves what a later run reopens to the history with the first
+/// of the requests that were taken, and no other. Each request is among them before its answer is
+/// sent. Requires that fewer than 2^63 letters were sealed before, that there is a history to begin
 /// with, after which no request is awaited, and that no letter is unsent.
 pub fn run_crew_over<
     R: Threads + Wait + Sync,

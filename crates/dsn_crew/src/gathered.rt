@@ -1,11 +1,11 @@
-//! What came of the agents' threads, taken together.
+//! The results of the agents' threads, taken together.
 ghost use Rattle.std.specs.Prelude.{◌≡◌, ◌≤◌, [], length, vec_capacity};
 ghost use Rattle.dsn_crew.specs.inner.Gathered.{IsGathered};
 
 use crate::agents::{AgentLine, Finished, PortEnd};
 use crate::breach::Breach;
 
-/// What came of agents that all said goodbye, in their order.
+/// The results of agents that all said goodbye, in their order.
 #[derive(Drop)]
 pub(crate) struct Gathered {
     /// What each of them did.
@@ -14,7 +14,7 @@ pub(crate) struct Gathered {
     pub(crate) agents: Vec<Finished>,
 }
 
-/// Puts together what came of each agent. Returns `Unheard` if the goodbye of an agent was not
+/// Puts the results of the agents together. Returns `Unheard` if the goodbye of an agent was not
 /// heard; else `Refused` if the thread of an agent could not be made.
 #[tactic(auto, using(crate::proofs::GatheredLemmas::ended_all))]
 pub(crate) fn gather(

@@ -22,7 +22,8 @@ impl<P: Port> Promise<PortEnd> for Serves<P> {
     ghost kept_by = { λ p r. IsPortServed (P.conns p.port.value) (P.may_give p.port.value) p.agent.value r };
 }
 
-/// Starts the thread of one agent, as [`start_thread`] does. If none can be made the gate hears so.
+/// Starts the thread of one agent, as [`start_thread`] does. If none can be made the gate is
+/// notified.
 pub(crate) fn start_one<'s, E: 's, R: Wait + Sync, P: Port + Drop + Send + 's, G: Gate + Sync>(
     scope: &Scope<'s, E>,
     rt: &'s R,
@@ -41,8 +42,8 @@ pub(crate) fn start_one<'s, E: 's, R: Wait + Sync, P: Port + Drop + Send + 's, G
     handle
 }
 
-/// Starts the thread of one agent, which serves this port to its end. Where no thread can be made
-/// the agent and its port are dropped, and there is none.
+/// Starts the thread of one agent, which serves this port to its end. Returns `None` if no thread
+/// can be made; the agent and its port are dropped.
 fn start_thread<'s, E: 's, R: Wait + Sync, P: Port + Drop + Send + 's, G: Gate + Sync>(
     scope: &Scope<'s, E>,
     rt: &'s R,
@@ -70,8 +71,8 @@ fn start_thread<'s, E: 's, R: Wait + Sync, P: Port + Drop + Send + 's, G: Gate +
         .ok()
 }
 
-/// Starts a thread for each agent, which serves the port in its place to its end; there is none
-/// where no thread can be made.
+/// Starts a thread for each agent, which serves the port in its place to its end; `None` if no thread
+/// can be made.
 pub(crate) fn start_all<'s, E: 's, R: Wait + Sync, P: Port + Drop + Send + 's, G: Gate + Sync>(
     scope: &Scope<'s, E>,
     rt: &'s R,

@@ -1,5 +1,4 @@
-//! The run of the daemon: a crew of agents that serve connections, and the notes of what came of
-//! it.
+//! The run of the daemon: a crew of agents that serve connections, and the notes of its result.
 mod agent_lines;
 mod journal_folder;
 mod journal_start;

@@ -1,5 +1,6 @@
 //! The daemon as a library: `batch` runs the requests of one input, `serve` those of agents that
-//! connect to a socket, `send` is such an agent's part, and `list_journal` (dsn_listing) prints what a journal holds.
+//! connect to a socket, `send` is such an agent's part, and `list_journal` (dsn_listing) writes what
+//! a journal holds.
 #![tactic(auto)]
 
 mod batch_run;

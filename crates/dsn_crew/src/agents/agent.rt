@@ -37,7 +37,7 @@ impl Model for Agent {
 }
 
 impl Agent {
-    /// The agent of this number, which has asked nothing and may make so many requests: by the half
+    /// The agent of this number, which has asked nothing and may make `limit` requests: by the half
     /// by which it asks, and that of an answer lane of its own.
     pub fn new(agent: u32, requests: LaneIn<Request>, answers: LaneOut<Answer>, limit: u32) -> Agent
         requires own { (requests.agent ≡ agent) × (answers.first ≡ agent)
@@ -73,12 +73,12 @@ impl Agent {
         halves.into_parts()
     }
 
-    /// Asks the collector, and waits for its answer. It asks for a body that isn't a goodbye
+    /// Asks the collector, and waits for its answer. Requires that the body isn't a goodbye
     /// (`Body::is_bye` is the test).
     ///
-    /// `Limit` (44) comes where the agent has made as many requests as it may; the agent is as it
-    /// was. `Lost` (41) comes where the collector is gone: with the body where the request was not
-    /// sent, and so at every later ask.
+    /// Returns `Limit` (44) if the agent has made as many requests as it may; the agent is as it was.
+    /// Returns `Lost` (41) if the collector is gone: with the body if the request was not sent, and
+    /// at every later ask.
     pub fn ask(&mut self, rt: &impl Wait, body: Body) -> Result<Answer, AskFault>
         requires stays { body_of body ≢ Bye }
         ensures ask { IsAsk self.old (body_of body) self.new result }
@@ -101,7 +101,7 @@ impl Agent {
     }
 
     /// Says goodbye, which is allowed at the limit too, and waits until the collector has heard it.
-    /// `Lost` (41) comes where a lane was lost before or is lost now; the agent's halves are dropped.
+    /// Returns `Lost` (41) if a lane was lost before or is lost now; the agent's halves are dropped.
     /// The agents of `run_crew` leave without it: it is for embedders and tests.
     #[tactic(auto, using(crate::proofs::agents::AgentLemmas::goodbye_fault))]
     pub fn bye(self, rt: &impl Wait) -> Result<Finished, AskFault>
@@ -114,7 +114,7 @@ impl Agent {
         }
     }
 
-    /// Says goodbye, as [`Agent::bye`] does, and says why it was not heard where it wasn't.
+    /// Says goodbye, as [`Agent::bye`] does. Returns why if it was not heard.
     pub(crate) fn leave(self, rt: &impl Wait) -> Result<Finished, Unheard>
         ensures leave { IsLeave self result }
         ensures finished { IfOk result IsFinished }

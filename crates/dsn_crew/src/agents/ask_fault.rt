@@ -8,10 +8,10 @@ use dsn_text::fault_code;
 /// Why a request has no answer.
 #[derive(Drop)]
 pub enum AskFault {
-    /// The agent's requests are used up: the body is handed back, and the agent may say goodbye.
+    /// The agent's requests are used up: the body is returned, and the agent may say goodbye.
     Limit(Body),
-    /// A lane's other half is gone, now or at an earlier request. The body is handed back where the
-    /// request was not sent.
+    /// A lane's other half is gone, now or at an earlier request. The body is returned if the request
+    /// was not sent.
     Lost(Option<Body>),
 }
 

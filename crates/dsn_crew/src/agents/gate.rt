@@ -1,4 +1,4 @@
-//! What a crew calls where an agent has no thread, and a session round each of its requests.
+//! What a crew calls if an agent has no thread, and a session round each of its requests.
 
 /// What a session calls before it asks each request, and after the answer has come: a place where
 /// the order of several agents' requests can be seen or held. Nothing is proved of it.
@@ -7,10 +7,10 @@ pub trait Gate {
     fn start_refused(&self) {}
 
     /// Called before a request is asked, with its agent, and with the number that it has if it is
-    /// sent; also where the agent's requests are used up.
+    /// sent; also if the agent's requests are used up.
     fn before_ask(&self, agent: u32, number: u32);
 
-    /// Called once a request is answered, before the answer is written. It isn't called where the
+    /// Called once a request is answered, before the answer is written. It isn't called if the
     /// request was refused or lost.
     fn after_answer(&self, agent: u32, number: u32);
 }

@@ -7,12 +7,12 @@ use dsn_device::Stream;
 
 /// Where an agent gets the connections that it serves, one after another: a listening socket, say.
 ///
-/// A port may tell its connections to contracts, and a port in memory does: it then gives these,
-/// and is done once none is left. One that doesn't tell promises nothing of their bytes.
+/// A port may expose its connections to contracts, and a port in memory does: it then gives these,
+/// and is done once none is left. One that doesn't promises nothing of their bytes.
 ///
 /// Each port says what it may give from here on: lists of answers, each of which is a connection,
-/// that it is done, or that it failed. One over a socket may give so many connections, say. A port
-/// that promises nothing may give anything.
+/// that it is done, or that it failed. One over a socket may give a number of connections, say. A
+/// port that promises nothing may give anything.
 ///
 /// A port that answered that it is done, or that it failed, isn't asked again. It may say at which
 /// moments it can be asked, and then only owes that it can be after each connection: an agent knows
@@ -24,7 +24,7 @@ pub trait Port {
     /// A connection. It goes to the agent's thread with its port.
     type Stream: Stream + Drop + Send;
 
-    // The connections that it will give from here on, where they are known.
+    // The connections that it will give from here on, if they are known.
     ghost conns: { Self → Option (List Conn) };
 
     // Whether it may give these answers, one after another, from here on.

@@ -6,12 +6,12 @@ use crate::agents::finished_agent::Finished;
 use crate::agents::unheard::Unheard;
 use std::marker::Model;
 
-/// What came of an agent that served its port. One whose goodbye was not heard keeps why.
+/// How an agent that served its port ended. One whose goodbye was not heard keeps why.
 #[derive(Drop)]
 pub(crate) struct PortEnd {
     /// What the agent did, up to its goodbye.
     pub(crate) line: AgentLine,
-    /// The agent, once it said goodbye and was heard; none where a lane was lost.
+    /// The agent, once it said goodbye and was heard; `None` if a lane was lost.
     pub(crate) finished: Option<Finished>,
     /// Why its goodbye was not heard.
     unheard: Option<Unheard>,

@@ -19,8 +19,8 @@ use std::sync::Wait;
 const MOST_CONNECTIONS: u32 = 1_000_000;
 
 /// Serves the connections of a port, one after another, and then says goodbye. Each stream is
-/// dropped once it is served. Memory is taken only as a session takes it. It asks that the port may
-/// be asked, and asks it no more once it answered that it is done, or that it failed.
+/// dropped once it is served. Memory is taken only as a session takes it. Requires that the port may
+/// be asked. It isn't asked again once it answered that it is done, or that it failed.
 pub(crate) fn serve_port<P: Port + Drop, G: Gate>(
     rt: &impl Wait,
     alloc: Global,

@@ -20,7 +20,7 @@ use std::snapshot::Snapshot;
 use std::sync::Wait;
 
 /// Closes a crew, of which it takes all agents, in their order, and the collector. Each of its
-/// lanes is closed, in room that was taken when the crew was opened. It asks that all agents said
+/// lanes is closed, in room that was taken when the crew was opened. Requires that all agents said
 /// goodbye and the collector has not failed (`Desk::all_gone`); an agent that never started has no
 /// half to give back, so its crew is dropped instead.
 #[tactic(auto, using(crate::proofs::desk::Rules::closing))]

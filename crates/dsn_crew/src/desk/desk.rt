@@ -27,7 +27,7 @@ use std::sync::Wait;
 /// The collector of a crew: it takes the agents' requests that wait, has them kept together, and
 /// carries them out and answers them one after another. Contracts see its book, as it was at first
 /// and as it is, the requests that it carried out and those behind that it took, what it answered
-/// each agent, whether it failed, and why those behind were not kept, where they weren't.
+/// each agent, whether it failed, and why those behind were not kept, if they weren't.
 #[derive(Drop)]
 pub struct Desk<B: Keeper = Book> {
     start: Snapshot<B>,
@@ -98,7 +98,7 @@ impl<B: Keeper> Desk<B> {
         self.stop.is_none() && self.gone as usize + self.missed as usize == self.lines.len()
     }
 
-    /// Why it has failed. It asks that it has.
+    /// Why it has failed. Requires that it has.
     pub(crate) fn stopped(&self) -> Breach
         requires { self.now.failed ≡ true }
         ensures { IsStopped B.Keeper self.now result }
@@ -116,9 +116,9 @@ impl<B: Keeper> Desk<B> {
         self.book
     }
 
-    /// Counts so many agents more as gone: agents whose threads could not be started, so that they
-    /// will never say goodbye. It asks that they are among those that haven't, and that nothing is
-    /// behind, as before the first request is taken.
+    /// Counts more agents as gone: those whose threads could not be started, so that they will never
+    /// say goodbye. Requires that they are among those that haven't, and that nothing is behind, as
+    /// before the first request is taken.
     pub fn miss(&mut self, agents: u32)
         requires idle { self.old.behind ≡ [] }
         requires left { goodbyes self.old.requests.taken + self.old.missed + agents ≤ length
@@ -131,14 +131,14 @@ impl<B: Keeper> Desk<B> {
         self.missed += agents;
     }
 
-    /// Takes one request and answers it: the letter that it sealed, if it did. Where none is behind,
-    /// it takes all that wait, up to 16, and has them kept together first.
+    /// Takes one request and answers it. Returns the letter that it sealed, if it did. If none is
+    /// behind, it takes all that wait, up to 16, and has them kept together first.
     ///
-    /// It asks that not all agents said goodbye. `Requests` comes where no agent is left to ask,
-    /// once 4,294,967,295 requests were carried out, once the collector has failed, and where the
-    /// requests weren't kept, none of which is then carried out; `Answers` where the agent that asked
-    /// is gone. From then on the collector has failed. Where requests weren't kept, the keeper is
-    /// what it says of its refusal.
+    /// Requires that not all agents said goodbye. Returns `Requests` if no agent is left to ask, once
+    /// 4,294,967,295 requests were carried out, once the collector has failed, and if the requests
+    /// weren't kept, none of which is then carried out. Returns `Answers` if the agent that asked is
+    /// gone. From then on the collector has failed. If requests weren't kept, the keeper is what it
+    /// says of its refusal.
     pub fn take_one(&mut self, rt: &impl Wait) -> Result<Option<Letter>, DeskFault>
         requires some_left { all_gone self.old ≡ false }
         ensures taken { (before : List Exchange) → BeginsWith B.Keeper self.old.start before
@@ -168,8 +168,8 @@ impl<B: Keeper> Desk<B> {
 
     /// Takes the requests that wait, and waits for one, and has them kept together.
     ///
-    /// `Requests` comes where no agent is left to ask, and where they weren't kept; then the collector
-    /// has failed.
+    /// Returns `Requests` if no agent is left to ask, and if they weren't kept; then the collector has
+    /// failed.
     fn keep_more(&mut self, rt: &impl Wait) -> Result<(), DeskFault>
         requires some_left { all_gone self.old ≡ false }
         requires going { self.old.failed ≡ false }
@@ -193,8 +193,8 @@ impl<B: Keeper> Desk<B> {
         Ok(())
     }
 
-    /// Carries out the first of the requests behind, and answers it: the letter that it sealed, if it
-    /// did. `Answers` comes where the agent that asked is gone; then the collector has failed.
+    /// Carries out the first of the requests behind, and answers it. Returns the letter that it
+    /// sealed, if it did, and `Answers` if the agent that asked is gone; then the collector has failed.
     fn answer_next(&mut self, rt: &impl Wait) -> Result<Option<Letter>, DeskFault>
         requires going { self.old.failed ≡ false }
         requires some { 1 ≤ length self.old.behind }
@@ -229,11 +229,11 @@ impl<B: Keeper> Desk<B> {
         }
     }
 
-    /// Takes the agents' requests, answers each, and hands on the letters that they seal, until all
-    /// agents have said goodbye.
+    /// Takes the agents' requests, answers each, and passes the letters that they seal to `sink`,
+    /// until all agents have said goodbye.
     ///
-    /// What [`Desk::take_one`] answers comes where it does; `Letters` where the sink is gone or
-    /// takes no more. Then the collector has failed.
+    /// Returns what [`Desk::take_one`] does if it fails, and `Letters` if the sink is gone or takes no
+    /// more. Then the collector has failed.
     #[tactic(auto, using(crate::proofs::desk::Rules::runs))]
     pub fn run<K: Sink>(&mut self, rt: &impl Wait, sink: &mut K) -> Result<(), DeskFault>
         ensures run { (before : List Exchange) → BeginsWith B.Keeper self.old.start before
@@ -256,7 +256,7 @@ impl<B: Keeper> Desk<B> {
         unreachable!()
     }
 
-    /// Takes one request, answers it, and hands on the letter that it sealed.
+    /// Takes one request, answers it, and passes the letter that it sealed to `sink`.
     #[tactic(auto, using(crate::proofs::desk::Rules::takes))]
     fn hand_one<K: Sink>(&mut self, rt: &impl Wait, sink: &mut K) -> Result<(), DeskFault>
         requires some_left { all_gone self.old ≡ false }
@@ -286,10 +286,9 @@ impl<B: Keeper> Desk<B> {
     }
 }
 
-/// Sends an answer over the lane of its agent, or says what the lane reported where the agent is
-/// gone.
+/// Sends an answer over the lane of its agent. Returns what the lane reported if the agent is gone.
 ///
-/// Requires that the answer is of the last request that was carried out, and that `_book` stands for
+/// Requires that the answer is of the last request that was carried out, and that `_book` models
 /// the history with it and has kept all behind it that were taken. So a crash leaves each of them:
 /// [`Keeper`] says what it leaves.
 fn send_answer<B: Keeper>(

@@ -7,20 +7,20 @@ ghost use Rattle.dsn_crew.specs.desk.Desk.{letter_kept};
 use dsn_outcome::Letter;
 use dsn_text::fault_code;
 
-/// Why a collector stopped. A letter that was sealed and not handed on comes back.
+/// Why a collector stopped, with the letter that was sealed and not passed to the sink.
 #[derive(Drop)]
 pub enum DeskFault {
     /// The agents are gone, the collector failed before, 4,294,967,295 requests were carried out, or
     /// requests were not kept.
     Requests,
-    /// This agent is gone, and its answer is lost. The letter that the answer speaks of comes back.
+    /// This agent is gone, and its answer is lost; with the letter that the answer speaks of.
     Answers(u32, Option<Letter>),
     /// The sink is gone, or takes no more letters.
     Letters(Letter),
 }
 
 impl DeskFault {
-    /// The letter that was sealed and not handed on, if there is one.
+    /// The letter that was sealed and not passed to the sink, if there is one.
     pub fn into_letter(self) -> Option<Letter>
         ensures { letters_in result ≡ letter_kept (Err self) }
     {

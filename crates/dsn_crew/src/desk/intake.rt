@@ -1,5 +1,5 @@
 //! The collector's side of the request lane: it takes the requests that wait, several at once, and
-//! hands them on one after another.
+//! gives them one after another.
 ghost use Rattle.std.specs.Prelude.{◌≡◌, ◌≢◌, ◌+◌, ◌^◌, ◌<◌, ◌≤◌, ℕ, List, [], ◌∷◌, ◌++◌, ◌==◌, take, length, All, IfErr, OnOk, OnErr};
 ghost use Rattle.std.specs.VecDeque.{deque_capacity};
 ghost use Rattle.dsn_book.specs.Keeper.{MayCrash};
@@ -20,14 +20,14 @@ use std::sync::Wait;
 /// agent asks again once it was answered.
 pub(crate) const MOST_TOGETHER: usize = 16;
 
-/// The requests that the collector takes: those that it has handed on to be carried out, and those
-/// behind, which it has taken together and not handed on so far.
+/// The requests that the collector takes: those that it has given to be carried out, and those
+/// behind, which it has taken together and not given so far.
 #[derive(Drop)]
 pub(crate) struct Intake {
     lane: LaneOut<Request>,
     /// The requests behind, in order.
     behind: VecDeque<Request>,
-    /// How many requests it has handed on.
+    /// How many requests it has given.
     count: u32,
 }
 
@@ -59,14 +59,14 @@ impl Intake {
         }
     }
 
-    /// How many requests it has handed on.
+    /// How many requests it has given.
     pub(crate) fn count(&self) -> u32
         ensures { result ≡ length self.now.requests.taken }
     {
         self.count
     }
 
-    /// Whether no request is behind those that it has handed on.
+    /// Whether no request is behind those that it has given.
     pub(crate) fn is_empty(&self) -> bool
         ensures { result ≡ (length self.now.behind == 0) }
     {
@@ -74,7 +74,7 @@ impl Intake {
     }
 
     /// Takes the next request, and waits for it, and then those that wait in the lane, up to 16 in
-    /// all; it says what the lane reported where no agent is left to ask. `heard` counts the goodbyes
+    /// all. Returns what the lane reported if no agent is left to ask. `heard` counts the goodbyes
     /// that were heard, and the agents that never start. It takes none after the goodbye by which
     /// these are as many as the agents.
     pub(crate) fn fill(&mut self, rt: &impl Wait, heard: u64, agents: u64) -> Result<(), LaneGone>
@@ -116,9 +116,9 @@ impl Intake {
         keeper.keep(self.behind.make_contiguous())
     }
 
-    /// Hands the next request on.
+    /// Gives the next request.
     ///
-    /// Requires that one is behind, and that fewer than 4,294,967,295 were handed on.
+    /// Requires that one is behind, and that fewer than 4,294,967,295 were given.
     pub(crate) fn next(&mut self) -> Request
         requires some { 1 ≤ length self.old.behind }
         requires few { length self.old.requests.taken < most_taken }

@@ -20,11 +20,11 @@ use std::sync::Wait;
 /// How many requests wait at most.
 const REQUESTS_WAITING: u32 = 64;
 
-/// A crew of so many agents, from agent 0 on, and its collector, over a book that is empty. It is for
+/// A crew of `agents` agents, from agent 0 on, and its collector, over a book that is empty. It is for
 /// embedders and tests: `run_crew` opens its crew itself.
 ///
-/// `AgentCount` (43) comes where there are not 1 to 16 agents, before any memory is taken;
-/// `NoMemory` (42) only where memory was refused.
+/// Returns `AgentCount` (43) if there are not 1 to 16 agents, before any memory is taken, and
+/// `NoMemory` (42) only if memory is refused.
 pub fn open_crew(
     rt: &impl Wait,
     alloc: Global,
@@ -45,12 +45,12 @@ pub fn open_crew(
     open_room(rt, alloc, book, agents).map_err(|_| CrewOpenFault::NoMemory)
 }
 
-/// A crew of so many agents, from agent 0 on, and its collector, over what carries their requests
+/// A crew of `agents` agents, from agent 0 on, and its collector, over what carries their requests
 /// out, as [`open_crew`] opens one. Requires that there is a history to begin with, after which nothing
 /// is awaited, and that fewer than 2^63 letters were sealed by it.
 ///
-/// `AgentCount` (43) comes where there are not 1 to 16 agents, before any memory is taken;
-/// `NoMemory` (42) only where memory was refused.
+/// Returns `AgentCount` (43) if there are not 1 to 16 agents, before any memory is taken, and
+/// `NoMemory` (42) only if memory is refused.
 pub fn open_crew_over<B: Keeper + Drop>(
     rt: &impl Wait,
     alloc: Global,
@@ -70,7 +70,7 @@ pub fn open_crew_over<B: Keeper + Drop>(
     open_room(rt, alloc, book, agents).map_err(|_| CrewOpenFault::NoMemory)
 }
 
-/// The crew itself. What carries the requests out comes back where memory was refused.
+/// The crew itself. Returns what carries the requests out if memory is refused.
 #[tactic(auto, using(crate::proofs::OpenLemmas::length_halves))]
 pub(crate) fn open_room<B: Keeper + Drop>(
     rt: &impl Wait,

@@ -1,24 +1,24 @@
-//! A sink that hands a letter back.
+//! A letter that a sink returns.
 ghost use Rattle.std.specs.Prelude.{◌≡◌, OnOk, IfErr};
 
 use crate::post::Sink;
 use dsn_outcome::Letter;
 use std::sync::Wait;
 
-/// A sink handed a letter back. Only [`offer`] makes it, so whoever shows one has asked a sink.
+/// A sink returned a letter. Only [`offer`] makes it, so whoever shows one has asked a sink.
 #[derive(Clone, Copy, Debug, Drop, PartialEq, Eq)]
 pub(crate) struct HandedBack {
     asked: (),
 }
 
-/// A letter that a sink handed back.
+/// A letter that a sink returned.
 #[derive(Drop)]
 pub(crate) struct ReturnedLetter {
     pub(crate) letter: Letter,
     pub(crate) evidence: HandedBack,
 }
 
-/// Hands a letter to a sink.
+/// Passes a letter to a sink.
 pub(crate) fn offer<K: Sink>(
     rt: &impl Wait,
     sink: &mut K,

@@ -49,8 +49,8 @@ impl<T: Carried> Model for LaneIn<T> {
 }
 
 impl<T: Carried> LaneIn<T> {
-    /// The half of the next agent, whose pass is split off the receiving half's. `NoMemory` comes
-    /// only where there is no room for one more half.
+    /// The half of the next agent, whose pass is split off the receiving half's. Returns `NoMemory`
+    /// only if there is no room for one more half.
     #[tactic(auto, using(crate::proofs::lane::RuleLemmas::splits))]
     pub(super) fn split_off(
         sender: &RuledSender<T, LaneKnowledge<T>, LaneRule>,
@@ -87,8 +87,8 @@ impl<T: Carried> LaneIn<T> {
         self.count
     }
 
-    /// Sends an item, and waits while the lane is full. `Lost` comes once the receiving half is
-    /// gone, and hands the item back; that it comes then, and not before, isn't proved.
+    /// Sends an item, and waits while the lane is full. Returns `Lost` with the item once the receiving
+    /// half is gone; that it does so then, and not before, isn't proved.
     pub fn send(&mut self, rt: &impl Wait, item: T) -> Result<(), Lost<T>>
         requires agent { T.agent item ≡ self.old.agent }
         requires number { T.number item ≡ length self.old.sent }

@@ -1,4 +1,4 @@
-//! What each half of a lane knows of it. No value of these types is made: they stand in proofs
+//! What each half of a lane knows of it. No value of these types is made: they are for proofs
 //! alone.
 use std::collections::LinkedList;
 
@@ -21,7 +21,7 @@ pub struct Taking<T> {
     pub back: LinkedList<Sending<T>>,
 }
 
-/// What a pass stands for: a sending half, the receiving half, or a half that was taken back. A
+/// What a pass models: a sending half, the receiving half, or a half that was taken back. A
 /// half knows first how many items its lane holds at most.
 pub enum LaneKnowledge<T> {
     /// A sending half.

@@ -67,8 +67,8 @@ impl<T: Carried> LaneOut<T> {
         }
     }
 
-    /// Takes the item at the front, and waits while there is none. `LaneEnd` comes once all
-    /// sending halves are gone and nothing waits; that it comes then, and not before, isn't proved.
+    /// Takes the item at the front, and waits for it. Returns `LaneEnd` once all sending halves are
+    /// gone and nothing waits; that it does so then, and not before, isn't proved.
     #[tactic(auto, using(crate::proofs::LaneHalfLemmas::agent_within, crate::proofs::LaneHalfLemmas::keeps_receiving))]
     pub fn take(&mut self, rt: &impl Wait) -> Result<T, LaneEnd>
         ensures item { IfOk result (λ item. self.new.taken ≡ self.old.taken ++ item ∷ []) }
@@ -94,9 +94,9 @@ impl<T: Carried> LaneOut<T> {
         }
     }
 
-    /// Takes the item at the front where one waits, and waits for none: so several that wait are taken
-    /// at once. `None` also comes once all sending halves are gone. That it doesn't come while an item
-    /// waits isn't proved.
+    /// Takes the item at the front if one waits, and doesn't wait: so several that wait are taken at
+    /// once. Returns `None` also once all sending halves are gone. That it doesn't while an item waits
+    /// isn't proved.
     #[tactic(auto, using(crate::proofs::LaneHalfLemmas::agent_within, crate::proofs::LaneHalfLemmas::keeps_receiving))]
     pub fn take_waiting(&mut self, rt: &impl Wait) -> Option<T>
         ensures item { IfSome result (λ item. self.new.taken ≡ self.old.taken ++ item ∷ []) }

@@ -1,5 +1,5 @@
 //! The rule of a lane and the steps on it, as the channel's calls want them. None of these types
-//! has a value: they stand in the calls' types.
+//! has a value: they are parameters of the calls' types.
 
 use crate::lane::lane_knowledge::LaneKnowledge;
 use crossbeam_channel::protocol::{Join, Lesson, Outcome, Protocol, Split};

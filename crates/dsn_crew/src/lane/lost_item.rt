@@ -5,7 +5,7 @@ ghost use Rattle.dsn_text.specs.FaultCode.{lane_lost_code};
 use crate::lane::lane_gone::LaneGone;
 use dsn_text::fault_code;
 
-/// The receiving half of the lane is gone: the item is handed back. A lane alone makes it.
+/// The receiving half of the lane is gone: the item is returned. A lane alone makes it.
 #[derive(Drop)]
 pub struct Lost<T> {
     /// The item that was not sent.

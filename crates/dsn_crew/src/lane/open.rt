@@ -19,7 +19,7 @@ use std::alloc::Global;
 use std::sync::Wait;
 
 /// A lane that holds at most `capacity` items, with a half for each of `agents` agents from
-/// `first` on, in their order, and the receiving half. `NoMemory` comes only where memory was
+/// `first` on, in their order, and the receiving half. Returns `NoMemory` only if memory is
 /// refused.
 #[tactic(auto, using(crate::proofs::LaneHalfLemmas::halves_pushed, crate::proofs::lane::RuleLemmas::opens))]
 pub fn open_lane<T: Carried>(
@@ -55,7 +55,7 @@ pub fn open_lane<T: Carried>(
     Ok((halves, LaneOut::new(receiver, pass)))
 }
 
-/// Counts the lane's room: the rule begins with none, and has room for one item more in each turn.
+/// Counts the lane's room: the rule begins without, and has room for one item more in each turn.
 #[tactic(auto, using(crate::proofs::LaneHalfLemmas::room_more, crate::proofs::lane::RuleLemmas::rooms))]
 fn count_room<T: Carried>(
     sender: &RuledSender<T, LaneKnowledge<T>, LaneRule>,

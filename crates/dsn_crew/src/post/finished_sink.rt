@@ -51,8 +51,8 @@ impl FinishedSink {
         FinishedSink { half, room, marked }
     }
 
-    /// Closes the lane, and says whether all that was sent was taken, the end mark included. What
-    /// waits is dropped. It takes no memory.
+    /// Closes the lane. Returns whether all that was sent was taken, the end mark included. What waits
+    /// is dropped. It takes no memory.
     pub(super) fn close(self, rt: &impl Wait, source: LetterSource) -> bool
         requires lane { source.lane ≡ self.lane }
         ensures first { IsPrefix source.letters self.letters }

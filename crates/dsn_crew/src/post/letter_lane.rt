@@ -13,7 +13,7 @@ use std::sync::Wait;
 const LETTERS_WAITING: u32 = 16;
 
 /// A lane of letters that holds at most 16 of them: the half that sends them, and the one that takes
-/// them. `NoMemory` comes only where memory was refused. Outside this crate it is for tests.
+/// them. Returns `NoMemory` only if memory is refused. Outside this crate it is for tests.
 pub fn open_post(rt: &impl Wait, alloc: Global) -> Result<(LetterSink, LetterSource), NoMemory>
     ensures sink { IfOk result (λ lane. lane.0 ≡ record { lane = lane.1.lane; letters = [] }) }
     ensures source { IfOk result

@@ -40,8 +40,8 @@ impl Sink for LetterSink {
 
     ghost takes = { TakesLetter };
 
-    /// Sends a letter to the poster, and waits while 16 letters wait. It takes no memory. The
-    /// letter comes back where the receiving half is gone, and where 4,294,967,294 were sent.
+    /// Sends a letter to the poster, and waits while 16 letters wait. It takes no memory. Returns the
+    /// letter if the receiving half is gone, and if 4,294,967,294 were sent.
     fn hand(&mut self, rt: &impl Wait, letter: Letter) -> Result<(), Letter> {
         let number = self.half.count();
         if number >= MOST_LETTERS {

@@ -5,11 +5,11 @@ use dsn_report::OutboxEnd;
 /// What became of the letters of a lane, once all of them were sent and the poster has ended.
 #[derive(Drop)]
 pub(crate) struct Posted<W> {
-    /// The outbox, and the letters that came to the poster and could not be written.
+    /// The outbox, and the letters that reached the poster and could not be written.
     pub(crate) end: OutboxEnd<W>,
     /// How many letters were posted.
     pub(crate) posted: u32,
-    /// What the lane reported if it was lost; `None` if all letters came to the poster, and the end
+    /// What the lane reported if it was lost; `None` if all letters reached the poster, and the end
     /// mark after them.
     pub(crate) lost: Option<LaneGone>,
 }

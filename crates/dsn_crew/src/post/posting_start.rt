@@ -37,8 +37,8 @@ impl<W: Drain> Promise<Posting<W>> for Posts<W> {
 }
 
 /// Starts the poster's thread, with the two halves of a lane over which nothing was sent. It goes on
-/// after what was posted before. Where no thread can be made the outbox comes back as it was. Outside
-/// this crate it is for tests.
+/// after what was posted before. Returns the outbox as it was if no thread can be made. Outside this
+/// crate it is for tests.
 pub fn start_posting<'s, E: 's, R: Wait + Sync, W: Drain + Drop + Send + 's>(
     scope: &Scope<'s, E>,
     rt: &'s R,

@@ -1,7 +1,7 @@
 //! The disks of a journal's folder.
 
-/// The two disks that a daemon keeps what it was asked on, so that a later run goes on where it
-/// ended.
+/// The two disks on which a daemon keeps what it was asked, so that a later run continues from
+/// there.
 #[derive(Drop)]
 pub struct JournalFolder<D, M> {
     /// The journal: what was asked, in order.

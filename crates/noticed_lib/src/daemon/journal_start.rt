@@ -26,7 +26,7 @@ use std::alloc::Global;
 /// What a run over a journal begins with, once all letters of earlier runs were posted.
 #[derive(Drop)]
 pub(crate) struct JournalStart<W, D: Replaceable, M: Replaceable, C: MarkCount> {
-    /// The poster, which has posted them, and tells a count how many letters are marked.
+    /// The poster, which has posted them, and reports to a count how many letters are marked.
     pub(crate) outgoing: Outgoing<CountedOutbox<MarkedOutbox<W, M>, C>>,
     /// What keeps the run's requests, by that count.
     pub(crate) keeper: KeptBook<D, C>,
@@ -68,11 +68,11 @@ impl<W: Drain, D: Replaceable + Drop, M: Replaceable + Drop> NotStarted<W, D, M>
 }
 
 /// Opens the marks and the ledger of a folder, posts the letters of earlier runs that no mark
-/// counts, and puts the journal away for a shorter one. The count is told the mark, and each letter
-/// that is marked then and in the run.
+/// counts, and replaces the journal by a shorter one. The count is notified of the mark, and of each
+/// letter that is marked then and in the run.
 ///
-/// The numbers are those of [`Marks::open`] and of [`open`]; then 31 where the outbox fails, or a
-/// letter could not be marked; then those of a journal that could not be put away.
+/// The numbers are those of [`Marks::open`] and of [`open`]; then 31 if the outbox fails, or a
+/// letter could not be marked; then those of a journal that could not be replaced.
 pub(crate) fn start_over<
     W: Drain,
     D: Replaceable + Drop,

@@ -46,11 +46,11 @@ pub(crate) fn write_account<W: Drop, N: Drain>(
 }
 
 /// Writes the same of a run over a journal, whose outbox marked its letters. Then the journal forgets
-/// the closed keys, as a run without a journal does when it ends. Where it can't, they stay closed,
-/// and nothing is lost: so no note tells of it.
+/// the closed keys, as a run without a journal does when it ends. If it can't, they stay closed, and
+/// nothing is lost: so no note says so.
 ///
 /// At each moment a crash leaves the history of the journal's ledger, with the first of the requests
-/// that let the keys go. Requires that the ledger awaits no request.
+/// that release the keys. Requires that the ledger awaits no request.
 pub(crate) fn write_kept_account<
     W: Drop,
     D: Replaceable + Drop,
@@ -168,7 +168,7 @@ fn write_agents<N: Drain>(notes: &mut N, writing: &mut UntilFailure, agents: &[A
     }
 }
 
-/// The number of the fault of the ports, where one of them failed.
+/// The number of the fault of the ports, if one of them failed.
 fn port_fault(agents: &[AgentLine]) -> Option<u32>
     ensures { result ≡ port_fault agents.now }
 {

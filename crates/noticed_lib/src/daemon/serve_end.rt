@@ -5,7 +5,7 @@
 pub struct ServeEnd<W> {
     /// The outbox.
     pub outbox: W,
-    /// The exit status: 1 where a line of a fault was due, or a line of the notes could not be
-    /// written; else 0.
+    /// The exit status: 1 if a line of a fault was due, or a line of the notes could not be written;
+    /// else 0.
     pub status: u8,
 }

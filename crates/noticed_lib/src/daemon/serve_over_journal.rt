@@ -23,13 +23,12 @@ use std::time::Clock;
 /// was written to `outbox` and flushed. It begins with what the disk holds: the open logs and the
 /// closed keys, and the letters that no mark counts, which are posted first.
 ///
-/// A journal that gets full is put away for a shorter one within the run, once all letters that were
-/// sealed are marked; it is waited for that for some seconds.
+/// A journal that gets full is replaced by a shorter one within the run, once all letters that were
+/// sealed are marked; the run waits some seconds for that.
 ///
-/// Beside what `serve_ports` notes, the number of a fault comes for a request
-/// that was not kept (45), which ends the run; and of a run that does not begin: for a disk that
-/// can't be opened (9, 71 to 77), and where one of the first letters could not be written or marked
-/// (31).
+/// Beside what `serve_ports` notes, it notes the number of a fault if a request was not kept (45),
+/// which ends the run. A run does not begin if a disk can't be opened (9, 71 to 77), or if one of the
+/// first letters could not be written or marked (31).
 ///
 /// At each moment a crash leaves a journal that a later start begins with the history from before
 /// this run, and the first of the requests that were taken, and no other. Each request is among them
@@ -110,7 +109,7 @@ fn run_over<
     }
 }
 
-/// The disk of what kept a run's requests. Requires that it was handed back.
+/// The disk of what kept a run's requests. Requires that it was returned.
 fn disk_of<D: Replaceable + Drop, C: MarkCount + Drop>(book: Option<KeptBook<D, C>>) -> D
     requires { is_some book ≡ true }
     ensures { IfSome book (λ left. result ≡ left.journal.disk) }

@@ -15,9 +15,9 @@ use std::thread::Threads;
 /// Serves these ports by a crew, as [`run_crew`] does, which posts a notice of each sealed log to
 /// `outbox`. Then it writes to `notes` what each agent did, and how the run ended: with a port that
 /// failed (61), with an outbox that failed (31), which letters were not written, and which logs are
-/// open, or that their list found no memory (9). Of a crew's fault (41, 42, 43) it writes the number
-/// and the letters alone. Nothing is written once a line could not be written. As the crew does it
-/// asks that each port may be asked, which is so of every port that doesn't say when it can be.
+/// open, or that their list found no memory (9). If the crew ends with a fault (41, 42, 43) it writes
+/// the number and the letters alone. Nothing is written once a line could not be written. Requires
+/// that each port may be asked, which holds for every port that doesn't say when it can be.
 pub(crate) fn serve_ports<
     R: Threads + Wait + Sync,
     P: Port + Drop + Send,

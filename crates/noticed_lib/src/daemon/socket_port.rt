@@ -13,9 +13,9 @@ use std::io::ErrorKind;
 use std::os::unix::net::{UnixListener, UnixStream};
 
 /// A port that accepts connections on a listening socket, up to a number of them, or until its
-/// watch finds that the run is to end. Where the watch looks up, it does so each second that no
-/// client comes. It tells contracts nothing of what comes, but how much: each call takes one of its
-/// uses, and it is done exactly with none left, or where its watch ends the run.
+/// watch finds that the run is to end. If the watch looks up, it does so each second without a client.
+/// It exposes to contracts how much comes, and nothing of what comes: each call takes one of its uses,
+/// and it is done exactly with none left, or if its watch ends the run.
 #[derive(Drop)]
 pub(crate) struct SocketPort<'a, H> {
     pub(crate) listener: &'a UnixListener,
@@ -57,8 +57,8 @@ impl<'a, H: Watch> SocketPort<'a, H> {
         }
     }
 
-    /// What the port answers where it could get no connection. An accept is also ended by the end
-    /// of the run.
+    /// What the port answers if it could get no connection. An accept is also ended by the end of the
+    /// run.
     fn failed(&self, error: &io::Error) -> Next<Plain<WatchedConnection<'a, H>>>
         ensures { given_of result ≡ done → H.may_end self.now.watch.now }
     {

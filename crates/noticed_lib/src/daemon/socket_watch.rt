@@ -59,7 +59,7 @@ pub struct SocketWatch<'a, R> {
 
 impl<'a, R: Files + Eprint + Clock> SocketWatch<'a, R> {
     /// The watch over the socket that was just bound to this path, whose accepts it gives a time
-    /// limit. Where its file is gone already the run ends at once. An error comes where the system
+    /// limit. If its file is gone already the run ends at once. Returns an error if the system
     /// doesn't answer for the file, has no descriptor left, or has no clock.
     pub fn new(
         rt: &'a R,

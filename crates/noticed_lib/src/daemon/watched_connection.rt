@@ -41,7 +41,7 @@ pub(crate) struct WatchedConnection<'a, H> {
 }
 
 impl<'a, H: Watch> WatchedConnection<'a, H> {
-    /// The connection over a stream that was just accepted. An error comes where the system refuses
+    /// The connection over a stream that was just accepted. Returns an error if the system refuses
     /// the time limits.
     pub(crate) fn new(stream: UnixStream, watch: &'a H) -> io::Result<WatchedConnection<'a, H>> {
         if watch.looks_up() {

@@ -9,19 +9,19 @@ use dsn_text::fault_code;
 use std::alloc::AllocError;
 use thiserror::Error;
 
-/// What kept a ledger from keeping requests, or from being put away for a shorter one.
+/// Why a ledger did not keep requests, or was not compacted.
 #[derive(Clone, Copy, Debug, PartialEq, Eq, Error)]
 pub enum KeepError {
-    /// The ledger's disk failed before: open it anew.
+    /// A call of the ledger's disk failed earlier: open it again.
     #[error("the ledger is not settled")]
     Unsettled,
-    /// The journal did not take the records.
+    /// The journal did not write the records.
     #[error("{0}")]
     Journal(JournalError),
 }
 
 impl KeepError {
-    /// The number of the error: its journal's, or 72 after a failure.
+    /// The number of the error: that of the journal's error, or 72 for `Unsettled`.
     pub fn code(&self) -> u32
         ensures { result ≡ keep_error_code self.now }
     {

@@ -9,38 +9,38 @@ use dsn_text::{NoMemory, fault_code};
 use std::alloc::AllocError;
 use thiserror::Error;
 
-/// What kept a ledger from being opened.
+/// Why a ledger was not opened.
 #[derive(Clone, Copy, Debug, PartialEq, Eq, Error)]
 pub enum LedgerError {
-    /// Its journal was not read.
+    /// Its journal was not read or written, has no room for the header, or there is no memory.
     #[error("{0}")]
     Journal(JournalError),
-    /// It has no record, and other bytes than zeros and those of a header under these limits: it is
-    /// no ledger's file, or its first bytes were lost.
+    /// It has no record, and bytes other than zeros and those of a header under these limits. It
+    /// isn't a ledger's file, or its first bytes were lost.
     #[error("the file isn't a journal's")]
     Foreign,
-    /// Its first record is none that a ledger of this version writes under these limits.
+    /// Its first record isn't the header of this version under these limits.
     #[error("the journal is of another version, or was kept under other limits")]
     OtherHeader,
-    /// A record is none that a ledger writes.
+    /// A record after the header keeps no body.
     #[error("a record of the journal is damaged")]
     Damaged,
-    /// More records are behind the first byte that was never written than a crash leaves of one write:
-    /// a byte that was written was lost.
+    /// Behind the first byte that was never written there are more records than a crash leaves of
+    /// one write. So a written byte was lost.
     #[error("a byte among the journal's records was lost")]
     ByteLost,
-    /// The mark counts more letters than the journal's base and records give: it is another
-    /// journal's, or the journal is older than its marks.
+    /// The mark counts more letters than the journal's base and records do. It belongs to another
+    /// journal, or the journal is older than its marks.
     #[error("the mark counts more letters than the journal sealed")]
     MarkAhead,
-    /// The mark counts fewer letters than the journal's base: the marks are older than the journal,
-    /// or another journal's.
+    /// The mark counts fewer letters than the journal's base. The marks are older than the journal,
+    /// or belong to another one.
     #[error("the mark counts fewer letters than the journal's base")]
     MarkBehind,
 }
 
 impl LedgerError {
-    /// The number of the error: its journal's, or 73 to 77.
+    /// The number of the error: that of the journal's error, or 73 to 77.
     pub fn code(&self) -> u32
         ensures { result ≡ ledger_error_code self.now }
     {
@@ -84,6 +84,6 @@ impl From<NoMemory> for LedgerError {
 pub struct LedgerNotOpened<D> {
     /// The disk.
     pub disk: D,
-    /// Why not.
+    /// Why the ledger was not opened.
     pub cause: LedgerError,
 }

@@ -1,5 +1,5 @@
-//! A book over a journal, whose requests are kept before they are carried out. It is opened again
-//! with the same logs, and with the letters that no mark counts.
+//! A ledger: a book over a journal. Each request is durable before it is carried out. Opening a
+//! ledger again restores its logs, and returns the letters that no mark counts.
 #![tactic(auto)]
 
 mod compacting;

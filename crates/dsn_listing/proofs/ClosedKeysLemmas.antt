@@ -1,4 +1,4 @@
--- The closed keys of a book that stands for a history.
+-- The closed keys of a book that models a history.
 use Rattle.std.proofs.Common.{◌≡◌, ℕ, Bool, true, false, cond, ◌<◌, ◌+◌, List, [], ◌∷◌, ◌++◌, get_or, map, filter, take, length, refl, ap, sym, ◌∙◌}
 use Rattle.std.specs.Prelude.{None, Ok, Err, OnOk, Option, Result, Some, IsPermutation, is_err}
 use Rattle.std.specs.List.{cons_option}
@@ -54,17 +54,17 @@ closed_keys-map history (key ∷ rest) =
     ∙ ap (cons_option (cond (is_closed key history) (Some key) None)) (closed_keys-map history rest)
     ∙ kept_step history key rest (is_closed key history) refl
 
--- a book's closed keys are those of the history that it stands for, in another order
+-- a book's closed keys are those of the history that it models, in some order
 pub closed_keys-represented : (book : Book) (history : List Exchange) → Represents book history → IsPermutation (closed_after history) (closed_keys book.entries)
 closed_keys-represented book history stands =
     rw (← (closed_keys-map history (held_keys history)))
     (filter_map-IsPermutation closed_key (map (entry_after history) (held_keys history)) book.entries stands.entries)
 
--- a list in an order is in one that says the same
+-- a list sorted by one comparison is sorted by an equal one
 pub sorted-as : {X : Type 0} (one other : X → X → Ordering) (xs : List X) → ((a b : X) → one a b ≡ other a b) → IsSorted one xs → IsSorted other xs
 sorted-as one other xs same sorted = λ k d low high. ap is_lt (sym (same _ _)) ∙ sorted k d low high
 
--- what is said of a call that went well, of one that had no error
+-- a statement about a successful call holds of a call without an error
 pub when-good : {E : Type 0} (result : Result (Unit {0}) E) (P : Type 0) → is_err result ≡ false → OnOk result P → P
 when-good (Ok done) P good is = is
 when-good (Err e) P good is = absurd (let no : true ≡ false = good in cc)

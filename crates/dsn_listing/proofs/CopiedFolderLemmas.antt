@@ -1,4 +1,4 @@
--- What follows of a file from the opening of a copy of its bytes.
+-- What the opening of a copy of a file says about the file.
 use Rattle.std.proofs.Common.{◌≡◌, ◌∙◌, ℕ, ◌+◌, ◌≤◌, List, length, sym, subst, ap, arith}
 use Rattle.dsn_outcome.specs.History.{Limits, Exchange, sealed_letters}
 use Rattle.dsn_journal.specs.Behind.{HasMoreBehind}
@@ -10,7 +10,7 @@ use Rattle.dsn_ledger.specs.declared.opening.Opened.{Opened}
 use Rattle.dsn_listing.specs.declared.copied_disk.CopiedDisk.{CopiedDisk}
 use Rattle.dsn_listing.specs.inner.CopiedFolder.{copied_seen, IsOpenedCopy}
 
--- ---- what was opened
+-- ---- an opened copy
 
 pub opened_is : (limits : Limits) (mark : ℕ) (journal copy : List ℕ) (opened : Opened CopiedDisk)
     → copy ≡ journal → (IsForeign limits copy → ⊥) → (HasMoreBehind 16 copy → ⊥) → opened.ledger.book.limits ≡ limits

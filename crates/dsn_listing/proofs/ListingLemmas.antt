@@ -1,4 +1,4 @@
--- Listings: what their lines tell, and how one ends by what became of them.
+-- Listings: their lines, and their result.
 use Rattle.std.proofs.Common.{◌≡◌, ℕ, ◌+◌, Bool, true, false, List, length, refl, ap}
 use Rattle.std.specs.Prelude.{IfErr, Ok, Err, Result, Some, is_err}
 use Rattle.std.specs.Result.{IsErrAnd}
@@ -17,7 +17,7 @@ use Rattle.dsn_listing.specs.Listing.{AreClosedKeys, IsListed, IsListing, not_wr
 use Rattle.dsn_listing.specs.ListingLines.{last_lines, listing_lines}
 use Rattle.dsn_notes.specs.OpenLogs.{AreOpenLines}
 
--- lines that were not all taken and flushed, and such that were
+-- lines that were not all written and flushed, and lines that were
 module _ {W : Type 0} (drain : Drain W) where
   pub lost-is : (a b : Bool) (old new : W) (text : List ℕ) → a ≡ false → b ≡ true → WrittenAndFlushed drain a b old new text → Lost drain old new text
   lost-is false true old new text good lost written = written
@@ -29,7 +29,7 @@ module _ {W : Type 0} (drain : Drain W) where
   taken-is false true old new text good all written = absurd (let no : true ≡ false = all in cc)
   taken-is true b old new text good all written = absurd (let no : true ≡ false = good in cc)
 
--- what is told of what was opened over a copy of a journal
+-- the lines of an opened copy of a journal are a listing of it
 pub listing_is : (limits : Limits) (mark : ℕ) (journal marks : List ℕ) (opened : Opened CopiedDisk) (logs logs_told : List OpenLine) (closed closed_told : List Key)
     → (is : IsOpenedCopy limits mark journal opened) → HaveMark marks mark → AreOpenLines is.history (Some logs) → AreClosedKeys is.history closed → logs_told ≡ logs → closed_told ≡ closed
     → IsListing limits journal marks
@@ -49,12 +49,12 @@ listing_is limits mark journal marks opened logs logs_told closed closed_told is
   };
 }
 
--- an error that is this one
+-- an error that is known to be this one
 pub err-is : {T E : Type 0} (result : Result T E) (fault : E) → IsErrAnd result (λ e. e ≡ fault) → result ≡ Err fault
 err-is (Ok value) fault is = absurd is
 err-is (Err e) fault is = ap Err is
 
--- what the lines of a listing came to is what the listing did
+-- the result of writing the lines is the result of the listing
 pub listed : {N : Type 0} (device : Drain N) (limits : Limits) (journal marks : List ℕ) (lines later : N) (text : List ℕ) (result : Result (Unit {0}) ListingFault)
     → IfErr result (λ fault. fault ≡ NotWritten) → IsListing limits journal marks text → WrittenAndFlushed device false (is_err result) lines later text
     → IsListed device limits journal marks lines later result

@@ -1,4 +1,4 @@
--- Listings: which lines tell what a journal's folder holds, and what a listing comes to.
+-- Listings: the lines that describe a journal's folder, and the result of a listing.
 use Rattle.std.specs.Prelude.{◌≡◌, ℕ, ◌+◌, List, Result, Ok, Err, Some, filter, length, IsPermutation}
 use Rattle.std.specs.List.Sorted.{IsSorted}
 use Rattle.dsn_book.specs.declared.open_line.OpenLine.{OpenLine}
@@ -19,16 +19,16 @@ use Rattle.dsn_notes.specs.OpenLogs.{AreOpenLines}
 use Rattle.dsn_listing.specs.declared.listing_fault.ListingFault.{ListingFault}
 use Rattle.dsn_listing.specs.declared.listing_fault.ListingFault.TheVariants as fault
 
--- the keys that a history leaves closed, in order of their first use
+-- the closed keys after a history, in the order of their first use
 abbrev pub closed_after : List Exchange → List Key
 closed_after history = filter (λ key. is_closed key history) (held_keys history)
 
--- these, in key order
+-- the closed keys after a history, in key order
 abbrev pub AreClosedKeys : List Exchange → List Key → Type 0
 AreClosedKeys history keys = IsPermutation (closed_after history) keys × IsSorted key_cmp keys
 
--- the lines of a history's open logs and of its closed keys, each in key order, then those of these
--- letters, and these last ones
+-- the lines of a history's open logs and of its closed keys, each in key order, then those of these letters, and these
+-- last lines
 pub record AreLinesOf (history : List Exchange) (letters : List Letter) (last text : List ℕ) : Type 0 where
   pub logs : List OpenLine
   pub logs_are : AreOpenLines history (Some logs)
@@ -36,10 +36,9 @@ pub record AreLinesOf (history : List Exchange) (letters : List Letter) (last te
   pub closed_are : AreClosedKeys history closed
   pub is : text ≡ listing_lines logs closed letters last
 
--- what is told of a journal and its marks, by their bytes: the lines of the history that the journal
--- says, with those of its letters that the mark doesn't count; the mark; how many letters were sealed
--- in all; how many bytes the records take, with the header that a new journal gets, and how many the
--- file has
+-- the listing of the bytes of a journal and its marks. It has the lines of the journal's history, with those of the
+-- letters that the mark doesn't count. Then come the mark, and how many letters were sealed, with those of the base.
+-- Last are the bytes of the records, with the header that a new journal gets, and the bytes of the file
 pub record IsListing (limits : Limits) (journal marks text : List ℕ) : Type 0 where
   pub mark : ℕ
   pub marked : HaveMark marks mark
@@ -59,10 +58,10 @@ pub record MayBeListed (limits : Limits) (journal marks : List ℕ) : Type 0 whe
   pub history : List Exchange
   pub has : HasHistory limits mark journal base history
 
--- What a listing of a journal and its marks, by their bytes, comes to: all of its lines were written
--- and then flushed; or the first of these faults came, in this order: the marks were not opened; they
--- say a mark, and the journal was not opened under it; both can be listed, and there was no memory for
--- the lists; a line was lost. At the first three nothing was written.
+-- the result of a listing of the bytes of a journal and its marks. On success all lines were written and then flushed.
+-- Otherwise it is the first of these faults, in this order: the marks are not opened; the marks have a mark, and the
+-- journal is not opened under it; there is no memory for the lists; a line is lost. At the first three nothing is
+-- written
 pub data IsListed {N : Type 0} (device : Drain N) (limits : Limits) (journal marks : List ℕ)
     (lines later : N) (result : Result (Unit {0}) ListingFault) : Type 0 where
   whole : (text : List ℕ) → result ≡ Ok tt → IsListing limits journal marks text

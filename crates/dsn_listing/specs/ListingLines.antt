@@ -6,7 +6,7 @@ use Rattle.dsn_outcome.specs.Letter.{Letter, most_counted}
 use Rattle.dsn_text.specs.declared.key.Key.{Key}
 use Rattle.dsn_notes.specs.Notes.{key_words, open_line}
 
--- a count as a line says it: its end, 18,446,744,073,709,551,615, stands for so many or more
+-- the number that a line prints for a count: 18,446,744,073,709,551,615 means that number or more
 abbrev pub told : ℕ → ℕ
 told count = min count most_counted
 
@@ -14,11 +14,11 @@ told count = min count most_counted
 unfoldable pub closed_line : Key → List ℕ
 closed_line key = codes "closed " ++ key_words key ++ codes "\n"
 
--- which letter no mark counts
+-- the first part of the line of a letter that no mark counts: its key
 unfoldable pub unmarked_key : Letter → List ℕ
 unmarked_key letter = codes "unmarked " ++ key_words letter.key
 
--- how many outcomes it has, and its serial
+-- the rest of that line: how many outcomes the letter has, and its serial
 unfoldable pub unmarked_counts : Letter → List ℕ
 unmarked_counts letter =
     codes " " ++ decimal (told (length letter.outcomes)) ++ codes " " ++ decimal letter.serial
@@ -28,11 +28,11 @@ unmarked_counts letter =
 unfoldable pub unmarked_line : Letter → List ℕ
 unmarked_line letter = unmarked_key letter ++ unmarked_counts letter
 
--- the line of the mark: how many letters, those with the lowest serials, reached an outbox for good
+-- the line of the mark: how many letters, those with the lowest serials, reached a synced outbox
 unfoldable pub marked_line : ℕ → List ℕ
 marked_line mark = codes "marked " ++ decimal mark ++ codes "\n"
 
--- the line of how many letters were sealed in all
+-- the line of the number of sealed letters
 unfoldable pub sealed_line : ℕ → List ℕ
 sealed_line sealed = codes "sealed " ++ decimal (told sealed) ++ codes "\n"
 

@@ -1,4 +1,4 @@
-//! The files of a journal's folder, opened over copies of their bytes.
+//! Opens copies of the files of a journal's folder.
 ghost use Rattle.std.specs.Prelude.{◌≡◌, IfErr, IfOk};
 ghost use Rattle.dsn_device.specs.Failures.{counted};
 ghost use Rattle.dsn_ledger.specs.inner.Failures.{has_disk_failed};
@@ -12,8 +12,8 @@ use dsn_journal::{Disk, Marks, MarksError};
 use dsn_ledger::{LedgerError, Opened, ledgers_have_one_history, open};
 use std::alloc::Global;
 
-/// The mark that the disk of marks says. The disk is only read: what an opening clears is cleared in
-/// a copy.
+/// Returns the mark in a disk of marks. The disk is only read: bytes that an opening clears are
+/// cleared in a copy.
 pub(crate) fn mark_of<M: Disk>(alloc: Global, marks: &mut M) -> Result<u64, MarksError>
     ensures mark { IfOk result (λ mark. HaveMark (M.seen marks.old) mark) }
     ensures refused { IfErr result (λ cause. AreMarksRefusedFor (M.seen marks.old) cause) }
@@ -28,8 +28,8 @@ pub(crate) fn mark_of<M: Disk>(alloc: Global, marks: &mut M) -> Result<u64, Mark
     }
 }
 
-/// The ledger of the disk of a journal, over a copy, and the letters that the mark doesn't count.
-/// The disk is only read.
+/// Opens the ledger of a copy of a journal's disk, and returns it with the letters that the mark
+/// doesn't count. The disk is only read.
 pub(crate) fn open_copy<D: Disk>(
     alloc: Global,
     limits: Limits,

@@ -1,4 +1,4 @@
-//! What a journal's folder holds, written in lines. Both files are only read: each is opened over a
+//! Lists the content of a journal's folder in lines. Both files are only read: each is opened in a
 //! copy in memory.
 #![tactic(auto)]
 

@@ -9,19 +9,19 @@ use dsn_outcome::NoMemory;
 use dsn_text::fault_code;
 use thiserror::Error;
 
-/// Why a journal's folder was not listed to its end.
+/// Why the listing of a journal's folder is not complete.
 #[derive(Clone, Copy, Debug, PartialEq, Eq, Error)]
 pub enum ListingFault {
-    /// Its marks could not be read, or are none.
+    /// The marks could not be read, or are not valid.
     #[error("{0}")]
     Marks(MarksError),
-    /// Its journal could not be read, or is none that goes with the marks.
+    /// The journal could not be read, is not valid, or doesn't belong to the marks.
     #[error("{0}")]
     Journal(LedgerError),
-    /// The memory for the list was refused.
+    /// There is no memory for the lists of logs and keys.
     #[error("no memory for the list")]
     NoMemory,
-    /// A line could not be written.
+    /// A line could not be written or flushed.
     #[error("a line could not be written")]
     NotWritten,
 }

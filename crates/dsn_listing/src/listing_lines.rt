@@ -18,8 +18,8 @@ use dsn_notes::write_open_lines;
 use dsn_outcome::{Key, Letter, ShortText};
 
 /// Writes all lines of a listing, and then flushes, once: those of these open logs and closed keys,
-/// of the letters that were opened with a ledger, and the last ones. Nothing is written once a line
-/// could not be written, and then it isn't flushed.
+/// of the letters of `opened`, and the last ones. After a line that could not be written, nothing
+/// more is written, and nothing is flushed. Returns `NotWritten` then, or if the flush fails.
 pub(crate) fn write_listing<N: Drain>(
     lines: &mut N,
     opened: &Opened<CopiedDisk>,
@@ -72,7 +72,7 @@ fn write_unmarked_line<N: Drain>(lines: &mut N, writing: &mut UntilFailure, lett
     writing.write(lines, unmarked_counts(letter).bytes());
 }
 
-/// Writes the last lines: the mark, how many letters were sealed in all, and the bytes.
+/// Writes the last lines: the mark, how many letters were sealed, and the bytes.
 fn write_counts<N: Drain>(
     lines: &mut N,
     writing: &mut UntilFailure,
@@ -88,14 +88,14 @@ fn write_counts<N: Drain>(
     writing.write(lines, bytes_in(ledger).bytes());
 }
 
-/// The line of how many letters a ledger and its base have sealed.
+/// Returns the line of the number of sealed letters, with those that the base counts.
 fn sealed_in(ledger: &Ledger<CopiedDisk>) -> ShortText
     ensures { result ≡ sealed_line (ledger.now.base + ledger.now.book.sealed) }
 {
     sealed_line(ledger.base(), ledger.book().sealed())
 }
 
-/// The line of the bytes of a ledger's records, and of its file.
+/// Returns the line of the bytes of a ledger's records, and of its file.
 fn bytes_in(ledger: &Ledger<CopiedDisk>) -> ShortText
     ensures { result ≡ bytes_line ledger.now.journal.used
         (length (copied_seen ledger.now.journal.disk)) }

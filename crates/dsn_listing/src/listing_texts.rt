@@ -1,4 +1,4 @@
-//! What is told of a journal's folder, line by line.
+//! The texts of the lines of a listing.
 #![tactic(auto, unfolding(dsn_notes::specs::Notes::key_words, crate::specs::ListingLines::closed_line, crate::specs::ListingLines::unmarked_key, crate::specs::ListingLines::unmarked_counts, crate::specs::ListingLines::marked_line, crate::specs::ListingLines::sealed_line, crate::specs::ListingLines::bytes_line))]
 
 ghost use Rattle.std.specs.Prelude.{◌≡◌, ◌+◌, ◌++◌, length};
@@ -7,7 +7,7 @@ ghost use Rattle.dsn_listing.specs.ListingLines.{closed_line, unmarked_key, unma
 use dsn_notes::push_key;
 use dsn_outcome::{Key, Letter, ShortText};
 
-/// The line of a closed key.
+/// Returns the line of a closed key.
 pub(crate) fn closed_line(key: &Key) -> ShortText
     ensures { result ≡ closed_line key.now }
 {
@@ -18,8 +18,8 @@ pub(crate) fn closed_line(key: &Key) -> ShortText
     line
 }
 
-/// The front of the line of a letter that no mark counts: its key. The whole line may be longer
-/// than a short text.
+/// Returns the first part of the line of a letter that no mark counts, up to its key. The line is
+/// in two parts since it may be longer than a short text.
 pub(crate) fn unmarked_key(letter: &Letter) -> ShortText
     ensures { result ≡ unmarked_key letter.now }
 {
@@ -29,7 +29,7 @@ pub(crate) fn unmarked_key(letter: &Letter) -> ShortText
     line
 }
 
-/// The rest of that line: how many outcomes the letter has, and its serial.
+/// Returns the rest of that line: how many outcomes the letter has, and its serial.
 pub(crate) fn unmarked_counts(letter: &Letter) -> ShortText
     ensures { result ≡ unmarked_counts letter.now }
 {
@@ -42,7 +42,7 @@ pub(crate) fn unmarked_counts(letter: &Letter) -> ShortText
     line
 }
 
-/// How many outcomes a letter has; `u64::MAX` stands for so many or more.
+/// Returns how many outcomes a letter has. `u64::MAX` means that number or more.
 fn count_outcomes(letter: &Letter) -> u64
     ensures { result ≡ told (length letter.now.outcomes) }
 {
@@ -53,7 +53,7 @@ fn count_outcomes(letter: &Letter) -> u64
     count
 }
 
-/// The line of the mark.
+/// Returns the line of the mark.
 pub(crate) fn marked_line(mark: u64) -> ShortText
     ensures { result ≡ marked_line mark }
 {
@@ -64,7 +64,7 @@ pub(crate) fn marked_line(mark: u64) -> ShortText
     line
 }
 
-/// The line of how many letters were sealed in all: those of the base, and those of the book.
+/// Returns the line of the number of sealed letters: those of the base, and those of the book.
 pub(crate) fn sealed_line(base: u64, sealed: u64) -> ShortText
     ensures { result ≡ sealed_line (base + sealed) }
 {
@@ -75,7 +75,7 @@ pub(crate) fn sealed_line(base: u64, sealed: u64) -> ShortText
     line
 }
 
-/// The line of how many bytes the records take, and how many the file has.
+/// Returns the line of the bytes that the records take, and of the bytes of the file.
 pub(crate) fn bytes_line(used: usize, size: usize) -> ShortText
     ensures { result ≡ bytes_line used size }
 {

@@ -9,12 +9,12 @@ use Rattle.dsn_outcome.specs.History.{Limits, Exchange, sealed_letters}
 use Rattle.dsn_listing.specs.declared.copied_disk.CopiedDisk.{CopiedDisk}
 use Rattle.dsn_ledger.specs.JournalFolder.{HasHistory}
 
--- what is read of a copy
+-- the bytes that a read of a copy returns
 abbrev pub copied_seen : CopiedDisk → List ℕ
 copied_seen copy = copy.bytes.items
 
--- what was opened over a copy of a journal: the journal's base, a book that stands for its history,
--- the letters that the mark doesn't count, and the bytes that its records and the file have
+-- an opened copy of a journal: it has the journal's base, a book that models its history, and the letters that the mark
+-- doesn't count. The lengths of its records and of its file are those of the journal, with the header of a new one
 pub record IsOpenedCopy (limits : Limits) (mark : ℕ) (journal : List ℕ)
     (opened : Opened CopiedDisk) : Type 0 where
   pub history : List Exchange

@@ -1,4 +1,4 @@
--- So many outcomes were counted, and the others are left.
+-- The count is that of the outcomes so far, and the others are left.
 use Rattle.std.proofs.Common.{◌≡◌, ◌+◌, ℕ, length}
 use Rattle.dsn_outcome.specs.Outcomes.{outcomes_left}
 use Rattle.dsn_listing.specs.ListingLines.{told}

@@ -1,4 +1,4 @@
--- Notes: the lines of answers, one line more.
+-- The lines of answers, with one more line.
 use Rattle.std.proofs.Common.{◌≡◌, ℕ, suc, ◌+◌, List, [], ◌∷◌, ◌++◌, length, append_assoc, arith}
 use Rattle.std.proofs.lemmas.List.{append-nil}
 use Rattle.dsn_notes.specs.Notes.{answer_line, answer_lines_from}

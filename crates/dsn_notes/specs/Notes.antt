@@ -1,4 +1,4 @@
--- Notes: what is said of a run in lines of text, each ended by LF alone (this project's profile).
+-- Notes: the lines of text about a run, each ended by LF alone (this project's profile).
 use Rattle.std.specs.Prelude.{ℕ, suc, Bool, true, false, List, [], ◌∷◌, ◌++◌, codes, decimal, Option, Some, None}
 use Rattle.std.specs.List.{flat_map}
 use Rattle.dsn_text.specs.FaultCode.{no_memory_code, outbox_write_code}
@@ -26,16 +26,16 @@ reply_words Forgotten = codes "forgotten"
 reply_words NotClosed = codes "not closed"
 reply_words (Differs count) = codes "differs " ++ decimal count
 
--- an answer in words; a serial isn't said
+-- an answer in words, without its serial
 unfoldable pub spoken_words : Spoken → List ℕ
 spoken_words (spoken.Reply replied) = reply_words replied.reply
 spoken_words (spoken.Refused code) = codes "refused " ++ decimal code
 
--- the line of an answer: the frame's place in the input, and what it was answered
+-- the line of an answer: the frame's position in the input, and the words of its answer
 unfoldable pub answer_line : ℕ → Spoken → List ℕ
 answer_line position answer = decimal position ++ codes " " ++ spoken_words answer ++ codes "\n"
 
--- the lines of answers to frames from this place on
+-- the lines of answers to consecutive frames from this position on
 unfoldable pub answer_lines_from : ℕ → List Spoken → List ℕ
 answer_lines_from position [] = []
 answer_lines_from position (answer ∷ rest) =
@@ -45,7 +45,7 @@ answer_lines_from position (answer ∷ rest) =
 unfoldable pub fault_line : ℕ → List ℕ
 fault_line code = codes "fault " ++ decimal code ++ codes "\n"
 
--- a log's service and message
+-- the words of a key: its service's letter and its queue id
 unfoldable pub key_words : Key → List ℕ
 key_words key = (service_letter key.service ∷ codes " ") ++ key.id
 
@@ -58,12 +58,12 @@ unfoldable pub open_line : OpenLine → List ℕ
 open_line line =
     codes "open " ++ key_words line.key ++ codes " " ++ decimal line.count ++ codes "\n"
 
--- the line of a fault, where there is one
+-- the line of a fault, if there is one
 unfoldable pub fault_lines : Option ℕ → List ℕ
 fault_lines None = []
 fault_lines (Some code) = fault_line code
 
--- the line of an outbox that failed
+-- the line of the fault of the outbox, unless the outbox is whole
 unfoldable pub outbox_lines : Bool → List ℕ
 outbox_lines true = []
 outbox_lines false = fault_line outbox_write_code
@@ -71,13 +71,13 @@ outbox_lines false = fault_line outbox_write_code
 unfoldable pub unsent_lines : List Letter → List ℕ
 unsent_lines letters = flat_map unsent_line letters
 
--- the lines of the open logs, or of the want of memory to list them
+-- the lines of the open logs, or the fault if there was no memory to list them
 unfoldable pub open_lines : Option (List OpenLine) → List ℕ
 open_lines None = fault_line no_memory_code
 open_lines (Some lines) = flat_map open_line lines
 
--- how a run ended: the fault of the reading, an outbox that failed, the letters that were not
--- written, the open logs
+-- the last lines of a run: the fault of the reading, the fault of the outbox, the letters that were not written, and
+-- the open logs
 unfoldable pub end_lines : Option ℕ → Bool → List Letter → Option (List OpenLine) → List ℕ
 end_lines fault whole unsent logs =
     fault_lines fault ++ (outbox_lines whole ++ (unsent_lines unsent ++ open_lines logs))

@@ -1,4 +1,5 @@
 //! The last lines of the notes.
+//! Implements docs/FORMATS.md, "Notes".
 ghost use Rattle.std.specs.Prelude.{◌≡◌, ◌++◌, ◌||◌, not, is_some, if◌then◌else◌};
 ghost use Rattle.std.specs.Result.{result_ok};
 ghost use Rattle.std.specs.Option.{option_map};
@@ -12,9 +13,9 @@ use dsn_device::{Drain, UntilFailure};
 use dsn_outcome::{Letters, NoMemory};
 use dsn_text::fault_code;
 
-/// Writes how a run ended: the fault of the reading, an outbox that failed, the letters that were
-/// not written, and the logs that are still open. The letters come back. Nothing is written once a
-/// line could not be written.
+/// Writes the last lines of a run: the fault of the reading, the fault of the outbox, the letters
+/// that were not written, and the open logs. Returns the letters. After a line that could not be
+/// written nothing more is written.
 pub fn write_last_lines<N: Drain>(
     notes: &mut N,
     writing: &mut UntilFailure,
@@ -35,12 +36,12 @@ pub fn write_last_lines<N: Drain>(
     unsent
 }
 
-/// Returns the exit status: 1 if a line of the notes was lost, if there was a fault, if the outbox isn't whole,
-/// or if the open logs could not be listed.
+/// Returns the exit status. It is 1 if a line of the notes was lost, if there was a fault, if the
+/// outbox isn't whole, or if the open logs could not be listed. Otherwise it is 0.
 pub fn status_of(lost: bool, fault: Option<u32>, whole: bool, listed: bool) -> u8
     ensures { result ≡ (if lost || (is_some fault || (not whole || not listed)) then 1 else 0) }
 {
-    // A refused body is no fault: it was answered.
+    // A refused body isn't a fault: it was answered.
     if lost || fault.is_some() || !whole || !listed {
         1
     } else {
@@ -96,7 +97,8 @@ fn write_open<N: Drain>(
     }
 }
 
-/// Writes the line of each open log. Nothing is written once a line could not be written.
+/// Writes the line of each open log. After a line that could not be written nothing more is
+/// written.
 pub fn write_open_lines<N: Drain>(notes: &mut N, writing: &mut UntilFailure, lines: &[OpenLine])
     ensures { WritesUntilFailure N.Drain writing.old.failed writing.new.failed notes.old notes.new
         (flat_map open_line lines.now) }

@@ -1,4 +1,4 @@
-//! The notes of a run: what is said of it, line by line, and the lines of its end.
+//! The notes of a run: the texts of their lines, and the lines at the end of the run.
 #![tactic(auto)]
 
 mod last_lines;

@@ -1,4 +1,5 @@
-//! What is said of a run, line by line.
+//! The texts of the lines of the notes.
+//! Implements docs/FORMATS.md, "Notes".
 #![tactic(auto, unfolding(crate::specs::Notes::answer_line, crate::specs::Notes::fault_line, crate::specs::Notes::unsent_line, crate::specs::Notes::key_words, crate::specs::Notes::open_line, crate::specs::Notes::reply_words, crate::specs::Notes::spoken_words))]
 
 ghost use Rattle.std.specs.Prelude.{◌≡◌, ◌+◌, ◌≤◌, ◌++◌, length, decimal};
@@ -10,7 +11,7 @@ use dsn_book::OpenLine;
 use dsn_frame::Spoken;
 use dsn_outcome::{Key, Letter, Reply, ShortText};
 
-/// The line of an answer.
+/// Returns the line of an answer to the frame at a position of the input.
 #[inline(always)]
 pub fn answer_line(position: u32, answer: Spoken) -> ShortText
     ensures { result ≡ answer_line position answer }
@@ -23,7 +24,7 @@ pub fn answer_line(position: u32, answer: Spoken) -> ShortText
     line
 }
 
-/// The line of a fault.
+/// Returns the line of a fault.
 pub fn fault_line(code: u32) -> ShortText
     ensures { result ≡ fault_line code }
 {
@@ -34,7 +35,7 @@ pub fn fault_line(code: u32) -> ShortText
     line
 }
 
-/// The line of a letter that was not written.
+/// Returns the line of a letter that was not written.
 pub fn unsent_line(letter: &Letter) -> ShortText
     ensures { result ≡ unsent_line letter.now }
 {
@@ -45,7 +46,7 @@ pub fn unsent_line(letter: &Letter) -> ShortText
     line
 }
 
-/// The line of a log that is still open.
+/// Returns the line of an open log.
 pub(crate) fn open_line(log: &OpenLine) -> ShortText
     ensures { result ≡ open_line log.now }
 {
@@ -58,7 +59,8 @@ pub(crate) fn open_line(log: &OpenLine) -> ShortText
     line
 }
 
-/// Adds a log's service and message to a line. Requires that at most ten bytes are before them.
+/// Adds a key to a line: its service's letter, a space, and its queue id. Requires that the line
+/// has at most ten bytes.
 pub fn push_key(line: &mut ShortText, key: &Key)
     requires { length line.old ≤ longest_key_start }
     ensures pushed { line.new ≡ line.old ++ key_words key.now }

@@ -1,14 +1,14 @@
--- How long a reply is in a line, and where it may begin.
+-- The length of a reply in a line, and its last possible place.
 use Rattle.std.specs.Prelude.{ℕ}
 
--- how many bytes stand before a reply in its line at most: 20 digits of a place, and a space
+-- the maximal number of bytes before a reply in its line: 20 digits of a position, and a space
 abbrev pub longest_place : ℕ
 longest_place = 21
 
--- how many bytes stand before the number of a reply at most
+-- the maximal number of bytes of a reply before its number
 abbrev pub longest_counted : ℕ
 longest_counted = 10
 
--- how many bytes a reply in words has at most: those before its number, and 20 digits
+-- the maximal number of bytes of a reply in words: those before its number, and 20 digits
 abbrev pub longest_reply : ℕ
 longest_reply = 30

@@ -1,4 +1,4 @@
--- What the calls of a disk in memory do, in the words of a disk's calls.
+-- The calls of a disk in memory satisfy the contracts of a disk's calls.
 use Rattle.std.proofs.Common.{◌≡◌, inl, inr, ℕ, zero, suc, ◌<◌, List, [], ◌∷◌, ◌++◌, length, Vec, refl, sym, ◌∙◌, ap, subst, get_or, arith}
 use Rattle.std.proofs.Math.ListN.{set}
 use Rattle.std.specs.declared.alloc.Global.{Global}
@@ -10,17 +10,17 @@ use Rattle.dsn_fakes.specs.declared.memory_disk.MemoryDisk.{MemoryDisk}
 use Rattle.dsn_journal.proofs.Mixing.{whole_written}
 use Rattle.dsn_fakes.proofs.OneCallMore.{Now, Since, length-seen, seen_write, seen_sync, seen_replace, left_write, left_sync, left_replace, did_nothing, elapses_none, elapses_push}
 
--- what holds of the bytes at first and of the calls that follow them holds of a disk that has these
+-- a property of the first bytes and the calls holds for a disk that has them
 moves : (P : List ℕ → List Call → Type 0) (old new : MemoryDisk) (calls : List Call) → new.first ≡ old.first → new.calls.items ≡ calls → P old.first.items calls → P new.first.items new.calls.items
 moves P old new calls first same has =
     subst (λ (v : Vec ℕ Global). P v.items new.calls.items) (sym first) (subst (λ (l : List Call). P old.first.items l) (sym same) has)
 
--- a disk that began with the same bytes has as many
+-- a disk with the same first bytes has the same length
 pub same_size : (old new : MemoryDisk) → new.first ≡ old.first → length (memory_seen new) ≡ length (memory_seen old)
 same_size old new first =
     length-seen new.calls.items new.first.items ∙ ap (λ (v : Vec ℕ Global). length v.items) first ∙ sym (length-seen old.calls.items old.first.items)
 
--- of a call that did nothing
+-- a call that did nothing
 module _ (old new : MemoryDisk) (first : new.first ≡ old.first) (same : new.calls.items ≡ old.calls.items) where
   pub none_elapses : Elapses (memory_moment old) (memory_moment new) (LeftSince old) (LeftSince new) (LeftNow new)
   none_elapses = moves (λ f l. Elapses (memory_moment old) (length l) (LeftSince old) (Since f l) (Now f l)) old new old.calls.items first same (elapses_none old.first.items old.calls.items)
@@ -37,7 +37,7 @@ module _ (old new : MemoryDisk) (first : new.first ≡ old.first) (same : new.ca
   pub none_seen : memory_seen new ≡ memory_seen old
   none_seen = moves (λ f l. seen_after l f ≡ memory_seen old) old new old.calls.items first same refl
 
--- of a call that is kept
+-- a call that was recorded
 module _ (old new : MemoryDisk) (call : Call) (first : new.first ≡ old.first) (more : new.calls.items ≡ old.calls.items ++ call ∷ []) where
   pub call_elapses : Elapses (memory_moment old) (memory_moment new) (LeftSince old) (LeftSince new) (LeftNow new)
   call_elapses =
@@ -79,7 +79,7 @@ module _ (old new : MemoryDisk) (bytes : Vec ℕ Global) (first : new.first ≡ 
   pub replace_these : OldOrThese bytes.items (LeftNow old) (LeftNow new)
   replace_these left is = inr (replace_only left is)
 
--- one byte more that is written
+-- one more byte is written
 pub mixes_set : (old written mixed : List ℕ) (i : ℕ) → Mixes old written mixed → i < length mixed → Mixes old written (set mixed i (get_or written i 0))
 mixes_set old written [] i is lt = absurd (omega arith)
 mixes_set [] [] (c ∷ mixed) i is lt = absurd is

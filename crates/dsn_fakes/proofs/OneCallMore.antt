@@ -1,4 +1,4 @@
--- One call more on a disk in memory.
+-- The effect of one more call on a disk in memory.
 use Rattle.std.proofs.Common.{◌≡◌, inl, inr, ℕ, ◌+◌, ◌≤◌, List, [], ◌∷◌, ◌++◌, length, take, Vec, refl, ap, sym, ◌∙◌, subst, arith, length-append}
 use Rattle.std.proofs.lemmas.Bool.{cases_lt}
 use Rattle.std.proofs.lemmas.List.{take_all, take-append-le}
@@ -77,11 +77,11 @@ replace_leaves (Write before more ∷ calls) file P bytes left is =
 replace_leaves (Sync ∷ calls) file P bytes left is = replace_leaves calls file (λ new. new ≡ file) bytes left is
 replace_leaves (Replace more ∷ calls) file P bytes left is = replace_leaves calls (written_over file 0 more.items) (λ new. new ≡ written_over file 0 more.items) bytes left is
 
--- a write that did nothing
+-- a torn write of which no byte was written
 pub did_nothing : (at : ℕ) (bytes left : List ℕ) → Torn at bytes left left
 did_nothing at bytes left = untouched left (written_over left at bytes) (length-over left at bytes)
 
--- what was read and left after some calls, and then more
+-- what a read returns and a crash leaves after some calls, and then more
 pub seen_more : (calls more : List Call) (file : List ℕ) → seen_after (calls ++ more) file ≡ seen_after more (seen_after calls file)
 seen_more [] more file = refl
 seen_more (Write at bytes ∷ calls) more file = seen_more calls more (written_over file at bytes.items)

@@ -1,13 +1,13 @@
-//! Outboxes as a mail program gets them, written out from the profile. `tests/examples.py` compares
-//! them with those of `examples/`.
+//! Outboxes as a mail program gets them, written out from docs/FORMATS.md. `tests/examples.py`
+//! compares them with those of `examples/`.
 
-/// The outbox of a run that sealed no log.
+/// The outbox of a run that made no notice.
 pub const EMPTY: &[u8] = b"\
 EHLO mx.example.net\r\n\
 QUIT\r\n\
 ";
 
-/// One failed recipient of the message A1B2C3.
+/// The outbox with one notice: a failed recipient of the message A1B2C3.
 pub const ONE_NOTICE: &[u8] = b"\
 EHLO mx.example.net\r\n\
 MAIL FROM:<>\r\n\

@@ -1,11 +1,11 @@
-//! Readers and writers that take and give bytes in pieces, and fail once. No contract exposes their
-//! bytes: tests compare these.
+//! Readers and writers that take and return bytes in pieces, and fail once. No contract exposes
+//! their bytes: tests compare these.
 use dsn_device::OpaqueStream;
 use std::io;
 use std::io::{ErrorKind, Read, Write};
 
-/// A reader over bytes in memory. A call gives at most `most` bytes, but at least one. After `good`
-/// calls one is interrupted, and from then on the reader works again.
+/// A reader over bytes in memory. A call returns at most `most` bytes; 0 counts as 1. The call
+/// after the first `good` calls is interrupted, and from then on the reader works again.
 #[derive(Drop)]
 pub struct PieceReader<'a> {
     pub rest: &'a [u8],
@@ -25,9 +25,9 @@ impl Read for PieceReader<'_> {
     }
 }
 
-/// A writer into memory. A call takes at most `most` bytes. Once it has taken `room` bytes, a write
-/// or a flush is interrupted, and from then on the writer works again. If `most` is 0, a write takes
-/// nothing and returns 0.
+/// A writer into memory. A call takes at most `most` bytes; if `most` is 0, it takes nothing and
+/// returns 0. Once it has taken `room` bytes, the next write or flush is interrupted, and from then
+/// on the writer works again.
 #[derive(Drop)]
 pub struct PieceWriter {
     pub held: Vec<u8>,

@@ -1,4 +1,4 @@
--- What is read after the calls so far, and what a crash leaves after them.
+-- What a read returns after the calls so far, and what a crash leaves after them.
 use Rattle.std.proofs.Common.{◌≡◌, take}
 use Rattle.dsn_fakes.specs.MemoryDisk.{seen_after, LeftAfter}
 use Rattle.dsn_fakes.proofs.memory_disk.leave_all.Given as goal

@@ -1,4 +1,4 @@
--- Each byte so far is one or the other.
+-- Each byte is the old or the written one.
 use Rattle.dsn_journal.specs.Disk.{Mixes}
 use Rattle.dsn_fakes.proofs.memory_disk.tear.Given as goal
 

@@ -178,6 +178,20 @@ run_letters keeper before old new sink after result run none no_sent =
       took.1,
     )
 
+-- a collector has failed since a lane was lost, or as its keeper refused a request
+abbrev pub IsStopCause : {B : Type 0} → Desk B → CrewCause → Type 0
+IsStopCause desk cause = ((cause ≡ causes.Lost) × (desk.unkept ≡ None)) ⊎ ((why : NotKept) × (cause ≡ causes.Unkept why) × (desk.unkept ≡ Some why))
+
+stopped_for : {B : Type 0} (keeper : Keeper B) (desk : Desk B) (breach : Breach) → IsStopped keeper desk breach → IsStopCause desk (cause_of breach)
+stopped_for keeper desk (breaches.AgentGone gone) is = inl (refl, is)
+stopped_for keeper desk (breaches.HandedBack back) is = inl (refl, is)
+stopped_for keeper desk breaches.Full is = inl (refl, is.0)
+stopped_for keeper desk (breaches.Unkept why) is = inr (why, refl, is.unkept)
+stopped_for keeper desk (breaches.CollectorGone gone) is = absurd is
+stopped_for keeper desk (breaches.Unheard unheard) is = absurd is
+stopped_for keeper desk breaches.Refused is = absurd is
+stopped_for keeper desk breaches.PortCount is = absurd is
+
 module _ {B W : Type 0} (keeper : Keeper B) (drain : Drain W) (from : PostedBefore W) (poster : Outgoing W) (by : IsPostedBy drain from poster) (sent : List Letter) (posted : Posted W) (is : IsPosted drain poster 16 sent posted) (desk : Desk B) (kept : IsDesk keeper desk) (agents : ℕ) (lines : length desk.answers ≡ agents) where
   -- what is left of a run in which these letters were sealed
   abbrev broken_off : (cause : CrewCause) (book : B) (held : List Letter) → length held ≤ 1 → (sealed : List Letter) → sealed ≡ sent ++ held → IsBrokenOff drain from sealed agents (fault_of cause held book desk posted)
@@ -200,19 +214,15 @@ module _ {B W : Type 0} (keeper : Keeper B) (drain : Drain W) (from : PostedBefo
   }
 
   -- a collector that failed, for this reason
-  stopped_is : (breach : Breach) (book : B) (held : Option Letter) → IsStopped keeper desk breach → IsFaultWith drain from (sent ++ letters_in held) agents (fault_of (cause_of breach) (letters_in held) book desk posted) (cause_of breach)
-  stopped_is (breaches.AgentGone gone) book held is = broken_off causes.Lost book (letters_in held) (option_few held) (sent ++ letters_in held) refl
-  stopped_is (breaches.HandedBack back) book held is = broken_off causes.Lost book (letters_in held) (option_few held) (sent ++ letters_in held) refl
-  stopped_is breaches.Full book held is = broken_off causes.Lost book (letters_in held) (option_few held) (sent ++ letters_in held) refl
-  stopped_is (breaches.Unkept why) book held is = broken_off (causes.Unkept why) book (letters_in held) (option_few held) (sent ++ letters_in held) refl
-  stopped_is (breaches.CollectorGone gone) book held is = absurd is
-  stopped_is (breaches.Unheard unheard) book held is = absurd is
-  stopped_is breaches.Refused book held is = absurd is
-  stopped_is breaches.PortCount book held is = absurd is
+  stopped_is : (cause : CrewCause) (book : B) (held : Option Letter) → IsStopCause desk cause → IsFaultWith drain from (sent ++ letters_in held) agents (fault_of cause (letters_in held) book desk posted) cause
+  stopped_is cause book held (inl lost) =
+      subst (λ (it : CrewCause). IsFaultWith drain from (sent ++ letters_in held) agents (fault_of it (letters_in held) book desk posted) it) (sym lost.0) (broken_off causes.Lost book (letters_in held) (option_few held) (sent ++ letters_in held) refl)
+  stopped_is cause book held (inr unkept) =
+      subst (λ (it : CrewCause). IsFaultWith drain from (sent ++ letters_in held) agents (fault_of it (letters_in held) book desk posted) it) (sym unkept.1) (broken_off (causes.Unkept unkept.0) book (letters_in held) (option_few held) (sent ++ letters_in held) refl)
 
   pub failed_fault : (fault : CrewFault W B) (breach : Breach) (book : B) (held : Option Letter) → IsStopped keeper desk breach → fault ≡ fault_of (cause_of breach) (letters_in held) book desk posted → IsFaultWith drain from (sent ++ letters_in held) agents fault fault.cause
   failed_fault fault breach book held is fault_is =
-      subst (λ (it : CrewFault W B). IsFaultWith drain from (sent ++ letters_in held) agents it it.cause) (sym fault_is) (stopped_is breach book held is)
+      subst (λ (it : CrewFault W B). IsFaultWith drain from (sent ++ letters_in held) agents it it.cause) (sym fault_is) (stopped_is (cause_of breach) book held (stopped_for keeper desk breach is))
 
   -- a collector that ended well, in a run that was broken off
   broken_is : (cause : CrewCause) → (cause ≡ causes.Lost) ⊎ ((cause ≡ causes.Refused) × (posted.lost ≡ None)) → desk.behind ≡ [] → IsFaultWith drain from sent agents (fault_of cause [] desk.book desk posted) cause
@@ -345,31 +355,25 @@ book_left drain host limits of_book agents start (Err fault) same has =
 abbrev pub IsBrokenFor : {B W : Type 0} → Desk B → Posted W → CrewFault W B → CrewCause → Type 0
 IsBrokenFor desk posted fault cause = (fault ≡ fault_of cause [] desk.book desk posted) × ((cause ≡ causes.Lost) ⊎ ((cause ≡ causes.Refused) × (posted.lost ≡ None)))
 
-cause_found : (ends : List (Option PortEnd)) (lost : Option LaneGone) (breach : Breach) → IsGathered ends (Err breach) → (broken_cause lost breach ≡ causes.Lost) ⊎ ((broken_cause lost breach ≡ causes.Refused) × (lost ≡ None))
-cause_found ends (Some gone) breach is = inl refl
-cause_found ends None (breaches.Unheard unheard) is = inl refl
-cause_found ends None breaches.Refused is = inr (refl, refl)
-cause_found ends None (breaches.AgentGone gone) is = absurd is
-cause_found ends None (breaches.CollectorGone gone) is = absurd is
-cause_found ends None (breaches.HandedBack back) is = absurd is
-cause_found ends None breaches.Full is = absurd is
-cause_found ends None (breaches.Unkept why) is = absurd is
-cause_found ends None breaches.PortCount is = absurd is
+-- what came of the agents shows it, whatever the collector came to
+gathered_for : {B : Type 0} (keeper : Keeper B) (ends : List (Option PortEnd)) (breach : Breach) → IsGathered ends (Err breach) → IsOfAgents keeper breach × ((cause_of breach ≡ causes.Lost) ⊎ (cause_of breach ≡ causes.Refused))
+gathered_for keeper ends (breaches.Unheard unheard) is = (λ desk. tt, inl refl)
+gathered_for keeper ends breaches.Refused is = (λ desk. tt, inr refl)
+gathered_for keeper ends (breaches.AgentGone gone) is = absurd is
+gathered_for keeper ends (breaches.CollectorGone gone) is = absurd is
+gathered_for keeper ends (breaches.HandedBack back) is = absurd is
+gathered_for keeper ends breaches.Full is = absurd is
+gathered_for keeper ends (breaches.Unkept why) is = absurd is
+gathered_for keeper ends breaches.PortCount is = absurd is
+
+cause_found : (lost : Option LaneGone) (breach : Breach) → (cause_of breach ≡ causes.Lost) ⊎ (cause_of breach ≡ causes.Refused) → (broken_cause lost breach ≡ causes.Lost) ⊎ ((broken_cause lost breach ≡ causes.Refused) × (lost ≡ None))
+cause_found (Some gone) breach why = inl refl
+cause_found None breach (inl lost) = inl lost
+cause_found None breach (inr refused) = inr (refused, refl)
 
 broken_for : {B W : Type 0} (keeper : Keeper B) (ends : List (Option PortEnd)) (desk : Desk B) (all : Result Gathered Breach) (posted : Posted W) (fault : CrewFault W B) → IsGathered ends all → Concludes keeper (Ok desk) all posted (Err fault) → (cause : CrewCause) × IsBrokenFor desk posted fault cause
 broken_for keeper ends desk (Ok gathered) posted fault is faulted = (causes.Lost, (faulted.1, inl refl))
-broken_for keeper ends desk (Err breach) posted fault is faulted = (broken_cause posted.lost breach, (faulted, cause_found ends posted.lost breach is))
-
--- what came of the agents shows it, whatever the collector came to
-of_agents : {B : Type 0} (keeper : Keeper B) (ends : List (Option PortEnd)) (breach : Breach) → IsGathered ends (Err breach) → IsOfAgents keeper breach
-of_agents keeper ends (breaches.Unheard unheard) is = λ desk. tt
-of_agents keeper ends breaches.Refused is = λ desk. tt
-of_agents keeper ends (breaches.AgentGone gone) is = absurd is
-of_agents keeper ends (breaches.CollectorGone gone) is = absurd is
-of_agents keeper ends (breaches.HandedBack back) is = absurd is
-of_agents keeper ends breaches.Full is = absurd is
-of_agents keeper ends (breaches.Unkept why) is = absurd is
-of_agents keeper ends breaches.PortCount is = absurd is
+broken_for keeper ends desk (Err breach) posted fault is faulted = (broken_cause posted.lost breach, (faulted, cause_found posted.lost breach (gathered_for keeper ends breach is).1))
 
 -- no crew that began is refused since its ports are too few or too many
 lost≢count : causes.Lost ≢ causes.PortCount
@@ -381,15 +385,9 @@ refused≢count same = let never : causes.Refused ≡ causes.PortCount = same in
 unkept≢count : (why : NotKept) → causes.Unkept why ≢ causes.PortCount
 unkept≢count why same = let never : causes.Unkept why ≡ causes.PortCount = same in cc
 
-stopped≢count : {B : Type 0} (keeper : Keeper B) (desk : Desk B) (breach : Breach) → IsStopped keeper desk breach → cause_of breach ≢ causes.PortCount
-stopped≢count keeper desk (breaches.AgentGone gone) is = lost≢count
-stopped≢count keeper desk (breaches.HandedBack back) is = lost≢count
-stopped≢count keeper desk breaches.Full is = lost≢count
-stopped≢count keeper desk (breaches.Unkept why) is = unkept≢count why
-stopped≢count keeper desk (breaches.CollectorGone gone) is = absurd is
-stopped≢count keeper desk (breaches.Unheard unheard) is = absurd is
-stopped≢count keeper desk breaches.Refused is = absurd is
-stopped≢count keeper desk breaches.PortCount is = absurd is
+stopped≢count : {B : Type 0} (desk : Desk B) (cause : CrewCause) → IsStopCause desk cause → cause ≢ causes.PortCount
+stopped≢count desk cause (inl lost) = λ same. lost≢count (sym lost.0 ∙ same)
+stopped≢count desk cause (inr unkept) = λ same. unkept≢count unkept.0 (sym unkept.1 ∙ same)
 
 broken≢count : {B W : Type 0} (desk : Desk B) (posted : Posted W) (fault : CrewFault W B) (cause : CrewCause) → IsBrokenFor desk posted fault cause → fault.cause ≢ causes.PortCount
 broken≢count desk posted fault cause (is, inl lost) = λ same. lost≢count (sym lost ∙ (sym (ap (λ (it : CrewFault _ _). it.cause) is) ∙ same))
@@ -398,21 +396,15 @@ broken≢count desk posted fault cause (is, inr refused) = λ same. refused≢co
 pub no_count : {B W : Type 0} (keeper : Keeper B) (ends : List (Option PortEnd)) (collected : Result (Desk B) (BrokenOff B)) (all : Result Gathered Breach) (posted : Posted W) (result : Result (Account W B) (CrewFault W B)) → MayClose keeper collected all → IsGathered ends all → Concludes keeper collected all posted result → IfErr result (λ fault. fault.cause ≢ causes.PortCount)
 no_count keeper ends collected all posted (Ok account) may is ends_so = tt
 no_count keeper ends (Ok new) all posted (Err fault) may is faulted = let why = broken_for keeper ends new all posted fault is faulted in broken≢count new posted fault why.0 why.1
-no_count keeper ends (Err broken) all posted (Err fault) may is faulted = λ same. stopped≢count keeper broken.desk.value broken.breach may (sym (ap (λ it. it.cause) faulted) ∙ same)
+no_count keeper ends (Err broken) all posted (Err fault) may is faulted = λ same. stopped≢count broken.desk.value (cause_of broken.breach) (stopped_for keeper broken.desk.value broken.breach may) (sym (ap (λ it. it.cause) faulted) ∙ same)
 
 -- ---- what is handed back
 
 module _ {B : Type 0} (keeper : Keeper B) (desk : Desk B) (exchanges : List Exchange) where
   -- if a collector has failed, for this reason
-  pub stopped_stands : (breach : Breach) → IsStopped keeper desk breach → StandsOrRefused keeper desk.unkept desk.behind exchanges desk.book → StandsAtFault keeper desk.behind exchanges (cause_of breach) desk.book
-  stopped_stands (breaches.AgentGone gone) is stands = subst (λ (u : Option NotKept). StandsOrRefused keeper u desk.behind exchanges desk.book) is stands
-  stopped_stands (breaches.HandedBack back) is stands = subst (λ (u : Option NotKept). StandsOrRefused keeper u desk.behind exchanges desk.book) is stands
-  stopped_stands breaches.Full is stands = subst (λ (u : Option NotKept). StandsOrRefused keeper u desk.behind exchanges desk.book) is.0 stands
-  stopped_stands (breaches.Unkept why) is stands = subst (λ (u : Option NotKept). StandsOrRefused keeper u desk.behind exchanges desk.book) is.unkept stands
-  stopped_stands (breaches.CollectorGone gone) is stands = absurd is
-  stopped_stands (breaches.Unheard unheard) is stands = absurd is
-  stopped_stands breaches.Refused is stands = absurd is
-  stopped_stands breaches.PortCount is stands = absurd is
+  pub stopped_stands : (cause : CrewCause) → IsStopCause desk cause → StandsOrRefused keeper desk.unkept desk.behind exchanges desk.book → StandsAtFault keeper desk.behind exchanges cause desk.book
+  stopped_stands cause (inl lost) stands = subst (λ (it : CrewCause). StandsAtFault keeper desk.behind exchanges it desk.book) (sym lost.0) (subst (λ (u : Option NotKept). StandsOrRefused keeper u desk.behind exchanges desk.book) lost.1 stands)
+  stopped_stands cause (inr unkept) stands = subst (λ (it : CrewCause). StandsAtFault keeper desk.behind exchanges it desk.book) (sym unkept.1) (subst (λ (u : Option NotKept). StandsOrRefused keeper u desk.behind exchanges desk.book) unkept.2 stands)
 
   -- and if it has not
   pub broken_stands : (cause : CrewCause) (Q : Type 0) → (cause ≡ causes.Lost) ⊎ ((cause ≡ causes.Refused) × Q) → keeper.has desk.book exchanges desk.behind → StandsAtFault keeper desk.behind exchanges cause desk.book
@@ -465,7 +457,7 @@ module _ {B P S : Type 0} (keeper : Keeper B) (port : Port P S) (book : B) (port
               ∙ (sym (ap places_of begun_is) ∙ sym has.0.places),
           has.1,
         )
-        may_close (Ok new) (Err breach) has is = of_agents keeper ends breach is
+        may_close (Ok new) (Err breach) has is = (gathered_for keeper ends breach is).0
         may_close (Err broken) all has is = has.4
 
         -- each request seals one letter at most
@@ -605,7 +597,7 @@ module _ {B P S : Type 0} (keeper : Keeper B) (port : Port P S) (book : B) (port
                   limits_are = kept.limits ∙ limited;
                   stands =
                       subst (λ (l : Limits). StandsAtFault keeper new.behind (history_after l before new.requests.taken) (cause_of breach) new.book) limited
-                      (stopped_stands keeper new (history keeper before new) breach stopped stands.has);
+                      (stopped_stands keeper new (history keeper before new) (cause_of breach) (stopped_for keeper new breach stopped) stands.has);
                 })
 
             fault_is : (collected : Result (Desk B) (BrokenOff B)) (all : Result Gathered Breach) (result : Result (Account W B) (CrewFault W B)) → IsCollected keeper before begun sink after collected → IsGathered ends all → Concludes keeper collected all posted result → IfErr result (HasFault keeper drain from limits before (length ports))

@@ -5,21 +5,17 @@ use Rattle.dsn_book.specs.declared.keeper.Keeper.{Ghosts as Keeper}
 use Rattle.dsn_crew.specs.desk.Desk.{Desk}
 use Rattle.dsn_crew.specs.inner.Desk.{IsStopped}
 use Rattle.dsn_crew.specs.declared.breach.Breach.{Breach}
-use Rattle.dsn_crew.specs.declared.breach.Breach.TheVariants.{AgentGone, CollectorGone, Unheard, HandedBack, Full, Unkept, Refused, PortCount}
+use Rattle.dsn_crew.specs.declared.breach.Breach.TheVariants.{CollectorGone, Unheard, Unkept, Refused, PortCount}
 use Rattle.dsn_crew.specs.declared.crew_cause.CrewCause.{CrewCause}
 use Rattle.dsn_crew.specs.declared.crew_cause.CrewCause.TheVariants as causes
 
 -- 41 is named only with what shows that a lane was lost, or else why the run was broken off, and 45
 -- only if the collector's keeper refused a request
 abbrev pub cause_of : Breach → CrewCause
-cause_of (AgentGone gone) = causes.Lost
-cause_of (CollectorGone gone) = causes.Lost
-cause_of (Unheard unheard) = causes.Lost
-cause_of (HandedBack back) = causes.Lost
-cause_of Full = causes.Lost
 cause_of (Unkept why) = causes.Unkept why
 cause_of Refused = causes.Refused
 cause_of PortCount = causes.PortCount
+cause_of breach = causes.Lost
 
 -- a run that had a collector, which has failed for this reason
 abbrev pub HasFailedBy : {B : Type 0} → Keeper B → Option (Snapshot (Desk B)) → Breach → Type 0
@@ -29,11 +25,8 @@ HasFailedBy keeper (Some desk) breach = IsStopped keeper desk.value breach
 -- of a run with this collector, if it had one: one whose collector is named as full took all that
 -- it may, and one in which a request was not kept had it refused by its keeper
 abbrev pub IsShown : {B : Type 0} → Keeper B → Option (Snapshot (Desk B)) → Breach → Type 0
-IsShown keeper desk (AgentGone gone) = HasFailedBy keeper desk (AgentGone gone)
 IsShown keeper desk (CollectorGone gone) = Unit {0}
 IsShown keeper desk (Unheard unheard) = Unit {0}
-IsShown keeper desk (HandedBack back) = HasFailedBy keeper desk (HandedBack back)
-IsShown keeper desk Full = HasFailedBy keeper desk Full
-IsShown keeper desk (Unkept why) = HasFailedBy keeper desk (Unkept why)
 IsShown keeper desk Refused = Unit {0}
 IsShown keeper desk PortCount = Unit {0}
+IsShown keeper desk breach = HasFailedBy keeper desk breach

@@ -2,7 +2,7 @@
 use Rattle.std.specs.Prelude.{ℕ, Bool, List, [], None, Option, Some, ◌≡◌, ◌≤◌, length, is_some, ◌+◌, ◌∷◌, ◌++◌, take, drop}
 use Rattle.dsn_book.specs.declared.keeper.Keeper.{Ghosts as Keeper}
 use Rattle.dsn_book.specs.declared.not_kept.NotKept.{NotKept}
-use Rattle.dsn_crew.specs.declared.breach.Breach.TheVariants.{AgentGone, CollectorGone, Unheard, HandedBack, Full, Unkept, Refused, PortCount}
+use Rattle.dsn_crew.specs.declared.breach.Breach.TheVariants.{AgentGone, HandedBack, Full, Unkept}
 use Rattle.dsn_crew.specs.declared.breach.Breach.{Breach}
 use Rattle.dsn_crew.specs.desk.Desk.{Desk}
 use Rattle.dsn_crew.specs.desk.Intake.{most_taken}
@@ -27,15 +27,8 @@ desk_of start book requests answers missed failed = record {
 
 -- why requests were not kept, where that is why a collector has failed
 abbrev pub unkept_of : Option Breach → Option NotKept
-unkept_of None = None
-unkept_of (Some (AgentGone gone)) = None
-unkept_of (Some (CollectorGone gone)) = None
-unkept_of (Some (Unheard unheard)) = None
-unkept_of (Some (HandedBack back)) = None
-unkept_of (Some Full) = None
 unkept_of (Some (Unkept why)) = Some why
-unkept_of (Some Refused) = None
-unkept_of (Some PortCount) = None
+unkept_of stop = None
 
 -- a collector whose keeper refused those behind for this reason
 pub record HasRefused {B : Type 0} (keeper : Keeper B) (desk : Desk B)
@@ -53,10 +46,7 @@ IsStopped keeper desk (HandedBack back) = desk.unkept ≡ None
 IsStopped keeper desk Full =
     (desk.unkept ≡ None) × (length desk.requests.taken ≡ most_taken)
 IsStopped keeper desk (Unkept why) = HasRefused keeper desk why
-IsStopped keeper desk (CollectorGone gone) = ⊥
-IsStopped keeper desk (Unheard unheard) = ⊥
-IsStopped keeper desk Refused = ⊥
-IsStopped keeper desk PortCount = ⊥
+IsStopped keeper desk breach = ⊥
 
 -- what holds nothing yet, and has room for a half of each agent
 abbrev pub HasRoom : List (Half Answer) → List (Half Request) → ℕ → Type 0

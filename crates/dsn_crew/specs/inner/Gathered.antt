@@ -4,7 +4,7 @@ use Rattle.std.specs.List.{list_any}
 use Rattle.dsn_crew.specs.agents.Agent.{LaneHalves}
 use Rattle.dsn_crew.specs.declared.agents.agent_line.AgentLine.{AgentLine}
 use Rattle.dsn_crew.specs.declared.breach.Breach.{Breach}
-use Rattle.dsn_crew.specs.declared.breach.Breach.TheVariants.{AgentGone, CollectorGone, Unheard, HandedBack, Full, Unkept, Refused, PortCount}
+use Rattle.dsn_crew.specs.declared.breach.Breach.TheVariants.{Unheard, Refused}
 use Rattle.dsn_crew.specs.declared.gathered.Gathered.{Gathered}
 use Rattle.dsn_crew.specs.inner.PortEnd.{PortEnd}
 
@@ -27,9 +27,4 @@ IsGathered ends (Ok gathered) = AreEnded ends gathered.lines.items gathered.agen
 IsGathered ends (Err (Unheard unheard)) = list_any has_port_lost ends ≡ true
 IsGathered ends (Err Refused) =
     (list_any is_none ends ≡ true) × (list_any has_port_lost ends ≡ false)
-IsGathered ends (Err (AgentGone gone)) = ⊥
-IsGathered ends (Err (CollectorGone gone)) = ⊥
-IsGathered ends (Err (HandedBack back)) = ⊥
-IsGathered ends (Err Full) = ⊥
-IsGathered ends (Err (Unkept why)) = ⊥
-IsGathered ends (Err PortCount) = ⊥
+IsGathered ends (Err breach) = ⊥

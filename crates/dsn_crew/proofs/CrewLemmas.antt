@@ -40,12 +40,12 @@ use Rattle.dsn_crew.specs.inner.BrokenOff.{IsCollected}
 use Rattle.dsn_crew.specs.inner.Conclude.{Concludes, IsOfAgents, MayClose, account_of, broken_cause, fault_of}
 use Rattle.dsn_crew.specs.Crew.{Account, AreAgentAccounts, AreSealedAfter, CrewFault, HasAccount, HasFault, IsAccount, IsAccountAfter, IsAgentAccount, IsBrokenOff, IsCrewFault, IsCrewRun, IsFaultWith, IsHandedBack, IsPostedBy, MayCrashWithin, PostedBefore, StandsAtFault, none_posted}
 use Rattle.dsn_crew.specs.KeeperHistory.{AreNextOf, BeginsWith, StandsOrRefused}
-use Rattle.dsn_crew.specs.desk.Desk.{Desk, IsDesk, IsRun, all_gone, history, letter_kept, missing as missing_more, places_of}
+use Rattle.dsn_crew.specs.desk.Desk.{Desk, IsDesk, IsRun, all_gone, history, letter_kept, missing as missing_more, agent_lanes_of}
 use Rattle.dsn_crew.specs.inner.Desk.{IsStopped}
 use Rattle.dsn_crew.specs.desk.Intake.{goodbyes}
 use Rattle.dsn_crew.specs.inner.Gathered.{AreEnded, IsGathered}
 use Rattle.dsn_crew.specs.desk.Open.{IsOpened, opened_agent}
-use Rattle.dsn_crew.specs.agents.Place.{place_at, place_of}
+use Rattle.dsn_crew.specs.agents.AgentLanes.{lanes_at, lanes_of}
 use Rattle.dsn_crew.specs.agents.Port.{AreOverPort, Conn, Given, HasGiven, Session, answers_of, bodies_of}
 use Rattle.dsn_crew.specs.inner.Agent.{IsPortServed}
 use Rattle.dsn_crew.specs.agents.Serve.{after_requests, answers_from, numbered_answer, numbered_from, numbered_request, requests_from}
@@ -82,8 +82,8 @@ module _ (limits : Limits) (lane : Identity Request) (half : Half Answer) (conns
   halves_are = is.goodbye.1 ∙ ap (λ (agent : Agent). after_reply agent.halves Bye (plain Gone)) is.served.asked.agent_is
 
   -- it has the place at which it was opened
-  pub same_place : place_of halves ≡ place_at lane half
-  same_place = ap place_of halves_are
+  pub same_place : lanes_of halves ≡ lanes_at lane half
+  same_place = ap lanes_of halves_are
 
   asked : line.requests ≡ length (bodies_of sessions)
   unfolding numbered_from
@@ -131,7 +131,7 @@ module _ {P S : Type 0} (port : Port P S) (limits : Limits) (lane : Identity Req
   Serve answers ports ends = AreServed port (map (opened_agent limits.requests lane) answers) ports ends
 
   -- they have the places at which they were opened
-  pub same_places : (answers : List (Half Answer)) (ports : List P) (ends : List (Option PortEnd)) (lines : List AgentLine) (crew : List LaneHalves) → Serve answers ports ends → AreEnded ends lines crew → map place_of crew ≡ map (place_at lane) answers
+  pub same_places : (answers : List (Half Answer)) (ports : List P) (ends : List (Option PortEnd)) (lines : List AgentLine) (crew : List LaneHalves) → Serve answers ports ends → AreEnded ends lines crew → map lanes_of crew ≡ map (lanes_at lane) answers
   same_places [] [] [] [] [] served ended = refl
   same_places [] [] [] [] (agent ∷ crew) served ended = absurd ended
   same_places [] [] [] (line ∷ lines) crew served ended = absurd ended
@@ -454,7 +454,7 @@ module _ {B P S : Type 0} (keeper : Keeper B) (port : Port P S) (book : B) (port
         pub may_close : (collected : Result (Desk B) (BrokenOff B)) (all : Result Gathered Breach) → IsCollected keeper before begun sink after collected → IsGathered ends all → MayClose keeper collected all
         may_close (Ok new) (Ok gathered) has is = (
           same_places port limits desk.requests.lane desk.answers ports ends gathered.lines.items gathered.agents.items served is
-              ∙ (sym (ap places_of begun_is) ∙ sym has.0.places),
+              ∙ (sym (ap agent_lanes_of begun_is) ∙ sym has.0.places),
           has.1,
         )
         may_close (Ok new) (Err breach) has is = (gathered_for keeper ends breach is).0
@@ -481,11 +481,11 @@ module _ {B P S : Type 0} (keeper : Keeper B) (port : Port P S) (book : B) (port
         left_few (Ok new) all posted (Err fault) has is faulted = few_of _ _ new new.book posted fault (broken_for keeper ends new all posted fault is faulted).1.0 refl (has.0.start ∙ start_is) has.2
         left_few (Err broken) all posted (Err fault) has is faulted = few_of _ _ broken.desk.value broken.book posted fault faulted has.5 (has.1.start ∙ start_is) has.3
 
-        lines_of : (new : Desk B) → places_of new ≡ places_of begun → length new.answers ≡ length ports
+        lines_of : (new : Desk B) → agent_lanes_of new ≡ agent_lanes_of begun → length new.answers ≡ length ports
         lines_of new places =
-            sym (length-map new.answers (place_at new.requests.lane))
-            ∙ (ap length (places ∙ ap places_of begun_is)
-            ∙ (length-map desk.answers (place_at desk.requests.lane) ∙ (opened.count ∙ count_is)))
+            sym (length-map new.answers (lanes_at new.requests.lane))
+            ∙ (ap length (places ∙ ap agent_lanes_of begun_is)
+            ∙ (length-map desk.answers (lanes_at desk.requests.lane) ∙ (opened.count ∙ count_is)))
 
         -- what a crash leaves at each moment of its run
         crash_of : (new : Desk B) → BeginsWith keeper book before → new.start ≡ book → IsDesk keeper new → MayCrash keeper book new.book limits before (new.requests.taken ++ new.behind)
@@ -502,7 +502,7 @@ module _ {B P S : Type 0} (keeper : Keeper B) (port : Port P S) (book : B) (port
         crash_at_end (Ok new) (Err breach) posted (Ok account) with_it has closed = absurd closed
         crash_at_end (Err broken) all posted (Ok account) with_it has closed = absurd closed
 
-        crash_left : {W : Type 0} (cause : CrewCause) (held : List Letter) (new : Desk B) (left : B) (posted : Posted W) (fault : CrewFault W B) → fault ≡ fault_of cause held left new posted → left ≡ new.book → BeginsWith keeper book before → places_of new ≡ places_of begun → new.start ≡ book → IsDesk keeper new
+        crash_left : {W : Type 0} (cause : CrewCause) (held : List Letter) (new : Desk B) (left : B) (posted : Posted W) (fault : CrewFault W B) → fault ≡ fault_of cause held left new posted → left ≡ new.book → BeginsWith keeper book before → agent_lanes_of new ≡ agent_lanes_of begun → new.start ≡ book → IsDesk keeper new
             → IfSome fault.book (MayCrashWithin keeper book limits before (length ports) fault.taken fault.behind)
         crash_left cause held new left posted fault fault_is left_is with_it places start_was kept =
             subst (λ (it : CrewFault _ B). IfSome it.book (MayCrashWithin keeper book limits before (length ports) it.taken it.behind)) (sym fault_is)

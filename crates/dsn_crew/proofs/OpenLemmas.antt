@@ -20,7 +20,7 @@ use Rattle.dsn_crew.specs.inner.Desk.{desk_seen}
 use Rattle.dsn_crew.specs.inner.Desk.{Intake}
 use Rattle.dsn_crew.specs.desk.Close.{AreCrew}
 use Rattle.dsn_crew.specs.desk.Open.{AreLines, IsLine, IsOpened, opened_agent}
-use Rattle.dsn_crew.specs.agents.Place.{place_at, place_of}
+use Rattle.dsn_crew.specs.agents.AgentLanes.{lanes_at, lanes_of}
 use Rattle.dsn_crew.proofs.desk.CrashLemmas.{LeavesKept, none_done}
 
 -- a collector that has taken nothing
@@ -102,7 +102,7 @@ length_halves lane first (suc more) = let rest = length_halves lane (suc first) 
 
 -- ---- an opened crew
 
-two_at : (limit : ℕ) (lane : Identity Request) (halves : List (Half Answer)) → length halves ≡ 2 → (first : Agent) × (second : Agent) × (map (opened_agent limit lane) halves ≡ first ∷ second ∷ []) × (place_of first.halves ∷ place_of second.halves ∷ [] ≡ map (place_at lane) halves)
+two_at : (limit : ℕ) (lane : Identity Request) (halves : List (Half Answer)) → length halves ≡ 2 → (first : Agent) × (second : Agent) × (map (opened_agent limit lane) halves ≡ first ∷ second ∷ []) × (lanes_of first.halves ∷ lanes_of second.halves ∷ [] ≡ map (lanes_at lane) halves)
 two_at limit lane [] count = absurd (omega arith)
 two_at limit lane (one ∷ []) count = absurd (omega arith)
 two_at limit lane (one ∷ other ∷ []) count = (opened_agent limit lane one, opened_agent limit lane other, refl, refl)

@@ -1,4 +1,4 @@
 pub mod Agent
-pub mod Place
+pub mod AgentLanes
 pub mod Port
 pub mod Serve

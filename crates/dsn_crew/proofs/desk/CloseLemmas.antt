@@ -17,7 +17,7 @@ use Rattle.dsn_crew.specs.agents.Agent.{LaneHalves, IsFinished}
 use Rattle.dsn_crew.specs.desk.Close.{AreCrew, AreOf, IsHeard}
 use Rattle.dsn_crew.specs.desk.Desk.{Desk, IsDesk, StandsAfter, all_gone, history}
 use Rattle.dsn_crew.specs.KeeperHistory.{IsEarlier}
-use Rattle.dsn_crew.specs.agents.Place.{Place, place_at, place_of}
+use Rattle.dsn_crew.specs.agents.AgentLanes.{AgentLanes, lanes_at, lanes_of}
 use Rattle.dsn_crew.proofs.desk.EarlierLemmas.{answered_as_asked}
 use Rattle.dsn_crew.proofs.desk.DeskLemmas.{first_half}
 
@@ -71,14 +71,14 @@ heard keeper before desk halves earlier small answered taken =
 -- ---- all agents, one after another
 
 -- an agent, and the half that answers it
-pub paired : (lane : Identity Request) (crew rest : List LaneHalves) (lines left : List (Half Answer)) (one : LaneHalves) (line : Half Answer) → map place_of crew ≡ map (place_at lane) lines → crew ≡ one ∷ rest → lines ≡ line ∷ left
-    → (place_of one ≡ place_at lane line) × (map place_of rest ≡ map (place_at lane) left)
+pub paired : (lane : Identity Request) (crew rest : List LaneHalves) (lines left : List (Half Answer)) (one : LaneHalves) (line : Half Answer) → map lanes_of crew ≡ map (lanes_at lane) lines → crew ≡ one ∷ rest → lines ≡ line ∷ left
+    → (lanes_of one ≡ lanes_at lane line) × (map lanes_of rest ≡ map (lanes_at lane) left)
 paired lane crew rest lines left one line same crew_is lines_are =
-    let both : place_of one ∷ map place_of rest ≡ place_at lane line ∷ map (place_at lane) left = sym (ap (map place_of) crew_is) ∙ (same ∙ ap (map (place_at lane)) lines_are) in
+    let both : lanes_of one ∷ map lanes_of rest ≡ lanes_at lane line ∷ map (lanes_at lane) left = sym (ap (map lanes_of) crew_is) ∙ (same ∙ ap (map (lanes_at lane)) lines_are) in
     (cc, cc)
 
-pub as_many : (lane : Identity Request) (crew : List LaneHalves) (lines : List (Half Answer)) → map place_of crew ≡ map (place_at lane) lines → length crew ≡ length lines
-as_many lane crew lines same = sym (length-map crew place_of) ∙ (ap length same ∙ length-map lines (place_at lane))
+pub as_many : (lane : Identity Request) (crew : List LaneHalves) (lines : List (Half Answer)) → map lanes_of crew ≡ map (lanes_at lane) lines → length crew ≡ length lines
+as_many lane crew lines same = sym (length-map crew lanes_of) ∙ (ap length same ∙ length-map lines (lanes_at lane))
 
 -- one agent more is closed
 pub closed_more : (P : LaneHalves → Type 0) (crew rest all : List LaneHalves) (one : LaneHalves) → crew ≡ one ∷ rest → P one → (All P crew → All P all) → All P rest → All P all
@@ -114,21 +114,21 @@ lines_answered keeper before desk kept stands gone k d inside =
     stands.answered (not_failed desk.failed _ gone) k d inside ∙ ap (λ (a : ℕ). answers_to a (history keeper before desk)) (sym (kept.lines k d inside))
 
 -- all halves are of the request lane
-pub of_one_lane : (lane : Identity Request) (crew : List LaneHalves) (lines : List (Half Answer)) → map place_of crew ≡ map (place_at lane) lines → All (λ (halves : LaneHalves). halves.requests.lane ≡ lane) crew
+pub of_one_lane : (lane : Identity Request) (crew : List LaneHalves) (lines : List (Half Answer)) → map lanes_of crew ≡ map (lanes_at lane) lines → All (λ (halves : LaneHalves). halves.requests.lane ≡ lane) crew
 of_one_lane lane [] lines same = All-nil (λ (halves : LaneHalves). halves.requests.lane ≡ lane)
 of_one_lane lane (one ∷ crew) [] same = cc
 of_one_lane lane (one ∷ crew) (line ∷ lines) same =
     let both = paired lane (one ∷ crew) crew (line ∷ lines) lines one line same refl refl in
-    All-cons (λ (halves : LaneHalves). halves.requests.lane ≡ lane) one crew (ap (λ (place : Place). place.asks) both.0) (of_one_lane lane crew lines both.1)
+    All-cons (λ (halves : LaneHalves). halves.requests.lane ≡ lane) one crew (ap (λ (place : AgentLanes). place.asks) both.0) (of_one_lane lane crew lines both.1)
 
-pub room_of_one_lane : (lane : Identity Request) (crew : List LaneHalves) (lines : List (Half Answer)) (room : List (Half Request)) → map place_of crew ≡ map (place_at lane) lines → room ≡ map (λ (halves : LaneHalves). halves.requests) crew → All (λ (half : Half Request). half.lane ≡ lane) room
+pub room_of_one_lane : (lane : Identity Request) (crew : List LaneHalves) (lines : List (Half Answer)) (room : List (Half Request)) → map lanes_of crew ≡ map (lanes_at lane) lines → room ≡ map (λ (halves : LaneHalves). halves.requests) crew → All (λ (half : Half Request). half.lane ≡ lane) room
 room_of_one_lane lane crew lines room same room_is =
     subst (All (λ (half : Half Request). half.lane ≡ lane)) (sym room_is) (to_map (λ (half : Half Request). half.lane ≡ lane) (λ (halves : LaneHalves). halves.requests) crew (of_one_lane lane crew lines same))
 
 -- the agents of a crew are those that the collector answers
-same_agents : (lane : Identity Request) (crew : List LaneHalves) (lines : List (Half Answer)) → map place_of crew ≡ map (place_at lane) lines → map (λ (halves : LaneHalves). halves.requests.agent) crew ≡ map (λ (half : Half Answer). half.agent) lines
+same_agents : (lane : Identity Request) (crew : List LaneHalves) (lines : List (Half Answer)) → map lanes_of crew ≡ map (lanes_at lane) lines → map (λ (halves : LaneHalves). halves.requests.agent) crew ≡ map (λ (half : Half Answer). half.agent) lines
 same_agents lane crew lines same =
-    sym (map-map (λ (place : Place). place.agent) place_of crew) ∙ (ap (map (λ (place : Place). place.agent)) same ∙ map-map (λ (place : Place). place.agent) (place_at lane) lines)
+    sym (map-map (λ (place : AgentLanes). place.agent) lanes_of crew) ∙ (ap (map (λ (place : AgentLanes). place.agent)) same ∙ map-map (λ (place : AgentLanes). place.agent) (lanes_at lane) lines)
 
 -- the agents of a crew are few
 all_small : {B : Type 0} (keeper : Keeper B) (desk : Desk B) (crew : List LaneHalves) → IsDesk keeper desk → AreCrew crew desk → All (λ (halves : LaneHalves). halves.requests.agent < most_agents) crew

@@ -17,13 +17,13 @@ use Rattle.dsn_outcome.specs.History.{Exchange, answer_of, answers_after, answer
 use Rattle.dsn_outcome.specs.Request.{Request}
 use Rattle.dsn_outcome.specs.declared.answer.Answer.{Answer}
 use Rattle.dsn_outcome.proofs.HistoryLaws.{answers_mine, answers_more, answers_other}
-use Rattle.dsn_crew.specs.desk.Desk.{AreLeft, Desk, IsDesk, StandsAfter, AreAnswered, IsAnswerSent, answered_more, history, next_exchange, places_of}
+use Rattle.dsn_crew.specs.desk.Desk.{AreLeft, Desk, IsDesk, StandsAfter, AreAnswered, IsAnswerSent, answered_more, history, next_exchange, agent_lanes_of}
 use Rattle.dsn_crew.specs.KeeperHistory.{AreNextOf, BeginsWith}
 use Rattle.dsn_crew.specs.inner.Desk.{desk_seen}
 use Rattle.dsn_crew.specs.inner.Desk.{Intake}
 use Rattle.dsn_crew.specs.desk.Intake.{goodbyes, taken_request}
 use Rattle.dsn_crew.specs.declared.breach.Breach.{Breach}
-use Rattle.dsn_crew.specs.agents.Place.{Place, place_at}
+use Rattle.dsn_crew.specs.agents.AgentLanes.{AgentLanes, lanes_at}
 use Rattle.dsn_crew.proofs.desk.EarlierLemmas.{more_after}
 use Rattle.dsn_crew.proofs.desk.IntakeLemmas.{next_of, are_numbered_first, number_next}
 
@@ -38,21 +38,21 @@ first_half (half ∷ halves) k inside = half
 pub sent_none : (old new : List (Half Answer)) (answer : Answer) → (d : Half Answer) → IsAnswerSent false old answer new → new ≡ old
 sent_none old new answer d is_sent = is_sent d ∙ set-get_or old answer.agent d
 
-places_set : (lane : Identity Request) (halves : List (Half Answer)) (k : ℕ) (d half : Half Answer) → place_at lane half ≡ place_at lane (slice_index_or halves k d) → map (place_at lane) (set halves k half) ≡ map (place_at lane) halves
+places_set : (lane : Identity Request) (halves : List (Half Answer)) (k : ℕ) (d half : Half Answer) → lanes_at lane half ≡ lanes_at lane (slice_index_or halves k d) → map (lanes_at lane) (set halves k half) ≡ map (lanes_at lane) halves
 places_set lane [] k d half same = refl
-places_set lane (first ∷ halves) zero d half same = ap (λ (place : Place). place ∷ map (place_at lane) halves) same
-places_set lane (first ∷ halves) (suc k) d half same = ap (λ (places : List Place). place_at lane first ∷ places) (places_set lane halves k d half same)
+places_set lane (first ∷ halves) zero d half same = ap (λ (place : AgentLanes). place ∷ map (lanes_at lane) halves) same
+places_set lane (first ∷ halves) (suc k) d half same = ap (λ (places : List AgentLanes). lanes_at lane first ∷ places) (places_set lane halves k d half same)
 
-same_place : (lane : Identity Request) (sent : Bool) (half : Half Answer) (answer : Answer) → place_at lane (answered_more sent half answer) ≡ place_at lane half
+same_place : (lane : Identity Request) (sent : Bool) (half : Half Answer) (answer : Answer) → lanes_at lane (answered_more sent half answer) ≡ lanes_at lane half
 same_place lane true half answer = refl
 same_place lane false half answer = refl
 
 -- the agents keep their places
-pub sent_places : {B : Type 0} (out : Out Request) (old : Desk B) (new : List (Half Answer)) (sent : Bool) (answer : Answer) → (d : Half Answer) → IsAnswerSent sent old.answers answer new → out.lane ≡ old.requests.lane → map (place_at out.lane) new ≡ places_of old
+pub sent_places : {B : Type 0} (out : Out Request) (old : Desk B) (new : List (Half Answer)) (sent : Bool) (answer : Answer) → (d : Half Answer) → IsAnswerSent sent old.answers answer new → out.lane ≡ old.requests.lane → map (lanes_at out.lane) new ≡ agent_lanes_of old
 sent_places out old new sent answer d is_sent lane =
-    ap (map (place_at out.lane)) (is_sent d)
+    ap (map (lanes_at out.lane)) (is_sent d)
     ∙ (places_set out.lane old.answers answer.agent d (answered_more sent (slice_index_or old.answers answer.agent d) answer) (same_place out.lane sent (slice_index_or old.answers answer.agent d) answer)
-    ∙ ap (λ (it : Identity Request). map (place_at it) old.answers) lane)
+    ∙ ap (λ (it : Identity Request). map (lanes_at it) old.answers) lane)
 
 -- there is room for as many halves as before
 pub sent_room : (sent : Bool) (old new : List (Half Answer)) (answer : Answer) (room : ℕ) → (d : Half Answer) → IsAnswerSent sent old answer new → length old ≤ room → length new ≤ room

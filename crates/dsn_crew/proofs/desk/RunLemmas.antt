@@ -17,8 +17,8 @@ use Rattle.dsn_outcome.proofs.HistoryLaws.{letters_more}
 use Rattle.dsn_crew.specs.declared.desk.desk_fault.DeskFault.{DeskFault}
 use Rattle.dsn_crew.specs.declared.desk.desk_fault.DeskFault.TheVariants.{Requests, Answers, Letters}
 use Rattle.dsn_crew.specs.post.Sink.{Handed}
-use Rattle.dsn_crew.specs.agents.Place.{place_at}
-use Rattle.dsn_crew.specs.desk.Desk.{AreAnswered, AreLeft, Desk, EndsBy, HasStopped, IsFirstBehind, IsLastRequest, IsRun, IsRequestTaken, IsUnmoved, StandsAfter, all_gone, history, history_with, places_of, letter_kept, next_exchange, taken_requests, with_failed}
+use Rattle.dsn_crew.specs.agents.AgentLanes.{lanes_at}
+use Rattle.dsn_crew.specs.desk.Desk.{AreAnswered, AreLeft, Desk, EndsBy, HasStopped, IsFirstBehind, IsLastRequest, IsRun, IsRequestTaken, IsUnmoved, StandsAfter, all_gone, history, history_with, agent_lanes_of, letter_kept, next_exchange, taken_requests, with_failed}
 use Rattle.dsn_crew.specs.desk.Intake.{goodbyes, taken_request}
 use Rattle.dsn_crew.proofs.desk.EarlierLemmas.{more_after}
 
@@ -105,12 +105,12 @@ both_none [] more none = (refl, none)
 both_none (item ∷ some) more none = absurd cc
 
 -- the collector has as many agents as before
-as_many : {B : Type 0} (old new : Desk B) → places_of new ≡ places_of old → length new.answers ≡ length old.answers
-as_many old new places = sym (length-map new.answers (place_at new.requests.lane)) ∙ (ap length places ∙ length-map old.answers (place_at old.requests.lane))
+as_many : {B : Type 0} (old new : Desk B) → agent_lanes_of new ≡ agent_lanes_of old → length new.answers ≡ length old.answers
+as_many old new places = sym (length-map new.answers (lanes_at new.requests.lane)) ∙ (ap length places ∙ length-map old.answers (lanes_at old.requests.lane))
 
 -- before each of the requests of two runs agents were left
 waiting_then :
-    {B : Type 0} (old mid : Desk B) (some more : List Request) → mid.requests ≡ taken_requests old.requests some → mid.missed ≡ old.missed → places_of mid ≡ places_of old → ((n : ℕ) → n < length some → AreLeft old (old.requests.taken ++ take n some))
+    {B : Type 0} (old mid : Desk B) (some more : List Request) → mid.requests ≡ taken_requests old.requests some → mid.missed ≡ old.missed → agent_lanes_of mid ≡ agent_lanes_of old → ((n : ℕ) → n < length some → AreLeft old (old.requests.taken ++ take n some))
     → ((n : ℕ) → n < length more → AreLeft mid (mid.requests.taken ++ take n more)) → (n : ℕ) → n < length (some ++ more) → AreLeft old (old.requests.taken ++ take n (some ++ more))
 waiting_then old mid some more requests missed places before then n few =
     let long = length-append some more in
@@ -163,7 +163,7 @@ module _ {B : Type 0} (keeper : Keeper B) (before : List Exchange) where
 
 module _ {B S : Type 0} (keeper : Keeper B) (before : List Exchange) (takes : S → Letter → S → Type 0) where
   -- what all runs of one request share
-  one_run : (old new : Desk B) (sink after : S) (request : Request) (handed : List Letter) (result : Result (Unit {0}) DeskFault) → new.requests ≡ taken_request old.requests request → IsFirstBehind old.behind request new.behind → new.start ≡ old.start → places_of new ≡ places_of old → new.missed ≡ old.missed
+  one_run : (old new : Desk B) (sink after : S) (request : Request) (handed : List Letter) (result : Result (Unit {0}) DeskFault) → new.requests ≡ taken_request old.requests request → IsFirstBehind old.behind request new.behind → new.start ≡ old.start → agent_lanes_of new ≡ agent_lanes_of old → new.missed ≡ old.missed
       → Handed takes sink handed after → handed ++ letter_kept result ≡ letter_of (history keeper before old) (next_exchange keeper before old request) → old.failed ≡ false → AreLeft old old.requests.taken → new.failed ≡ is_err result → EndsBy keeper before old (request ∷ []) new result → IsRun keeper before takes old new sink after result
   one_run old new sink after request handed result requests behind limits places missed sink_is letters going left failed ends = record {
     more = request ∷ [];
@@ -182,11 +182,11 @@ module _ {B S : Type 0} (keeper : Keeper B) (before : List Exchange) (takes : S 
     ends = ends;
   }
 
-  pub took_none : (old new : Desk B) (sink : S) → all_gone old ≡ false → IsRequestTaken keeper before old new (Ok None) → new.start ≡ old.start → places_of new ≡ places_of old → IsRun keeper before takes old new sink sink (Ok tt)
+  pub took_none : (old new : Desk B) (sink : S) → all_gone old ≡ false → IsRequestTaken keeper before old new (Ok None) → new.start ≡ old.start → agent_lanes_of new ≡ agent_lanes_of old → IsRun keeper before takes old new sink sink (Ok tt)
   took_none old new sink left taken limits places =
       one_run old new sink sink taken.0 [] (Ok tt) taken.3 taken.7 limits places taken.5 refl taken.6 taken.1 (some_left old left taken.1) taken.2 tt
 
-  pub took_fault : (old new : Desk B) (sink : S) (fault : DeskFault) → StandsAfter keeper before old → all_gone old ≡ false → IsRequestTaken keeper before old new (Err fault) → new.start ≡ old.start → places_of new ≡ places_of old → IsRun keeper before takes old new sink sink (Err fault)
+  pub took_fault : (old new : Desk B) (sink : S) (fault : DeskFault) → StandsAfter keeper before old → all_gone old ≡ false → IsRequestTaken keeper before old new (Err fault) → new.start ≡ old.start → agent_lanes_of new ≡ agent_lanes_of old → IsRun keeper before takes old new sink sink (Err fault)
   unfolding last_one
   took_fault old new sink Requests stands left taken limits places = record {
     more = [];
@@ -211,15 +211,15 @@ module _ {B S : Type 0} (keeper : Keeper B) (before : List Exchange) (takes : S 
       one_run old new sink sink taken.0 [] (Err (Answers agent letter)) taken.3 taken.8 limits places taken.6 refl taken.7 taken.1 (some_left old left taken.1) taken.2 (taken.1, taken.0, taken.4, last_one keeper before old taken.0 (letters_in letter) taken.7, answered)
   took_fault old new sink (Letters letter) kept left taken limits places = absurd taken
 
-  pub took_handed : (old new : Desk B) (sink after : S) (letter : Letter) → all_gone old ≡ false → IsRequestTaken keeper before old new (Ok (Some letter)) → new.start ≡ old.start → places_of new ≡ places_of old → takes sink letter after → IsRun keeper before takes old new sink after (Ok tt)
+  pub took_handed : (old new : Desk B) (sink after : S) (letter : Letter) → all_gone old ≡ false → IsRequestTaken keeper before old new (Ok (Some letter)) → new.start ≡ old.start → agent_lanes_of new ≡ agent_lanes_of old → takes sink letter after → IsRun keeper before takes old new sink after (Ok tt)
   took_handed old new sink after letter left taken limits places takes_it =
       one_run old new sink after taken.0 (letter ∷ []) (Ok tt) taken.3 taken.7 limits places taken.5 (after, takes_it, refl) taken.6 taken.1 (some_left old left taken.1) taken.2 tt
 
   -- the sink is gone: the collector is as it was once the request was answered, but failed
-  pub took_lost : (old mid new : Desk B) (sink after : S) (letter back : Letter) → StandsAfter keeper before mid → all_gone old ≡ false → IsRequestTaken keeper before old mid (Ok (Some letter)) → mid.start ≡ old.start → places_of mid ≡ places_of old → new ≡ with_failed mid true → back ≡ letter → after ≡ sink → IsRun keeper before takes old new sink after (Err (Letters back))
+  pub took_lost : (old mid new : Desk B) (sink after : S) (letter back : Letter) → StandsAfter keeper before mid → all_gone old ≡ false → IsRequestTaken keeper before old mid (Ok (Some letter)) → mid.start ≡ old.start → agent_lanes_of mid ≡ agent_lanes_of old → new ≡ with_failed mid true → back ≡ letter → after ≡ sink → IsRun keeper before takes old new sink after (Err (Letters back))
   took_lost old mid new sink after letter back kept left taken limits places is same sink_same =
       let sealed : back ∷ [] ≡ letter_of (history keeper before old) (next_exchange keeper before old taken.0) = ap (λ (l : Letter). l ∷ []) same ∙ taken.6 in
-      one_run old new sink after taken.0 [] (Err (Letters back)) (ap (λ (desk : Desk B). desk.requests) is ∙ taken.3) (subst (IsFirstBehind old.behind taken.0) (sym (ap (λ (desk : Desk B). desk.behind) is)) taken.7) (ap (λ (desk : Desk B). desk.start) is ∙ limits) (ap places_of is ∙ places) (ap (λ (desk : Desk B). desk.missed) is ∙ taken.5) sink_same
+      one_run old new sink after taken.0 [] (Err (Letters back)) (ap (λ (desk : Desk B). desk.requests) is ∙ taken.3) (subst (IsFirstBehind old.behind taken.0) (sym (ap (λ (desk : Desk B). desk.behind) is)) taken.7) (ap (λ (desk : Desk B). desk.start) is ∙ limits) (ap agent_lanes_of is ∙ places) (ap (λ (desk : Desk B). desk.missed) is ∙ taken.5) sink_same
       sealed taken.1 (some_left old left taken.1) (ap (λ (desk : Desk B). desk.failed) is) (taken.1, taken.0, last_one keeper before old taken.0 (back ∷ []) sealed, subst (λ (desk : Desk B). AreAnswered desk.answers (history keeper before desk)) (sym is) (kept.answered taken.2))
 
   -- nothing was taken yet

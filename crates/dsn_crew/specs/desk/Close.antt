@@ -5,12 +5,12 @@ use Rattle.dsn_outcome.specs.Agents.{from_agent}
 use Rattle.dsn_outcome.specs.History.{Exchange, answers_to}
 use Rattle.dsn_outcome.specs.Request.{Request}
 use Rattle.dsn_crew.specs.agents.Agent.{LaneHalves}
-use Rattle.dsn_crew.specs.desk.Desk.{Desk, history, places_of}
-use Rattle.dsn_crew.specs.agents.Place.{place_of}
+use Rattle.dsn_crew.specs.desk.Desk.{Desk, history, agent_lanes_of}
+use Rattle.dsn_crew.specs.agents.AgentLanes.{lanes_of}
 
 -- these are all agents of this collector, in their order
 abbrev pub AreCrew : {B : Type 0} → List LaneHalves → Desk B → Type 0
-AreCrew crew desk = map place_of crew ≡ places_of desk
+AreCrew crew desk = map lanes_of crew ≡ agent_lanes_of desk
 
 -- all that an agent sent was taken, in that order, and it got just the answers that the history
 -- gives it, after the one that the collector began with

@@ -14,7 +14,7 @@ use Rattle.dsn_outcome.specs.Letter.{Letter}
 use Rattle.dsn_outcome.specs.Request.{Request}
 use Rattle.dsn_outcome.specs.declared.answer.Answer.{Answer}
 use Rattle.dsn_crew.specs.post.Sink.{Handed}
-use Rattle.dsn_crew.specs.agents.Place.{Place, place_at}
+use Rattle.dsn_crew.specs.agents.AgentLanes.{AgentLanes, lanes_at}
 use Rattle.dsn_crew.specs.desk.Intake.{goodbyes, most_together, taken_request}
 use Rattle.dsn_crew.specs.declared.desk.desk_fault.DeskFault.{DeskFault}
 use Rattle.dsn_crew.specs.declared.desk.desk_fault.DeskFault.TheVariants.{Requests, Answers, Letters}
@@ -185,9 +185,9 @@ letter_kept (Err Requests) = []
 letter_kept (Err (Answers agent letter)) = letters_in letter
 letter_kept (Err (Letters letter)) = letter ∷ []
 
--- the places of its agents
-abbrev pub places_of : {B : Type 0} → Desk B → List Place
-places_of desk = map (place_at desk.requests.lane) desk.answers
+-- the lanes of its agents
+abbrev pub agent_lanes_of : {B : Type 0} → Desk B → List AgentLanes
+agent_lanes_of desk = map (lanes_at desk.requests.lane) desk.answers
 
 -- the last of the requests that a collector carried out, and the letter that it sealed, if it did
 pub record IsLastRequest {B : Type 0} (keeper : Keeper B) (before : List Exchange) (desk : Desk B)
@@ -239,7 +239,7 @@ pub record IsRun {B S : Type 0} (keeper : Keeper B) (before : List Exchange)
   pub letters : sealed_letters (history keeper before new)
       ≡ sealed_letters (history keeper before old) ++ (handed ++ letter_kept result)
   pub start : new.start ≡ old.start
-  pub places : places_of new ≡ places_of old
+  pub places : agent_lanes_of new ≡ agent_lanes_of old
   pub missed : new.missed ≡ old.missed
   pub failed : new.failed ≡ (old.failed || is_err result)
   pub waiting : (n : ℕ) → n < length more → AreLeft old (old.requests.taken ++ take n more)

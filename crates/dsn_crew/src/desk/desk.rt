@@ -8,7 +8,7 @@ ghost use Rattle.dsn_outcome.specs.declared.answer.Answer.{Answer};
 ghost use Rattle.dsn_crew.specs.desk.Open.{AreLines};
 ghost use Rattle.dsn_crew.specs.KeeperHistory.{BeginsWith};
 ghost use Rattle.dsn_crew.specs.inner.Desk.{HasRoom, IsStopped, MayBeSent, desk_of, with_kept};
-ghost use Rattle.dsn_crew.specs.desk.Desk.{HasStopped, IsAnswerSent, IsDesk, IsRequestTaken, IsRun, all_gone, missing, places_of, with_failed};
+ghost use Rattle.dsn_crew.specs.desk.Desk.{HasStopped, IsAnswerSent, IsDesk, IsRequestTaken, IsRun, all_gone, missing, agent_lanes_of, with_failed};
 ghost use Rattle.dsn_crew.specs.desk.Intake.{goodbyes, most_taken};
 
 use crate::breach::Breach;
@@ -148,7 +148,7 @@ impl<B: Keeper> Desk<B> {
         ensures start { self.new.start ≡ self.old.start }
         ensures failed { self.new.failed ≡ is_err result }
         ensures kept { IsDesk B.Keeper self.new }
-        ensures places { places_of self.new ≡ places_of self.old }
+        ensures places { agent_lanes_of self.new ≡ agent_lanes_of self.old }
     {
         if self.stop.is_some() {
             return Err(DeskFault::Requests);
@@ -205,7 +205,7 @@ impl<B: Keeper> Desk<B> {
         ensures start { self.new.start ≡ self.old.start }
         ensures failed { self.new.failed ≡ is_err result }
         ensures kept { IsDesk B.Keeper self.new }
-        ensures places { places_of self.new ≡ places_of self.old }
+        ensures places { agent_lanes_of self.new ≡ agent_lanes_of self.old }
     {
         let request = self.intake.next();
         let agent = request.agent;
@@ -242,7 +242,7 @@ impl<B: Keeper> Desk<B> {
         ensures failed { self.new.failed ≡ is_err result }
         ensures all { OnOk result (all_gone self.new ≡ true) }
         ensures kept { IsDesk B.Keeper self.new }
-        ensures places { places_of self.new ≡ places_of self.old }
+        ensures places { agent_lanes_of self.new ≡ agent_lanes_of self.old }
     {
         for _ in rt.forever() {
             if self.all_gone() {
@@ -266,7 +266,7 @@ impl<B: Keeper> Desk<B> {
         ensures start { self.new.start ≡ self.old.start }
         ensures failed { self.new.failed ≡ is_err result }
         ensures kept { IsDesk B.Keeper self.new }
-        ensures places { places_of self.new ≡ places_of self.old }
+        ensures places { agent_lanes_of self.new ≡ agent_lanes_of self.old }
     {
         let taken = match self.take_one(rt) {
             Ok(taken) => taken,

@@ -1,6 +1,6 @@
 //! What agents ask, for tests, and what comes of it.
 ghost use Rattle.std.specs.Prelude.{◌≡◌};
-ghost use Rattle.dsn_crew.specs.agents.Place.{place_of};
+ghost use Rattle.dsn_crew.specs.agents.AgentLanes.{lanes_of};
 
 use crate::bodies::{Kind, body};
 use dsn_crew::{Agent, AskFault};
@@ -23,7 +23,7 @@ pub(super) fn told(fault: AskFault) -> (u32, bool) {
 
 /// Asks for a body that isn't a goodbye, and waits for the answer.
 pub(super) fn ask(rt: &impl Wait, agent: &mut Agent, body: Option<Body>) -> Option<Asked>
-    ensures { place_of agent.new.halves ≡ place_of agent.old.halves }
+    ensures { lanes_of agent.new.halves ≡ lanes_of agent.old.halves }
 {
     let body = body?;
     if body.is_bye() {

@@ -2,7 +2,7 @@
 //! and the close of the crew.
 ghost use Rattle.std.specs.Prelude.{◌≡◌, [], ◌∷◌, IfSome};
 ghost use Rattle.dsn_crew.specs.desk.Close.{AreCrew};
-ghost use Rattle.dsn_crew.specs.agents.Place.{place_of};
+ghost use Rattle.dsn_crew.specs.agents.AgentLanes.{lanes_of};
 
 use super::asks::ask;
 use super::collect::collect;
@@ -29,7 +29,7 @@ struct Seen {
 
 /// The first agent asks twice, the second one not at all; both say goodbye.
 fn ask_and_leave(rt: &impl Wait, alloc: Global, first: Agent, second: Agent) -> Option<Seen>
-    ensures { IfSome result (λ seen. (place_of seen.first ≡ place_of first.halves) × (place_of seen.second ≡ place_of second.halves)) }
+    ensures { IfSome result (λ seen. (lanes_of seen.first ≡ lanes_of first.halves) × (lanes_of seen.second ≡ lanes_of second.halves)) }
 {
     let mut first = first;
     let Some(Ok(reply)) = ask(rt, &mut first, body(alloc, Kind::Append, b"K1")) else {

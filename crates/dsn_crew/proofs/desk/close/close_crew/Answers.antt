@@ -10,7 +10,7 @@ use Rattle.dsn_outcome.specs.History.{answers_to}
 use Rattle.dsn_outcome.specs.declared.answer.Answer.{Answer}
 use Rattle.dsn_outcome.specs.Request.{Request}
 use Rattle.dsn_crew.specs.agents.Agent.{LaneHalves, IsFinished}
-use Rattle.dsn_crew.specs.agents.Place.{Place, place_at, place_of}
+use Rattle.dsn_crew.specs.agents.AgentLanes.{AgentLanes, lanes_at, lanes_of}
 use Rattle.dsn_crew.specs.desk.Desk.{Desk, IsDesk, history}
 use Rattle.dsn_crew.proofs.desk.TakeLemmas.{has_here, none_behind}
 use Rattle.dsn_crew.proofs.desk.CloseLemmas.{IsAnswered, all_heard, all_of_crew, as_many, closed_more, going_on, kept_all, kept_more, lines_answered, none_left, paired, room_of_one_lane}
@@ -23,7 +23,7 @@ loop-finished-init g c =
     let count = as_many _ c.args.crew.items c.args.desk.answers c.requires.crew in
     record {
       iterator = (tt, tt);
-      crew = ap (map place_of) gives ∙ (c.requires.crew ∙ ap (map (place_at c.args.desk.requests.lane)) (sym lines));
+      crew = ap (map lanes_of) gives ∙ (c.requires.crew ∙ ap (map (lanes_at c.args.desk.requests.lane)) (sym lines));
       len = c.into_iter-lines.ensures.len ∙ (c.desk.inside.lines.ok.0 ∙ sym (ap length c.into_iter-lines.ensures.rest));
       answered = λ before begins.
           let kept = subst (IsDesk g.B.Keeper) c.desk.view_is c.desk.invariant.0 in
@@ -48,7 +48,7 @@ loop-finished-preserved g c =
       closed = λ before begins.
           let lines = subst (All (λ (half : Half Answer). half.sent ≡ answers_to half.agent (history g.B.Keeper before c.args.desk))) c.in-Some-next.ensures.items (c.loop-finished.invariant.answered before begins) in
           let sent = All-head (λ (half : Half Answer). half.sent ≡ answers_to half.agent (history g.B.Keeper before c.args.desk)) c.in-Some-next.line _ lines in
-          let answers : c.in-Some-next.line.sent ≡ answers_to c.in-Some.finished.requests.agent (history g.B.Keeper before c.args.desk) = sent ∙ ap (λ (place : Place). answers_to place.agent (history g.B.Keeper before c.args.desk)) (sym pair.0) in
+          let answers : c.in-Some-next.line.sent ≡ answers_to c.in-Some.finished.requests.agent (history g.B.Keeper before c.args.desk) = sent ∙ ap (λ (place : AgentLanes). answers_to place.agent (history g.B.Keeper before c.args.desk)) (sym pair.0) in
           closed_more (IsAnswered (history g.B.Keeper before c.args.desk)) _ _ _ c.in-Some.finished c.in-Some.ensures.steps.0 (record { finished = c.close_answers.ensures.finished; got = subst (IsPrefix c.in-Some.finished.answers.taken) answers c.close_answers.ensures.got }) (c.loop-finished.invariant.closed before begins);
     }
 
@@ -59,7 +59,7 @@ into_lane-requires g c = ap (λ (desk : Desk _). desk.behind) c.desk.view_is ∙
 pub close_lane-requires-clause-lane : goal.close_lane-requires-clause-lane
 close_lane-requires-clause-lane g c =
     let out = c.into_lane.ensures ∙ ap (λ (desk : Desk _). desk.requests) c.desk.view_is in
-    let same = subst (λ (o : Out _). map place_of c.args.crew.items ≡ map (place_at o.lane) c.args.desk.answers) (sym out) c.requires.crew in
+    let same = subst (λ (o : Out _). map lanes_of c.args.crew.items ≡ map (lanes_at o.lane) c.args.desk.answers) (sym out) c.requires.crew in
     room_of_one_lane _ _ _ _ same (kept_all _ _ _ (search rules) c.loop-finished.invariant.asked)
 
 pub close_lane-requires-clause-all : goal.close_lane-requires-clause-all

@@ -7,7 +7,7 @@ use Rattle.dsn_outcome.specs.History.{letter_of}
 use Rattle.dsn_crew.proofs.desk.DeskLemmas.{IsAsked, first_half, keeps, line_agent, line_number, none_stopped, seen_going, sent_none, sent_places, sent_room, small, within}
 use Rattle.dsn_crew.proofs.desk.IntakeLemmas.{goodbyes_fit, goodbyes_more}
 use Rattle.dsn_crew.proofs.desk.TakeLemmas.{answer_says, has_says, has_some, letter_says, may_be_sent}
-use Rattle.dsn_crew.specs.desk.Desk.{Desk, IsAnswerSent, IsDesk, history, next_exchange, places_of}
+use Rattle.dsn_crew.specs.desk.Desk.{Desk, IsAnswerSent, IsDesk, history, next_exchange, agent_lanes_of}
 use Rattle.dsn_crew.specs.inner.Desk.{desk_seen}
 use Rattle.dsn_crew.specs.desk.Intake.{taken_request}
 use Rattle.dsn_crew.proofs.desk.desk.Desk.answer_next.Goals as goal
@@ -141,7 +141,7 @@ returns-in-Ok-clause-places g c =
     let d : Half Answer = first_half _ _ (within _ _ _ _ _ is_asked) in
     let lane = ap (λ (o : Out _). o.lane) c.next-request.ensures.handed_on in
     sent_places c.next-request.new.self.requests (desk_seen c.self.inside.start.value c.self.inside.book None c.self.inside.intake c.self.inside.lines.items c.self.inside.missed) c.send_answer.new.lines.items (is_ok c.send_answer.result) c.apply-letter.result.answer d (search rules) lane
-    ∙ ap places_of (sym (seen_going _ _ _ _ _ _ going) ∙ c.self.view_is)
+    ∙ ap agent_lanes_of (sym (seen_going _ _ _ _ _ _ going) ∙ c.self.view_is)
 
 pub returns-in-Err-clause-places : goal.returns-in-Err-clause-places
 returns-in-Err-clause-places g c =
@@ -152,7 +152,7 @@ returns-in-Err-clause-places g c =
     let d : Half Answer = first_half _ _ (within _ _ _ _ _ is_asked) in
     let lane = ap (λ (o : Out _). o.lane) c.next-request.ensures.handed_on in
     sent_places c.next-request.new.self.requests (desk_seen c.self.inside.start.value c.self.inside.book None c.self.inside.intake c.self.inside.lines.items c.self.inside.missed) c.send_answer.new.lines.items (is_ok c.send_answer.result) c.apply-letter.result.answer d (search rules) lane
-    ∙ ap places_of (sym (seen_going _ _ _ _ _ _ going) ∙ c.self.view_is)
+    ∙ ap agent_lanes_of (sym (seen_going _ _ _ _ _ _ going) ∙ c.self.view_is)
 
 pub returns-in-Err-clause-taken : goal.returns-in-Err-clause-taken
 returns-in-Err-clause-taken g c =

@@ -1,5 +1,5 @@
 -- What a keeper models before a run and after it: a history, and the requests kept behind it.
-use Rattle.std.specs.Prelude.{◌≡◌, ℕ, ◌<◌, List, [], ◌≤◌, length, Option, Some, None, ◌+◌, ◌++◌, All}
+use Rattle.std.specs.Prelude.{◌≡◌, ℕ, ◌<◌, List, [], ◌≤◌, length, Option, Some, None, ◌++◌, All}
 use Rattle.dsn_book.specs.declared.keeper.Keeper.{Ghosts as Keeper}
 use Rattle.dsn_book.specs.declared.not_kept.NotKept.{NotKept}
 use Rattle.dsn_crew.specs.lane.Lane.{most_agents, IsNumbered}

@@ -10,9 +10,6 @@ mod port;
 mod port_end;
 mod port_service;
 mod serve_connection;
-mod serve_fault;
-mod served;
-mod turn;
 mod unanswered;
 mod unheard;
 
@@ -25,6 +22,4 @@ pub use next_connection::Next;
 pub use port::Port;
 pub(crate) use port_end::PortEnd;
 pub(crate) use port_service::serve_port;
-pub use serve_fault::ServeFault;
-pub use served::Served;
 pub(crate) use unheard::Unheard;

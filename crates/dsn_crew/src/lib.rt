@@ -18,14 +18,13 @@ mod lane;
 mod post;
 mod start_serving;
 
-pub use agents::{
-    Agent, AgentLine, AskFault, Finished, Gate, Next, NoGate, Port, ServeFault, Served,
-};
+pub use agents::{Agent, AgentLine, AskFault, Finished, Gate, Next, NoGate, Port};
 pub use crew_account::Account;
 pub use crew_cause::CrewCause;
 pub use crew_fault::CrewFault;
 pub use crew_run::{run_crew, run_crew_over};
 pub use desk::{CrewOpenFault, CrewShut, Desk, DeskFault, close_crew, open_crew, open_crew_over};
+pub use dsn_frame::{ServeFault, Served};
 pub use lane::{
     LaneEnd, LaneGone, LaneIn, LaneLeft, LaneLists, LaneOut, LaneShut, Lost, close_lane, open_lane,
 };

@@ -9,5 +9,6 @@ mod SessionExamples
 pub mod SentAnswersLemmas
 pub mod SessionFrames
 pub mod SessionLemmas
+pub mod SessionRunLemmas
 pub mod SomeSession
 pub mod WholeInputLemmas

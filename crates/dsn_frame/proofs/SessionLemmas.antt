@@ -7,10 +7,9 @@ use Rattle.std.proofs.KnownBytes.{Consumes-nil, Consumes-trans}
 use Rattle.std.proofs.lemmas.Grind.{flat_map-append}
 use Rattle.std.proofs.lemmas.List.{append-nil}
 use Rattle.dsn_outcome.specs.Request.{Body}
-use Rattle.dsn_outcome.specs.declared.answer.Replied.{Replied}
 use Rattle.dsn_frame.specs.bodies.BodyFault.{body_fault_code}
 use Rattle.dsn_frame.specs.bodies.FrameBody.{frame}
-use Rattle.dsn_frame.specs.bodies.Request.{Encodes, first_body_fault}
+use Rattle.dsn_frame.specs.bodies.Request.{first_body_fault}
 use Rattle.dsn_frame.specs.declared.bodies.body_fault.BodyFault.{BodyFault}
 use Rattle.dsn_frame.specs.declared.bodies.body_fault.BodyFault.TheVariants as faults
 use Rattle.dsn_frame.specs.declared.bodies.spoken.Spoken.{Spoken}
@@ -18,7 +17,7 @@ use Rattle.dsn_frame.specs.declared.bodies.spoken.Spoken.TheVariants as spoken
 use Rattle.dsn_frame.specs.Frame.{ReadsNext, ReadsNone}
 use Rattle.dsn_frame.specs.FrameFault.{frame_fault_code}
 use Rattle.dsn_frame.specs.Refusal.{refusal_code, refusal_end, IsFrameRefused}
-use Rattle.dsn_frame.specs.Session.{Medium, Input, Connection, unwritten_code, Takes, faulty, out_of_memory, out_of_turn, used_up, asked, given_up, given_up_after, GoesOn, written, unwritten, begun, taken, stopped, well, cut, too_many, no_memory_for_book, IsSession}
+use Rattle.dsn_frame.specs.Session.{Medium, Input, Takes, faulty, out_of_memory, out_of_turn, GoesOn, written, begun, taken, stopped, well, cut, too_many, no_memory_for_book, IsSession}
 use Rattle.dsn_frame.specs.inner.Session.{IsOpenSession}
 use Rattle.dsn_frame.specs.declared.frame_fault.FrameFault.{FrameFault}
 use Rattle.dsn_frame.specs.declared.refusal.Refusal.{Refusal}
@@ -77,11 +76,6 @@ module _ (medium : Medium) (limit before : ℕ) (start : Option (List ℕ)) wher
       read = read_more left next frames bytes session.read reads.1;
       ends = stopped code refl refl;
     }
-
-    -- the answer to the frame could not be written
-    pub session_unwritten : (more : List Body) (answer : Spoken) (end : Option ℕ) → Takes medium limit (before + length bodies) (length frames) bytes more (answer ∷ []) end
-        → IsSession medium limit before start next (frames ++ bytes ∷ []) (bodies ++ more) (answers ++ answer ∷ []) (Some (unwritten_code medium))
-    session_unwritten more answer end takes = session_stopped more (answer ∷ []) end (unwritten_code medium) takes (unwritten answer end)
 
   -- ---- the end where a frame is to be read
 

@@ -4,8 +4,10 @@ pub mod FrameFault
 pub mod Laws
 pub mod Refusal
 pub mod SentAnswers
+pub mod ServeFault
 pub mod Session
 pub mod SessionLaws
+pub mod SessionRun
 pub mod WholeInput
 pub mod bodies
 pub mod inner

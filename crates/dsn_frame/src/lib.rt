@@ -10,6 +10,8 @@ mod frame_ref;
 mod frame_requests;
 mod laws;
 mod refusal;
+mod serve_fault;
+mod session;
 
 pub use bodies::{
     AnswerFault, BodyFault, Spoken, bodies_are_requests_or_refused, decode_answer, decode_request,
@@ -25,3 +27,5 @@ pub use laws::{
     sessions_are_functions_of_their_bytes, sessions_take_the_frames_of_their_bytes,
 };
 pub use refusal::Refusal;
+pub use serve_fault::ServeFault;
+pub use session::{Responder, Served, Turn, run_session};

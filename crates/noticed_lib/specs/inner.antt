@@ -2,5 +2,4 @@ pub mod Daemon
 pub mod Harvest
 pub mod NotedAnswers
 pub mod Reading
-pub mod ReadingEnd
 pub mod Run

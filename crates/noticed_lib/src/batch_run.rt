@@ -3,9 +3,7 @@ mod batch_end;
 mod memory_run;
 mod memory_source;
 mod reading;
-mod reading_end;
 mod run;
-mod turn;
 mod whole_batch;
 
 pub use batch_end::BatchEnd;

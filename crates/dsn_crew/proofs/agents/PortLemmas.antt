@@ -16,15 +16,18 @@ use Rattle.dsn_crew.specs.agents.Agent.{Agent, LaneHalves}
 use Rattle.dsn_crew.specs.inner.Agent.{IsLeave}
 use Rattle.dsn_crew.specs.agents.Port.{Conn, Given, connection, done, failed, Gives, GivesFirst, IsLastGiven, AreOverConns, AreOverPort, AreSessions, IsOver, IsSessionAt, Session, all_given, answers_of, bodies_of, faults_of}
 use Rattle.dsn_crew.specs.inner.Agent.{HasServed, HasServedOnly, IsPortServed}
-use Rattle.dsn_crew.specs.agents.Serve.{HasAsked, IsServed, is_lost, is_stream_failed, served_end}
+use Rattle.dsn_crew.specs.agents.Serve.{HasAsked, IsServed}
+use Rattle.dsn_frame.specs.ServeFault.{is_lost, is_stream_failed, session_end}
+use Rattle.dsn_frame.specs.Session.{Connection}
+use Rattle.std.specs.Result.{result_err}
 use Rattle.dsn_crew.specs.declared.agents.unheard.Unheard.{Unheard}
 use Rattle.dsn_crew.specs.declared.agents.agent_line.AgentLine.{AgentLine}
 use Rattle.dsn_crew.specs.declared.agents.next_connection.Next.TheVariants as next
 use Rattle.dsn_crew.specs.declared.agents.port.Port.{Ghosts as Port}
-use Rattle.dsn_crew.specs.declared.agents.serve_fault.ServeFault.{ServeFault}
-use Rattle.dsn_crew.specs.declared.agents.serve_fault.ServeFault.TheVariants.{Frame, WriteBack, Number, Frames, Lost}
-use Rattle.dsn_crew.specs.declared.agents.served.Served.{Served}
-use Rattle.dsn_crew.proofs.agents.ServeLemmas.{asked-count, asked-nothing, asked-then}
+use Rattle.dsn_frame.specs.declared.serve_fault.ServeFault.{ServeFault}
+use Rattle.dsn_frame.specs.declared.serve_fault.ServeFault.TheVariants.{Frame, WriteBack, Number, Frames, Lost}
+use Rattle.dsn_frame.specs.declared.session.Served.{Served}
+use Rattle.dsn_crew.proofs.agents.ServeLemmas.{sent-count, asked-nothing, asked-then}
 
 -- ---- ends of sessions
 
@@ -33,7 +36,7 @@ code_or_0 None = 0
 code_or_0 (Some code) = code
 
 -- a session that found the collector there doesn't end with 41
-not-lost : (result : Result Served ServeFault) → is_lost result ≡ false → served_end result ≢ Some 41
+not-lost : (result : Result Served ServeFault) → is_lost (result_err result) ≡ false → session_end Connection (result_err result) ≢ Some 41
 not-lost (Ok served) kept is = cc
 not-lost (Err (Frame frames.NoMemory)) kept is = let never = ap code_or_0 is in omega (arith, never)
 not-lost (Err (Frame frames.TooLong)) kept is = let never = ap code_or_0 is in omega (arith, never)
@@ -46,7 +49,7 @@ not-lost (Err Frames) kept is = let never = ap code_or_0 is in omega (arith, nev
 not-lost (Err Lost) kept is = cc
 
 -- one whose stream didn't fail doesn't end with a failed read or write
-not-failed : (result : Result Served ServeFault) → is_stream_failed result ≡ false → (served_end result ≢ Some 14) × (served_end result ≢ Some 35)
+not-failed : (result : Result Served ServeFault) → is_stream_failed (result_err result) ≡ false → (session_end Connection (result_err result) ≢ Some 14) × (session_end Connection (result_err result) ≢ Some 35)
 not-failed (Ok served) good = (λ is. cc, λ is. cc)
 not-failed (Err (Frame frames.NoMemory)) good = (λ is. let never = ap code_or_0 is in omega (arith, never), λ is. let never = ap code_or_0 is in omega (arith, never))
 not-failed (Err (Frame frames.TooLong)) good = (λ is. let never = ap code_or_0 is in omega (arith, never), λ is. let never = ap code_or_0 is in omega (arith, never))
@@ -297,7 +300,7 @@ module _ {P T : Type 0} (port : Port P T) (start : P) (old : Agent) (now : P) (a
         serves-told new true (Some failed) then same (port-failed source (port.conns start) so_far.sessions (port.conns now) (port.conns new) so_far.over gives)
         (given-last (port.may_give start) (port.may_give now) (port.may_give new) count failed so_far.gave given) (refl, refl)
 
-is-fault : (result : Result Served ServeFault) → is_some (served_end result) ≡ is_err result
+is-fault : (result : Result Served ServeFault) → is_some (session_end Connection (result_err result)) ≡ is_err result
 is-fault (Ok served) = refl
 is-fault (Err fault) = refl
 
@@ -320,7 +323,7 @@ module _ {P T S : Type 0} (source : Source S) (drain : Drain S) (port : Port P T
     frames = served.frames;
     bodies = served.bodies;
     answers = served.answers;
-    end = served_end result;
+    end = session_end Connection (result_err result);
   }
 
   all : List Session
@@ -330,22 +333,22 @@ module _ {P T S : Type 0} (source : Source S) (drain : Drain S) (port : Port P T
   unfolding all session
   all-follow =
       let limit_is : agent.limit ≡ old.limit = ap (λ (a : Agent). a.limit) so_far.asked.agent_is in
-      let count_is = asked-count old agent then (bodies_of so_far.sessions) served.bodies (answers_of so_far.sessions) served.answers (is_lost result) so_far.asked served.asked in
+      let count_is = sent-count old agent (bodies_of so_far.sessions) (answers_of so_far.sessions) false so_far.asked in
       sessions-more old.limit (length old.halves.requests.sent) so_far.sessions session so_far.follow
       (subst (λ l. IsSessionAt l (length old.halves.requests.sent + length (bodies_of so_far.sessions)) session) limit_is
       (subst (λ n. IsSessionAt agent.limit n session) count_is served.session))
 
-  all-asked : HasAsked old then (bodies_of all) (answers_of all) (is_lost result)
+  all-asked : HasAsked old then (bodies_of all) (answers_of all) (is_lost (result_err result))
   unfolding all session
   all-asked =
-      subst (λ bodies. HasAsked old then bodies (answers_of all) (is_lost result)) (sym (more-of (λ (s : Session). s.bodies) so_far.sessions session))
-      (subst (λ answers. HasAsked old then (bodies_of so_far.sessions ++ served.bodies) answers (is_lost result)) (sym (more-of (λ (s : Session). s.answers) so_far.sessions session))
-      (asked-then old agent then (bodies_of so_far.sessions) served.bodies (answers_of so_far.sessions) served.answers (is_lost result) so_far.asked served.asked))
+      subst (λ bodies. HasAsked old then bodies (answers_of all) (is_lost (result_err result))) (sym (more-of (λ (s : Session). s.bodies) so_far.sessions session))
+      (subst (λ answers. HasAsked old then (bodies_of so_far.sessions ++ served.bodies) answers (is_lost (result_err result))) (sym (more-of (λ (s : Session). s.answers) so_far.sessions session))
+      (asked-then old agent then (bodies_of so_far.sessions) served.bodies (answers_of so_far.sessions) served.answers (is_lost (result_err result)) so_far.asked served.asked))
 
   all-over : ServedPort (port.conns start) all (port.conns new)
   unfolding all session
   all-over = port-more source (port.conns start) so_far.sessions (port.conns now) (port.conns new) stream session so_far.over (rw (← stream_is) at gives) refl
-      (λ steady below. not-failed result (still (is_stream_failed result) (source.failures stream) (sym served.counts.count ∙ (served.counts.stays_steady steady).1) below))
+      (λ steady below. not-failed result (still (is_stream_failed (result_err result)) (source.failures stream) (sym served.counts.count ∙ (served.counts.stays_steady steady).1) below))
 
   all-faults : faults ≡ faults_of all
   unfolding all session
@@ -365,7 +368,7 @@ module _ {P T S : Type 0} (source : Source S) (drain : Drain S) (port : Port P T
   all-given = given-alone (port.may_give start) (port.may_give now) count so_far.gave first.alone
 
   -- one more connection was served
-  pub serves-more : is_lost result ≡ false → ServesSoFar port start old new then (record { requests = requests; connections = connections; faults = faults; port_failed = false }) (count + 1)
+  pub serves-more : is_lost (result_err result) ≡ false → ServesSoFar port start old new then (record { requests = requests; connections = connections; faults = faults; port_failed = false }) (count + 1)
   unfolding all session
   serves-more kept = record {
     sessions = all;
@@ -385,7 +388,7 @@ module _ {P T S : Type 0} (source : Source S) (drain : Drain S) (port : Port P T
   }
 
   -- the collector was found gone
-  pub serves-lost : is_lost result ≡ true → Serves port start old new then (record { requests = requests; connections = connections; faults = faults; port_failed = false })
+  pub serves-lost : is_lost (result_err result) ≡ true → Serves port start old new then (record { requests = requests; connections = connections; faults = faults; port_failed = false })
   serves-lost gone = record {
     served = record {
       sessions = all;

@@ -20,7 +20,7 @@ use Rattle.dsn_frame.specs.declared.bodies.spoken.Spoken.TheVariants.{Refused, R
 use Rattle.dsn_frame.specs.Session.{asked, given_up, written, begun, taken, stopped, well}
 use Rattle.dsn_crew.specs.agents.Agent.{Agent}
 use Rattle.dsn_crew.specs.agents.Serve.{IsServed, numbered_from}
-use Rattle.dsn_crew.specs.declared.agents.serve_fault.ServeFault.TheVariants.{Lost}
+use Rattle.dsn_frame.specs.declared.serve_fault.ServeFault.TheVariants.{Lost}
 
 -- a discard with number 0, and what it asks
 unfoldable pub discard_body : List ℕ

@@ -147,16 +147,16 @@ replied-then false b c r s first then = omega (arith, first, then)
 replied-then true b c r s first (inl then) = inl (omega (arith, first, then))
 replied-then true b c r s first (inr then) = inr (omega (arith, first, then))
 
-module _ (old mid new : Agent) (bodies more : List Body) (answers said : List Spoken) (lost : Bool) (first : HasAsked old mid bodies answers false) (then : HasAsked mid new more said lost) where
-  -- how many requests the agent has sent by then
-  pub asked-count : length mid.halves.requests.sent ≡ length old.halves.requests.sent + length bodies
-  asked-count =
-      let sent = ap (λ (a : Agent). length a.halves.requests.sent) first.agent_is in
-      omega (arith, sent, length-append old.halves.requests.sent (requests_from old.halves.requests.agent (length old.halves.requests.sent) bodies), numbered-length (numbered_request old.halves.requests.agent) (length old.halves.requests.sent) bodies)
+-- how many requests the agent has sent by then
+pub sent-count : (old new : Agent) (bodies : List Body) (answers : List Spoken) (lost : Bool) → HasAsked old new bodies answers lost → length new.halves.requests.sent ≡ length old.halves.requests.sent + length bodies
+sent-count old new bodies answers lost has =
+    let sent = ap (λ (a : Agent). length a.halves.requests.sent) has.agent_is in
+    omega (arith, sent, length-append old.halves.requests.sent (requests_from old.halves.requests.agent (length old.halves.requests.sent) bodies), numbered-length (numbered_request old.halves.requests.agent) (length old.halves.requests.sent) bodies)
 
+module _ (old mid new : Agent) (bodies more : List Body) (answers said : List Spoken) (lost : Bool) (first : HasAsked old mid bodies answers false) (then : HasAsked mid new more said lost) where
   agent-then : new ≡ after_requests old (bodies ++ more) (flat_map reply_of (answers ++ said)) lost
   agent-then =
-      let count = asked-count in
+      let count = sent-count old mid bodies answers false first in
       let replies = flat_map-append reply_of answers said in
       let same : length old.halves.requests.sent + length bodies ≡ length old.halves.requests.sent + length (flat_map reply_of answers) = omega (arith, first.replied) in
       let sent = numbered-then (numbered_request old.halves.requests.agent) old.halves.requests.sent (length old.halves.requests.sent) (length mid.halves.requests.sent) bodies more count in

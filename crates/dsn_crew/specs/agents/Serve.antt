@@ -1,65 +1,24 @@
 -- Sessions of an agent: what became of one connection, of the agent that served it, and of the
 -- answers' frames.
-use Rattle.std.specs.Prelude.{◌≡◌, ◌≢◌, ℕ, suc, Bool, true, false, ◌||◌, ◌⊎◌, List, [], ◌∷◌, ◌++◌, All, length, Option, Some, None, Result, Ok, Err, IfOk}
+use Rattle.std.specs.Prelude.{◌≡◌, ◌≢◌, ℕ, suc, Bool, true, false, ◌||◌, ◌⊎◌, List, [], ◌∷◌, ◌++◌, All, length, Result, IfOk}
 use Rattle.std.specs.List.{flat_map}
+use Rattle.std.specs.Result.{result_err}
 use Rattle.dsn_device.specs.Counts.{Counts}
 use Rattle.dsn_device.specs.declared.drain.Drain.{Ghosts as Drain}
 use Rattle.dsn_device.specs.declared.source.Source.{Ghosts as Source}
-use Rattle.dsn_text.specs.FaultCode.{connection_write_code, lane_lost_code, out_of_turn_code, too_many_frames_code, used_up_code}
+use Rattle.dsn_text.specs.FaultCode.{used_up_code}
 use Rattle.dsn_outcome.specs.Request.{Request, Body}
 use Rattle.dsn_outcome.specs.declared.answer.Answer.{Answer}
 use Rattle.dsn_outcome.specs.declared.answer.Replied.{Replied}
 use Rattle.dsn_frame.specs.bodies.Spoken.{answer_bytes, answer_frames_from, reply_of, told_each}
 use Rattle.dsn_frame.specs.declared.bodies.spoken.Spoken.{Spoken}
 use Rattle.dsn_frame.specs.declared.bodies.spoken.Spoken.TheVariants as spoken
-use Rattle.dsn_frame.specs.FrameFault.{frame_fault_code, source_failed}
+use Rattle.dsn_frame.specs.ServeFault.{is_lost, is_stream_failed, is_unwritten, session_end}
 use Rattle.dsn_frame.specs.Session.{Connection, IsSession}
 use Rattle.dsn_frame.specs.SentAnswers.{AnswersSent}
 use Rattle.dsn_crew.specs.agents.Agent.{Agent}
-use Rattle.dsn_crew.specs.declared.agents.serve_fault.ServeFault.{ServeFault}
-use Rattle.dsn_crew.specs.declared.agents.serve_fault.ServeFault.TheVariants.{Frame, WriteBack, Number, Frames, Lost}
-use Rattle.dsn_crew.specs.declared.agents.served.Served.{Served}
-
--- ---- how a session ends
-
-abbrev pub serve_fault_code : ServeFault → ℕ
-serve_fault_code (Frame fault) = frame_fault_code fault
-serve_fault_code WriteBack = connection_write_code
-serve_fault_code Number = out_of_turn_code
-serve_fault_code Frames = too_many_frames_code
-serve_fault_code Lost = lane_lost_code
-
--- the number of the session's end, if it didn't end well
-abbrev pub served_end : Result Served ServeFault → Option ℕ
-served_end (Ok served) = None
-served_end (Err fault) = Some (serve_fault_code fault)
-
--- whether the collector was found gone
-abbrev pub is_lost : Result Served ServeFault → Bool
-is_lost (Ok served) = false
-is_lost (Err (Frame fault)) = false
-is_lost (Err WriteBack) = false
-is_lost (Err Number) = false
-is_lost (Err Frames) = false
-is_lost (Err Lost) = true
-
--- whether the last answer could not be written
-abbrev pub is_unwritten : Result Served ServeFault → Bool
-is_unwritten (Ok served) = false
-is_unwritten (Err (Frame fault)) = false
-is_unwritten (Err WriteBack) = true
-is_unwritten (Err Number) = false
-is_unwritten (Err Frames) = false
-is_unwritten (Err Lost) = false
-
--- whether the stream failed: at a read, or at a write
-abbrev pub is_stream_failed : Result Served ServeFault → Bool
-is_stream_failed (Ok served) = false
-is_stream_failed (Err (Frame fault)) = source_failed {T = Option (List ℕ)} (Err fault)
-is_stream_failed (Err WriteBack) = true
-is_stream_failed (Err Number) = false
-is_stream_failed (Err Frames) = false
-is_stream_failed (Err Lost) = false
+use Rattle.dsn_frame.specs.declared.serve_fault.ServeFault.{ServeFault}
+use Rattle.dsn_frame.specs.declared.session.Served.{Served}
 
 -- ---- the agent after a session
 
@@ -132,11 +91,10 @@ pub record IsServed {S : Type 0} (source : Source S) (drain : Drain S) (old new 
   pub bodies : List Body
   pub answers : List Spoken
   pub session : IsSession Connection old.limit (length old.halves.requests.sent)
-      (source.remaining before) (source.remaining after) frames bodies answers (served_end result)
-  pub asked : HasAsked old new bodies answers (is_lost result)
-  pub written : AnswersSent answer_bytes answer_frames_from (is_unwritten result)
+      (source.remaining before) (source.remaining after) frames bodies answers (session_end Connection (result_err result))
+  pub asked : HasAsked old new bodies answers (is_lost (result_err result))
+  pub written : AnswersSent answer_bytes answer_frames_from (is_unwritten (result_err result))
       (drain.contents before) (drain.contents after) (told_each frames answers)
   pub answered : IfOk result (λ served. served.frames ≡ length answers)
-  pub counts : Counts source.failures drain.flushes source.steady (is_stream_failed result) before after
-
--- ---- of private parts: one frame of a session
+  pub counts : Counts source.failures drain.flushes source.steady (is_stream_failed (result_err result))
+      before after

@@ -1,5 +1,5 @@
 -- Agents: what contracts see of an agent and its halves, and what a request of it comes to.
-use Rattle.std.specs.Prelude.{◌≡◌, Option, Some, None, Result, Ok, Err, Bool, true, false, ◌≢◌, ◌≤◌, List, All, length, ◌+◌, ◌++◌, IfSome, [], ◌∷◌, ℕ, if◌then◌else◌}
+use Rattle.std.specs.Prelude.{◌≡◌, Option, Some, None, Result, Ok, Err, Bool, true, false, ◌≢◌, ◌≤◌, List, All, length, ◌++◌, IfSome, [], ◌∷◌, ℕ}
 use Rattle.dsn_crew.specs.agents.Agent.{LaneHalves, with_sent, answer_with, after_reply, Agent}
 use Rattle.dsn_crew.specs.agents.Port.{most_connections, Given, HasGiven, Conn, Session, bodies_of, answers_of, faults_of, AreSessions, AreOverPort, all_given}
 use Rattle.dsn_crew.specs.agents.Serve.{HasAsked}
@@ -7,14 +7,19 @@ use Rattle.dsn_crew.specs.declared.agents.agent_line.AgentLine.{AgentLine}
 use Rattle.dsn_crew.specs.declared.agents.ask_fault.AskFault.TheVariants as asks
 use Rattle.dsn_crew.specs.declared.agents.ask_fault.AskFault.TheVariants.{Limit, Lost}
 use Rattle.dsn_crew.specs.declared.agents.ask_fault.AskFault.{AskFault}
-use Rattle.dsn_crew.specs.declared.agents.serve_fault.ServeFault.TheVariants.{Lost}
-use Rattle.dsn_crew.specs.declared.agents.turn.Turn.{Turn}
+use Rattle.dsn_frame.specs.declared.session.Turn.{Turn}
 use Rattle.dsn_crew.specs.declared.agents.unanswered.Unanswered.{Unanswered}
 use Rattle.dsn_crew.specs.declared.agents.unheard.Cause.TheVariants.{Unsent, Sent, Answered}
 use Rattle.dsn_crew.specs.declared.agents.unheard.Cause.{Cause}
 use Rattle.dsn_crew.specs.declared.agents.unheard.Unheard.{Unheard}
 use Rattle.dsn_crew.specs.inner.PortEnd.{PortEnd}
+use Rattle.dsn_device.specs.Counts.{Counts}
+use Rattle.dsn_device.specs.declared.drain.Drain.{Ghosts as Drain}
+use Rattle.dsn_device.specs.declared.source.Source.{Ghosts as Source}
+use Rattle.dsn_frame.specs.SentAnswers.{AnswersSent}
 use Rattle.dsn_frame.specs.Session.{Connection, Takes}
+use Rattle.dsn_frame.specs.bodies.Spoken.{answer_bytes, answer_frames_from, told_each}
+use Rattle.dsn_frame.specs.inner.Session.{end_after}
 use Rattle.dsn_frame.specs.declared.bodies.spoken.Spoken.TheVariants as spoken
 use Rattle.dsn_frame.specs.declared.bodies.spoken.Spoken.{Spoken}
 use Rattle.dsn_outcome.specs.Body.{body_of}
@@ -23,7 +28,7 @@ use Rattle.dsn_outcome.specs.Request.{Body, Bye}
 use Rattle.dsn_outcome.specs.declared.answer.Answer.{Answer}
 use Rattle.dsn_outcome.specs.declared.answer.Reply.TheVariants.{Gone}
 use Rattle.dsn_outcome.specs.declared.body.Body
-use Rattle.dsn_text.specs.FaultCode.{lane_lost_code, used_up_code, out_of_turn_code}
+use Rattle.dsn_text.specs.FaultCode.{lane_lost_code, used_up_code}
 
 -- a body that has no answer is not sent, and handed back; or it is sent
 abbrev pub IsUnanswered : LaneHalves → Body → LaneHalves → Option Body.Body → Type 0
@@ -108,7 +113,7 @@ answer_in (Some turn) = turn.answer ∷ []
 -- the number with which one frame ends the session, if it does
 abbrev pub turn_end : Option Turn → Option ℕ
 turn_end None = Some lane_lost_code
-turn_end (Some turn) = if turn.over then Some out_of_turn_code else None
+turn_end (Some turn) = end_after turn.over
 
 abbrev pub has_lost : Option Turn → Bool
 has_lost None = true
@@ -120,3 +125,13 @@ pub record IsTurn (old new : Agent) (place : ℕ) (bytes : List ℕ) (turn : Opt
   pub takes : Takes Connection old.limit (length old.halves.requests.sent) place bytes bodies
       (answer_in turn) (turn_end turn)
   pub asked : HasAsked old new bodies (answer_in turn) (has_lost turn)
+
+-- what an agent answered of a session: these bodies were asked, and the frames of the answers are in
+-- the stream; by whether the collector was found gone, the last frame lost, and the stream failed
+pub record HasAnswered {S : Type 0} (source : Source S) (drain : Drain S) (old new : Agent)
+    (before after : S) (frames : List (List ℕ)) (bodies : List Body) (answers : List Spoken)
+    (gone unwritten failed : Bool) : Type 0 where
+  pub asked : HasAsked old new bodies answers gone
+  pub written : AnswersSent answer_bytes answer_frames_from unwritten (drain.contents before)
+      (drain.contents after) (told_each frames answers)
+  pub counts : Counts source.failures drain.flushes source.steady failed before after

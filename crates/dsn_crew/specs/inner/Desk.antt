@@ -1,5 +1,5 @@
 -- Desks: what contracts see of the collector, and what each request that it takes comes to.
-use Rattle.std.specs.Prelude.{ℕ, Bool, List, [], None, Option, Some, ◌≡◌, ◌≤◌, length, is_some, ◌+◌, ◌∷◌, ◌++◌, take, drop}
+use Rattle.std.specs.Prelude.{ℕ, Bool, List, [], None, Option, Some, ◌≡◌, ◌≤◌, length, is_some, ◌∷◌, ◌++◌, take, drop}
 use Rattle.dsn_book.specs.declared.keeper.Keeper.{Ghosts as Keeper}
 use Rattle.dsn_book.specs.declared.not_kept.NotKept.{NotKept}
 use Rattle.dsn_crew.specs.declared.breach.Breach.TheVariants.{AgentGone, HandedBack, Full, Unkept}

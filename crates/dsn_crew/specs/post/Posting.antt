@@ -1,7 +1,6 @@
 -- Posting: what the poster's thread comes to, and the outbox at its end.
 use Rattle.std.specs.Prelude.{◌≡◌, ℕ, ◌+◌, ◌≤◌, List, [], ◌++◌, length, is_none}
 use Rattle.std.specs.Io.KnownBytes.{Appends}
-use mathlib.Core.List.{IsPrefix}
 use Rattle.dsn_device.specs.UntilFailure.{TakesNoTime}
 use Rattle.dsn_device.specs.declared.drain.Drain.{Ghosts as Drain}
 use Rattle.dsn_crew.specs.lane.Halves.{Identity}

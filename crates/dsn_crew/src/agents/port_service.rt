@@ -2,7 +2,8 @@
 ghost use Rattle.std.specs.Prelude.{◌≡◌, length};
 ghost use Rattle.dsn_crew.specs.agents.Agent.{IsAgent};
 ghost use Rattle.dsn_crew.specs.inner.Agent.{HasServedOnly, IsPortServed};
-ghost use Rattle.dsn_crew.specs.agents.Serve;
+ghost use Rattle.dsn_frame.specs.ServeFault.{is_lost};
+ghost use Rattle.std.specs.Result.{result_err};
 
 use crate::agents::agent::Agent;
 use crate::agents::agent_line::AgentLine;
@@ -10,8 +11,7 @@ use crate::agents::gate::Gate;
 use crate::agents::next_connection::Next;
 use crate::agents::port::Port;
 use crate::agents::port_end::PortEnd;
-use crate::agents::serve_fault::ServeFault;
-use crate::agents::served::Served;
+use dsn_frame::{ServeFault, Served};
 use std::alloc::Global;
 use std::sync::Wait;
 
@@ -88,7 +88,7 @@ fn serve_connections<P: Port, G: Gate>(
 
 /// Whether a session found the collector gone.
 fn is_lost(served: &Result<Served, ServeFault>) -> bool
-    ensures { result ≡ Serve.is_lost served.now }
+    ensures { result ≡ is_lost (result_err served.now) }
 {
     matches!(served, Err(ServeFault::Lost))
 }

@@ -6,16 +6,18 @@ ghost use Rattle.dsn_frame.specs.bodies.Request.{Encodes};
 ghost use Rattle.dsn_frame.specs.bodies.Spoken.{answer_bytes, told_to};
 ghost use Rattle.dsn_crew.specs.agents.Agent.{IsAgent};
 ghost use Rattle.dsn_crew.specs.agents.Serve.{IsServed};
-ghost use Rattle.dsn_crew.specs.inner.Agent.{IsTurn};
+ghost use Rattle.dsn_crew.specs.inner.Agent.{IsTurn, asked_turn};
 
 use crate::agents::agent::Agent;
+use crate::agents::ask_fault::AskFault;
 use crate::agents::gate::Gate;
-use crate::agents::serve_fault::ServeFault;
-use crate::agents::served::Served;
-use crate::agents::turn::Turn;
 use dsn_device::{Stream, send};
-use dsn_frame::{FrameBuffer, Spoken, encode_answer, next_request};
-use dsn_outcome::{Body, ShortText};
+use dsn_frame::{
+    FrameBuffer, FrameFault, Responder, ServeFault, Served, Spoken, Turn, encode_answer,
+    next_request, run_session,
+};
+use dsn_outcome::{Answer, Body, ShortText};
+use dsn_text::fault_code;
 use std::alloc::Global;
 use std::sync::Wait;
 
@@ -44,34 +46,17 @@ impl Agent {
         ensures kept { IsAgent self.new }
     {
         let limit = self.limit;
-        let mut buffer = FrameBuffer::new(alloc);
-        for place in 0..limit {
-            if let Err(fault) = buffer.read_next(stream) {
-                return Err(ServeFault::Frame(fault));
-            }
-            let Some(frame) = buffer.frame() else {
-                return Ok(Served { frames: place });
-            };
-            let bytes = frame.body();
-            let Some(turn) = self.answer(rt, alloc, gate, place, bytes) else {
-                return Err(ServeFault::Lost);
-            };
-            // One write and no flush: a socket passes a write on, and who owns a buffered stream
-            // flushes it.
-            if send(stream, frame_told(place, bytes, turn.answer).bytes()).is_err() {
-                return Err(ServeFault::WriteBack);
-            }
-            if turn.over {
-                return Err(ServeFault::Number);
-            }
-        }
-        if let Err(fault) = buffer.read_next(stream) {
-            return Err(ServeFault::Frame(fault));
-        }
-        match buffer.frame() {
-            Some(_) => Err(ServeFault::Frames),
-            None => Ok(Served { frames: limit }),
-        }
+        run_session(
+            alloc,
+            limit,
+            &mut AgentSession {
+                alloc,
+                rt,
+                agent: self,
+                stream,
+                gate,
+            },
+        )
     }
 
     /// What the frame at this place of a connection is answered; none where the collector is gone.
@@ -109,8 +94,77 @@ impl Agent {
         if let Ok(answer) = &asked {
             gate.after_answer(answer.agent, answer.number);
         }
-        Turn::of_ask(asked)
+        turn_of(asked)
     }
+}
+
+/// An agent that serves a connection.
+#[derive(Drop)]
+struct AgentSession<'a, 'b, 'c, S, G, E> {
+    alloc: Global,
+    rt: &'a E,
+    agent: &'b mut Agent,
+    stream: &'c mut S,
+    gate: &'a G,
+}
+
+impl<'a, 'b, 'c, S: Stream, G: Gate, E: Wait> Responder for AgentSession<'a, 'b, 'c, S, G, E> {
+    ghost use Rattle.std.specs.Prelude.{◌≡◌, length};
+    ghost use Rattle.dsn_frame.specs.ServeFault.{is_lost, is_stream_failed, is_unwritten};
+    ghost use Rattle.dsn_frame.specs.Session.{Connection};
+    ghost use Rattle.dsn_crew.specs.agents.Agent.{IsAgent};
+    ghost use Rattle.dsn_crew.specs.inner.Agent.{HasAnswered};
+
+    ghost medium = { Connection };
+
+    ghost remaining = { λ s. S.remaining s.stream.now };
+
+    ghost limit = { λ s. s.agent.now.limit };
+
+    ghost accepted = { λ s. length s.agent.now.halves.requests.sent };
+
+    ghost ready = { λ s _. IsAgent s.agent.now };
+
+    ghost after = { λ start now frames bodies answers fault.
+        (now.agent.ghost_name ≡ start.agent.ghost_name)
+        × (now.stream.ghost_name ≡ start.stream.ghost_name) × IsAgent now.agent.now
+        × HasAnswered S.Source S.Drain start.agent.now now.agent.now start.stream.now
+        now.stream.now frames bodies answers (is_lost fault) (is_unwritten fault)
+        (is_stream_failed fault) };
+
+    fn next(&mut self, buffer: &mut FrameBuffer) -> Result<(), FrameFault> {
+        buffer.read_next(self.stream)
+    }
+
+    fn turn(&mut self, place: u32, bytes: &[u8]) -> Result<(), ServeFault> {
+        let Some(turn) = self
+            .agent
+            .answer(self.rt, self.alloc, self.gate, place, bytes)
+        else {
+            return Err(ServeFault::Lost);
+        };
+        // One write and no flush: a socket passes a write on, and who owns a buffered stream flushes
+        // it.
+        let sent = send(self.stream, frame_told(place, bytes, turn.answer).bytes());
+        turn.after(sent.is_ok())
+    }
+
+    ghost beyond = { λ _ _ _ _ _ left. left };
+}
+
+/// What a frame is answered whose body was asked; none where the collector is gone.
+fn turn_of(asked: Result<Answer, AskFault>) -> Option<Turn>
+    ensures { result ≡ asked_turn asked }
+{
+    let answer = match asked {
+        Ok(answer) => Spoken::Reply(answer.replied()),
+        Err(AskFault::Limit(_)) => Spoken::Refused(fault_code::USED_UP),
+        Err(AskFault::Lost(_)) => return None,
+    };
+    Some(Turn {
+        answer,
+        over: false,
+    })
 }
 
 /// The frame of what the frame with this body, at this place, is told of an answer.

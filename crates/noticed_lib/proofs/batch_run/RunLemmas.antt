@@ -22,9 +22,10 @@ use Rattle.dsn_outcome.proofs.HistoryLaws.{history_more, letters_more, answers_m
 use Rattle.dsn_frame.specs.declared.bodies.spoken.Spoken.{Spoken}
 use Rattle.dsn_frame.specs.Session.{Input, Takes, asked}
 use Rattle.noticed_lib.specs.batch_run.Requests.{batch_requests_from, requests_of, AreReplies}
-use Rattle.noticed_lib.specs.inner.Run.{next_request, replied_next, Stands, Asks, Answered, end_after}
+use Rattle.noticed_lib.specs.inner.Run.{next_request, replied_next, Stands, Asks, Answered}
 use Rattle.dsn_report.specs.Outgoing.{Delivered, Outgoing}
-use Rattle.noticed_lib.specs.declared.batch_run.turn.Turn.{Turn}
+use Rattle.dsn_frame.specs.inner.Session.{end_after}
+use Rattle.dsn_frame.specs.declared.session.Turn.{Turn}
 use Rattle.noticed_lib.specs.declared.batch_run.run.Run.{Run}
 use Rattle.dsn_frame.specs.declared.bodies.spoken.Spoken.TheVariants as spoken
 
@@ -57,10 +58,6 @@ requests-more bodies more =
 pub requests-one : (before : List Request) (body : Body) → before ++ batch_requests_from (length before) (body ∷ []) ≡ before ++ next_request before body ∷ []
 unfolding batch_requests_from
 requests-one before body = refl
-
-pub requests-same : (before : List Request) (number : ℕ) → before ++ batch_requests_from number [] ≡ before
-unfolding batch_requests_from
-requests-same before number = append-nil before
 
 -- ---- the replies
 
@@ -116,7 +113,7 @@ module _ {W : Type 0} (outbox_device : Drain W) (limits : Limits) (host : List �
       → applied.agent ≡ 0 → applied.number ≡ accepted → applied.body ≡ body
       → ((letters : List Letter) → Delivered outbox_device host start outgoing letters → Delivered outbox_device host start later (letters ++ handed))
       → handed ≡ option_to_list letter
-      → Asks outbox_device limits host start (record { book = next; outgoing = later; accepted = accepted + 1 }) requests body (record { answer = spoken.Reply (replied_in answer); over = false })
+      → Asks outbox_device limits host start (record { book = next; outgoing = later; accepted = accepted + 1 }) requests body (replied_in answer)
   asked-next book next outgoing later accepted requests body applied answer letter handed stands same answer_is letter_is stands_is agent_is number_is body_is delivers handed_is =
       let history = history_of limits requests in
       let request = next_request requests body in
@@ -127,8 +124,7 @@ module _ {W : Type 0} (outbox_device : Drain W) (limits : Limits) (host : List �
       let sealed = rw (kept, next_is) at (letter_is history stands.book) in
       let represents = rw (kept, next_is) at (stands_is history stands.book) in
       let delivered = rw (handed_is, sealed) at (delivers (sealed_letters history) stands.letters) in record {
-        answer_is = ap (λ (a : Answer). spoken.Reply (replied_in a)) replied;
-        goes_on = refl;
+        reply_is = ap replied_in replied;
         stands = record {
           limits_kept = same ∙ kept;
           book = rw (history_more limits requests request) represents;
@@ -136,28 +132,6 @@ module _ {W : Type 0} (outbox_device : Drain W) (limits : Limits) (host : List �
           letters = rw (history_more limits requests request, letters_more history (exchange_of limits history request)) delivered;
         };
       }
-
-  -- a request's answer is that of its frame
-  pub answered-asked : (run : Run W) (requests : List Request) (body : Body) (turn : Turn) (position : ℕ) (bytes : List ℕ)
-      → Encodes bytes position body → length requests < limits.requests → Asks outbox_device limits host start run requests body turn
-      → Answered outbox_device limits host start run requests position bytes turn
-  answered-asked run requests body turn position bytes encoded few asks = record {
-    asked = body ∷ [];
-    takes = rw (asks.answer_is, asks.goes_on) (asked body _ encoded few);
-    replies = λ answers are. rw (requests-one requests body, asks.answer_is) (replies-asked limits answers requests body are);
-    stands = rw (requests-one requests body) asks.stands;
-  }
-
-  -- a frame that asks nothing leaves the run as it was
-  pub answered-refused : (run : Run W) (requests : List Request) (number position : ℕ) (bytes : List ℕ) (turn : Turn) (end : Option ℕ)
-      → turn.answer ≡ spoken.Refused number → end_after turn.over ≡ end → Takes Input limits.requests (length requests) position bytes [] (spoken.Refused number ∷ []) end
-      → Stands outbox_device limits host start run requests → Answered outbox_device limits host start run requests position bytes turn
-  answered-refused run requests number position bytes turn end answer_is over_is takes stands = record {
-    asked = [];
-    takes = rw (answer_is, over_is) takes;
-    replies = λ answers are. rw (requests-same requests (length requests), answer_is) (replies-refused limits answers requests number are);
-    stands = rw (requests-same requests (length requests)) stands;
-  }
 
   -- a book with no key and no letters on their way stand for no requests
   pub stands-nothing : (book : Book) (outgoing : Outgoing W) → book.limits ≡ limits → Represents book [] → Delivered outbox_device host start outgoing []
@@ -168,4 +142,34 @@ module _ {W : Type 0} (outbox_device : Drain W) (limits : Limits) (host : List �
     book = rw (history-none limits) represents;
     count = refl;
     letters = rw (letters-none limits) delivered;
+  }
+
+module _ {W : Type 0} (outbox_device : Drain W) where
+  -- a request's answer is that of its frame
+  pub answered-asked : (old new : Run W) (body : Body) (reply : Replied) (position : ℕ) (bytes : List ℕ)
+      → Encodes bytes position body → old.accepted < old.book.limits.requests → new.accepted ≡ old.accepted + 1 → new.book.limits ≡ old.book.limits
+      → ((limits : Limits) (host : List ℕ) (start : W) (requests : List Request) → Stands outbox_device limits host start old requests → Asks outbox_device limits host start new requests body reply)
+      → Answered outbox_device old new position bytes (record { answer = spoken.Reply reply; over = false })
+  answered-asked old new body reply position bytes encoded few counted kept asks = record {
+    asked = body ∷ [];
+    takes = asked body reply encoded few;
+    counted = counted;
+    limited = kept;
+    then = λ limits host start bodies answers so_far.
+        let ask = asks limits host start (requests_of bodies) so_far.stands in
+        let same : requests_of (bodies ++ body ∷ []) ≡ requests_of bodies ++ next_request (requests_of bodies) body ∷ [] = requests-more bodies (body ∷ []) ∙ requests-one (requests_of bodies) body in
+        record { replies = rw (same, ask.reply_is) (replies-asked limits answers (requests_of bodies) body so_far.replies); stands = rw same ask.stands };
+  }
+
+  -- a frame that asks nothing leaves the run as it was
+  pub answered-refused : (run : Run W) (number position : ℕ) (bytes : List ℕ) (turn : Turn) (end : Option ℕ)
+      → turn.answer ≡ spoken.Refused number → end_after turn.over ≡ end → Takes Input run.book.limits.requests run.accepted position bytes [] (spoken.Refused number ∷ []) end
+      → Answered outbox_device run run position bytes turn
+  answered-refused run number position bytes turn end answer_is over_is takes = record {
+    asked = [];
+    takes = rw (answer_is, over_is) takes;
+    counted = omega arith;
+    limited = refl;
+    then = λ limits host start bodies answers so_far.
+        rw (append-nil bodies, answer_is) (record { replies = replies-refused limits answers (requests_of bodies) number so_far.replies; stands = so_far.stands });
   }

@@ -3,15 +3,12 @@ use Rattle.std.proofs.Common.{◌≡◌, ◌≢◌, ℕ, List, [], sym, subst, �
 use Rattle.std.specs.Prelude.{Option, Some, None, Ok, Err}
 use Rattle.std.specs.Io.KnownBytes.{Appends, Consumes, IsAtEnd, Keeps}
 use Rattle.std.proofs.KnownBytes.{Appends-kept, Consumes-kept, Consumes-nil, Consumes-trans}
-use Rattle.dsn_device.specs.Transfer.{AppendsPart}
 use Rattle.dsn_device.specs.declared.drain.Drain.{Ghosts as Drain}
 use Rattle.dsn_device.specs.declared.source.Source.{Ghosts as Source}
 use Rattle.dsn_frame.specs.bodies.FrameBody.{frame}
-use Rattle.dsn_frame.specs.bodies.Spoken.{FitsAnswer, answer_body, answer_bytes, first_answer_fault}
-use Rattle.dsn_frame.specs.declared.bodies.answer_fault.AnswerFault.{AnswerFault}
+use Rattle.dsn_frame.specs.bodies.Spoken.{FitsAnswer, answer_body, answer_bytes}
 use Rattle.dsn_frame.specs.declared.bodies.spoken.Spoken.{Spoken}
-use Rattle.dsn_frame.specs.Frame.{ReadsNext, ReadsNone}
-use Rattle.dsn_frame.specs.declared.frame_fault.FrameFault.{FrameFault}
+use Rattle.dsn_frame.specs.Frame.{ReadsNext}
 use Rattle.noticed_lib.specs.client.Ask.{IsAnswer, IsAsked}
 use Rattle.noticed_lib.specs.declared.client.send_fault.SendFault.TheVariants as faults
 

@@ -1,18 +1,17 @@
 -- The requests of an input that is read alone: which they are, and what they are answered (this
-use Rattle.std.specs.Prelude.{List, length, ℕ, ◌≡◌, false, [], ◌∷◌, ◌++◌, Bool, Option, Some, None, if◌then◌else◌}
+use Rattle.std.specs.Prelude.{List, length, ℕ, ◌≡◌, ◌+◌, [], ◌∷◌, ◌++◌}
 use Rattle.dsn_book.specs.Book.{Represents}
 use Rattle.dsn_device.specs.declared.drain.Drain.{Ghosts as Drain}
 use Rattle.dsn_frame.specs.Session.{Input, Takes}
-use Rattle.dsn_frame.specs.declared.bodies.spoken.Spoken.TheVariants as spoken
 use Rattle.dsn_frame.specs.declared.bodies.spoken.Spoken.{Spoken}
 use Rattle.dsn_outcome.specs.History.{Limits, history_of, answer_of, exchange_of, replied_in, sealed_letters}
 use Rattle.dsn_outcome.specs.Request.{Request, Body}
 use Rattle.dsn_outcome.specs.declared.answer.Replied.{Replied}
 use Rattle.dsn_report.specs.Outgoing.{Delivered}
-use Rattle.dsn_text.specs.FaultCode.{out_of_turn_code}
-use Rattle.noticed_lib.specs.batch_run.Requests.{AreReplies, batch_requests_from}
+use Rattle.noticed_lib.specs.batch_run.Requests.{AreReplies, requests_of}
 use Rattle.noticed_lib.specs.declared.batch_run.run.Run.{Run}
-use Rattle.noticed_lib.specs.declared.batch_run.turn.Turn.{Turn}
+use Rattle.dsn_frame.specs.declared.session.Turn.{Turn}
+use Rattle.dsn_frame.specs.inner.Session.{end_after}
 
 -- the next request after these: its number is how many there are
 abbrev pub next_request : List Request → Body → Request
@@ -41,24 +40,24 @@ pub record Stands {W : Type 0} (outbox_device : Drain W) (limits : Limits) (host
 
 -- a request was taken, and the run stands for the requests with it
 pub record Asks {W : Type 0} (outbox_device : Drain W) (limits : Limits) (host : List ℕ)
-    (start : W) (run : Run W) (before : List Request) (body : Body) (turn : Turn) : Type 0 where
-  pub answer_is : turn.answer ≡ spoken.Reply (replied_next limits before body)
-  pub goes_on : turn.over ≡ false
+    (start : W) (run : Run W) (before : List Request) (body : Body) (reply : Replied) : Type 0 where
+  pub reply_is : reply ≡ replied_next limits before body
   pub stands : Stands outbox_device limits host start run (before ++ next_request before body ∷ [])
 
--- the number that an answer ends the session with, if it does
-abbrev pub end_after : Bool → Option ℕ
-end_after over = if over then Some out_of_turn_code else None
+-- the run stands for the requests that these bodies make, and their replies are among the answers
+pub record RunStands {W : Type 0} (outbox_device : Drain W) (limits : Limits) (host : List ℕ)
+    (start : W) (run : Run W) (bodies : List Body) (answers : List Spoken) : Type 0 where
+  pub replies : AreReplies limits answers (requests_of bodies)
+  pub stands : Stands outbox_device limits host start run (requests_of bodies)
 
 -- a frame was answered as a session answers it, and the run stands for the requests after it
-pub record Answered {W : Type 0} (outbox_device : Drain W) (limits : Limits) (host : List ℕ)
-    (start : W) (run : Run W) (before : List Request) (position : ℕ) (bytes : List ℕ)
-    (turn : Turn) : Type 0 where
+pub record Answered {W : Type 0} (outbox_device : Drain W) (old new : Run W) (position : ℕ)
+    (bytes : List ℕ) (turn : Turn) : Type 0 where
   pub asked : List Body
-  pub takes : Takes Input limits.requests (length before) position bytes asked (turn.answer ∷ [])
-      (end_after turn.over)
-  pub replies : (answers : List Spoken) → AreReplies limits answers before
-      → AreReplies limits (answers ++ turn.answer ∷ [])
-      (before ++ batch_requests_from (length before) asked)
-  pub stands : Stands outbox_device limits host start run
-      (before ++ batch_requests_from (length before) asked)
+  pub takes : Takes Input old.book.limits.requests old.accepted position bytes asked
+      (turn.answer ∷ []) (end_after turn.over)
+  pub counted : new.accepted ≡ old.accepted + length asked
+  pub limited : new.book.limits ≡ old.book.limits
+  pub then : (limits : Limits) (host : List ℕ) (start : W) (bodies : List Body)
+      (answers : List Spoken) → RunStands outbox_device limits host start old bodies answers
+      → RunStands outbox_device limits host start new (bodies ++ asked) (answers ++ turn.answer ∷ [])

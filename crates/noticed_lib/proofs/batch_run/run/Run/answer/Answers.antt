@@ -5,10 +5,9 @@ use Rattle.noticed_lib.proofs.batch_run.RunLemmas.{answered-asked, answered-refu
 use Rattle.noticed_lib.proofs.batch_run.run.Run.answer.Goals as goal
 
 pub returns-in-Ok-clause-answered : goal.returns-in-Ok-clause-answered
-returns-in-Ok-clause-answered g c = λ limits host start requests stands few.
-    answered-asked _ limits host start _ requests _ _ _ _ c.in-Ok.ensures.encoded few (c.ask.ensures.asked limits host start requests stands)
+returns-in-Ok-clause-answered g c =
+    answered-asked _ _ _ _ _ _ _ c.in-Ok.ensures.encoded c.requires.few c.ask.ensures.counted c.ask.ensures.limits c.ask.ensures.asked
 
 pub returns-in-Err-clause-answered : goal.returns-in-Err-clause-answered
-returns-in-Err-clause-answered g c = λ limits host start requests stands few.
-    answered-refused _ limits host start _ requests _ _ _ _ _ (ap Refused c.code.ensures) (end-after-refusal c.in-Err.refusal _ (search rules))
-    (c.in-Err.ensures.taken Input limits.requests _) stands
+returns-in-Err-clause-answered g c =
+    answered-refused _ _ _ _ _ _ _ (ap Refused c.code.ensures) (end-after-refusal c.in-Err.refusal _ (search rules)) (c.in-Err.ensures.taken Input _ _)

@@ -1,12 +1,14 @@
-//! Why a session over a connection ended before the connection did.
+//! Why a session ended before what it reads did.
+//! Implements docs/FORMATS.md, "A session".
 ghost use Rattle.std.specs.Prelude.{◌≡◌};
-ghost use Rattle.dsn_crew.specs.agents.Serve.{serve_fault_code};
+ghost use Rattle.dsn_frame.specs.ServeFault.{serve_fault_code};
+ghost use Rattle.dsn_frame.specs.Session.{Connection};
 
-use dsn_frame::FrameFault;
+use crate::frame_fault::FrameFault;
 use dsn_text::fault_code;
 use thiserror::Error;
 
-/// Why a session ended before its connection did.
+/// Why a session ended before what it reads did.
 #[derive(Clone, Copy, Debug, PartialEq, Eq, Error)]
 pub enum ServeFault {
     /// The next frame could not be read.
@@ -27,9 +29,9 @@ pub enum ServeFault {
 }
 
 impl ServeFault {
-    /// The number of the fault: that of the frame's fault, 35, 46, 47 or 41.
+    /// The number of the fault on a connection: that of the frame's fault, 35, 46, 47 or 41.
     pub fn code(&self) -> u32
-        ensures { result ≡ serve_fault_code self.now }
+        ensures { result ≡ serve_fault_code Connection self.now }
     {
         match self {
             ServeFault::Frame(fault) => fault.code(),

@@ -9,7 +9,7 @@ use Rattle.dsn_crew.specs.agents.Agent.{LaneHalves}
 use Rattle.dsn_crew.specs.agents.Port.{AreOverPort, Given, all_given}
 use Rattle.dsn_crew.specs.Crew.{Account, AreAgentAccounts, IsAccountAfter, IsAgentAccount, PostedBefore, most_ports, none_posted}
 use Rattle.dsn_crew.specs.declared.crew_cause.CrewCause.{CrewCause}
-use Rattle.dsn_crew.specs.declared.crew_cause.CrewCause.TheVariants.{PortCount, Refused, Unkept}
+use Rattle.dsn_crew.specs.declared.crew_cause.CrewCause.TheVariants.{PortCount, Unkept}
 use Rattle.dsn_crew.specs.declared.agents.agent_line.AgentLine.{AgentLine}
 use Rattle.dsn_crew.specs.declared.agents.port.Port.{Ghosts as Port}
 use Rattle.dsn_device.specs.declared.drain.Drain.{Ghosts as Drain}

@@ -1,6 +1,6 @@
 -- What came of the agents shows why the run was broken off.
 use Rattle.std.proofs.Common.{sym, subst}
-use Rattle.std.specs.Prelude.{Some, Ok, Err}
+use Rattle.std.specs.Prelude.{Some, Err}
 use Rattle.dsn_crew.specs.inner.Breach.{IsShown}
 use Rattle.dsn_crew.specs.inner.Conclude.{MayClose}
 use Rattle.dsn_crew.specs.declared.breach.Breach.{Breach}

@@ -8,5 +8,7 @@ pub mod IndexLemmas
 pub mod ListLemmas
 pub mod OpenLineLemmas
 pub mod PermutationLemmas
+mod ReleaseExamples
+pub mod ReleaseLemmas
 pub mod RemoveLemmas
 pub mod StepLemmas

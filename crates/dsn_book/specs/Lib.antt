@@ -7,5 +7,6 @@ pub mod Keeper
 pub mod Limits
 pub mod NotKept
 pub mod OpenLine
+pub mod Release
 pub mod Step
 pub mod inner

@@ -7,8 +7,9 @@
 ghost use Rattle.std.specs.Prelude.{◌≡◌, ◌+◌, ◌-◌, ◌^◌, ◌<◌, ◌≤◌, List, [], ◌∷◌, ◌++◌, OnOk, IfErr};
 ghost use Rattle.dsn_device.specs.Throughout.{LeavesThroughout};
 ghost use Rattle.dsn_book.specs.Crash.{ReopensAfterSome};
+ghost use Rattle.dsn_book.specs.Release.{before_request, exchange_under, history_next, history_under};
 ghost use Rattle.dsn_book.specs.Step.{letters_in};
-ghost use Rattle.dsn_outcome.specs.History.{Exchange, answer_of, exchange_of, history_after, letter_of};
+ghost use Rattle.dsn_outcome.specs.History.{Exchange, answer_of, letter_of};
 ghost use Rattle.dsn_outcome.specs.Request.{Request};
 
 use crate::book::Book;
@@ -28,10 +29,11 @@ pub trait Keeper {
     ghost use Rattle.std.specs.Prelude.{ℕ, List};
     ghost use Rattle.dsn_outcome.specs.History.{Limits, Exchange};
     ghost use Rattle.dsn_outcome.specs.Request.{Request};
+    ghost use Rattle.dsn_book.specs.Release.{Rules};
     ghost use Rattle.dsn_book.specs.declared.not_kept.NotKept.{NotKept};
 
-    // The limits that decide the replies.
-    ghost limits: { Self → Limits };
+    // The limits that decide the replies, and whether a closed key is released to make room.
+    ghost rules: { Self → Rules };
 
     // It models this history, and these kept requests may be carried out next, in this order.
     ghost has: { Self → List Exchange → List Request → Type 0 };
@@ -55,7 +57,7 @@ pub trait Keeper {
 
     /// The limits of the keeper.
     fn limits(&self) -> Limits
-        ensures { result ≡ limits self.now };
+        ensures { result ≡ (rules self.now).limits };
 
     /// Keeps requests, so that they may be carried out. Requires that it models some history and
     /// that no kept request waits.
@@ -69,28 +71,32 @@ pub trait Keeper {
         ensures refused { IfErr result (λ why. refuses self.old requests.now why self.new) }
         ensures any_moment { (t : List Exchange) → has self.old t []
             → LeavesThroughout moment left_since self.old self.new
-            (ReopensAfterSome reopens (limits self.old) t requests.now) }
-        ensures limits { limits self.new ≡ limits self.old }
+            (ReopensAfterSome reopens (rules self.old) t requests.now) }
+        ensures rules { rules self.new ≡ rules self.old }
         ensures sealed { sealed self.new ≡ sealed self.old };
 
-    /// Carries out the next of the kept requests, and answers it. It takes no memory. Requires that
-    /// fewer than 18,446,744,073,709,551,615 letters were sealed.
+    /// Carries out the next of the kept requests, and answers it. If its rules say so, it releases
+    /// the key that was closed longest ago first, by a request of its own, to make room for a new
+    /// key. It takes no memory. Requires that fewer than 18,446,744,073,709,551,615 letters were
+    /// sealed.
     fn apply(&mut self, request: Request) -> Step
         requires has { (t : List Exchange) × (rest : List Request)
             × has self.old t (request ∷ rest) }
         requires room { sealed self.old < 2 ^ 64 - 1 }
-        ensures limits { limits self.new ≡ limits self.old }
+        ensures rules { rules self.new ≡ rules self.old }
         ensures asked { (result.answer.agent ≡ request.agent)
             × (result.answer.number ≡ request.number) }
         ensures answer { (t : List Exchange) (rest : List Request)
             → has self.old t (request ∷ rest)
-            → result.answer ≡ answer_of t (exchange_of (limits self.old) t request) }
+            → result.answer ≡ answer_of (before_request (rules self.old) t request)
+            (exchange_under (rules self.old) t request) }
         ensures letter { (t : List Exchange) (rest : List Request)
             → has self.old t (request ∷ rest)
-            → letters_in result.letter ≡ letter_of t (exchange_of (limits self.old) t request) }
+            → letters_in result.letter ≡ letter_of (before_request (rules self.old) t request)
+            (exchange_under (rules self.old) t request) }
         ensures has { (t : List Exchange) (rest : List Request)
             → has self.old t (request ∷ rest)
-            → has self.new (t ++ exchange_of (limits self.old) t request ∷ []) rest }
+            → has self.new (history_next (rules self.old) t request) rest }
         ensures no_moment { (moment self.new ≡ moment self.old) × ((t : ℕ) (left : List ℕ)
             → left_since self.new t left → left_since self.old t left) }
         ensures sealed { sealed self.new ≤ sealed self.old + 1 };
@@ -99,14 +105,15 @@ pub trait Keeper {
     // of a call, so that it also holds between two calls, where answers are sent.
     ghost leaves_kept: { (keeper : Self) (t : List Exchange) (requests : List Request)
         (left : List ℕ) → has keeper t requests → left_since keeper (moment keeper) left
-        → reopens (limits keeper) left (history_after (limits keeper) t requests) };
+        → reopens (rules keeper).limits left (history_under (rules keeper) t requests) };
 }
 
 /// A book keeps nothing: requests may be carried out at once, and a crash leaves nothing.
 impl Keeper for Book {
     ghost use Rattle.dsn_book.specs.Book.{Represents};
+    ghost use Rattle.dsn_book.specs.Release.{releasing_none};
 
-    ghost limits = { λ book. book.limits };
+    ghost rules = { λ book. releasing_none book.limits };
 
     ghost has = { λ book history _. Represents book history };
 

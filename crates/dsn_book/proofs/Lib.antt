@@ -1,5 +1,6 @@
 pub mod BookLemmas
 pub mod CaseLemmas
+pub mod ClosingLemmas
 pub mod CrashLemmas
 pub mod EntryLemmas
 mod Examples
@@ -7,8 +8,10 @@ pub mod HalvingLemmas
 pub mod IndexLemmas
 pub mod ListLemmas
 pub mod OpenLineLemmas
+pub mod OrderLemmas
 pub mod PermutationLemmas
 mod ReleaseExamples
 pub mod ReleaseLemmas
 pub mod RemoveLemmas
+pub mod RoomLemmas
 pub mod StepLemmas

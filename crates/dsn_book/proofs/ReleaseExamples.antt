@@ -1,8 +1,8 @@
 -- Worked examples of releases, computed by the definitions: which key makes room, and which replies
 -- follow.
-use Rattle.std.proofs.Common.{◌≡◌, ℕ, suc, Bool, true, false, List, [], ◌∷◌, ◌++◌, map, refl}
-use Rattle.std.specs.Prelude.{codes, Option, Some, None}
-use Rattle.dsn_outcome.specs.History.{Limits, Exchange, reply_to, reply_about, reply_when_open, exchange_of, history_after, since_after, held_after, is_forgotten, holds_key, closes_log, outcome_logged}
+use Rattle.std.proofs.Common.{◌≡◌, ℕ, suc, Bool, true, false, List, [], ◌∷◌, map, refl}
+use Rattle.std.specs.Prelude.{codes, None}
+use Rattle.dsn_outcome.specs.History.{Limits, reply_to, reply_about, reply_when_open, exchange_of, history_after, since_after, held_after, is_forgotten, holds_key, closes_log, outcome_logged}
 use Rattle.dsn_outcome.specs.Outcome.{Outcome}
 use Rattle.dsn_outcome.specs.Request.{Request, Body, Append, Discard, Forget}
 use Rattle.dsn_outcome.specs.declared.answer.Reply.{Reply}

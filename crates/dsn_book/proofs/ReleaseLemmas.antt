@@ -21,6 +21,10 @@ by-none true limits before = refl
 pub under-none : (rules : Rules) (before : List Exchange) → history_under rules before [] ≡ before
 under-none rules before = by-none rules.releases rules.limits before
 
+pub after-none : (limits : Limits) (before : List Exchange) → history_after limits before [] ≡ before
+unfolding history_after
+after-none limits before = refl
+
 pub history-append : (limits : Limits) (before : List Exchange) (first more : List Request) → history_after limits before (first ++ more) ≡ history_after limits (history_after limits before first) more
 unfolding history_after
 history-append limits before [] more = refl

@@ -7,11 +7,11 @@ use Rattle.dsn_outcome.specs.Request.{Request, Body, Forget, key_of}
 use Rattle.dsn_outcome.specs.declared.answer.Reply.{Reply}
 use Rattle.dsn_text.specs.declared.key.Key.{Key}
 
--- the closed keys after a reply about a key: a reply that closes the key's log adds it last
+-- the closed keys after a reply about a key: a reply that closes the key's log puts it last
 abbrev pub closed_with : Reply → List Key → Key → List Key
 closed_with reply closed key =
     if is_forgotten reply then let_go key closed
-    else (if closes_log reply then closed ++ key ∷ [] else closed)
+    else (if closes_log reply then let_go key closed ++ key ∷ [] else closed)
 
 -- the closed keys after one more exchange
 abbrev pub closed_next : List Key → Exchange → List Key

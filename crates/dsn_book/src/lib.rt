@@ -8,6 +8,7 @@ mod keeper;
 mod limits;
 mod not_kept;
 mod open_line;
+mod releasing_book;
 mod step;
 mod table;
 
@@ -17,4 +18,5 @@ pub use keeper::Keeper;
 pub use limits::{Limits, MOST_ENTRIES, MOST_LOGS, MOST_REQUESTS};
 pub use not_kept::NotKept;
 pub use open_line::OpenLine;
+pub use releasing_book::{COLLECTOR, ReleasingBook};
 pub use step::Step;

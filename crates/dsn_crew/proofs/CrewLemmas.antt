@@ -13,12 +13,14 @@ use Rattle.dsn_book.specs.Book.{Book, Represents}
 use Rattle.dsn_book.specs.Keeper.{MayCrash, book_keeper}
 use Rattle.dsn_book.specs.declared.keeper.Keeper.{Ghosts as Keeper}
 use Rattle.dsn_book.specs.declared.not_kept.NotKept.{NotKept}
+use Rattle.dsn_book.specs.Release.{Rules, history_under, releasing_none}
+use Rattle.dsn_book.proofs.ReleaseLemmas.{under-none}
 use Rattle.dsn_book.specs.Step.{letters_in}
 use Rattle.dsn_device.specs.declared.drain.Drain.{Ghosts as Drain}
 use Rattle.dsn_frame.specs.bodies.Spoken.{reply_of}
 use Rattle.dsn_crew.specs.lane.Halves.{Half, Identity}
 use Rattle.dsn_outcome.specs.Agents.{from_agent}
-use Rattle.dsn_outcome.specs.History.{Limits, Exchange, answers_to, history_after, history_of, letters_after, plain, sealed_letters}
+use Rattle.dsn_outcome.specs.History.{Limits, Exchange, answers_to, history_of, letters_after, plain, sealed_letters}
 use Rattle.dsn_outcome.specs.Letter.{Letter}
 use Rattle.dsn_outcome.specs.Request.{Request, Bye}
 use Rattle.dsn_outcome.specs.declared.answer.Answer.{Answer}
@@ -74,11 +76,11 @@ use Rattle.dsn_crew.proofs.StartServingLemmas.{are-served, starts-length}
 abbrev pub last_halves : Agent → List Session → Bool → LaneHalves
 last_halves agent sessions lost = after_reply (after_requests agent (bodies_of sessions) (flat_map reply_of (answers_of sessions)) lost).halves Bye (plain Gone)
 
-module _ (limits : Limits) (lane : Identity Request) (half : Half Answer) (conns : Option (List Conn)) (may_give : List Given → Type 0) (line : AgentLine) (halves : LaneHalves) (is : IsPortServed conns may_give (opened_agent limits.requests lane half) (record { line = line; finished = Some halves })) where
+module _ (rules : Rules) (lane : Identity Request) (half : Half Answer) (conns : Option (List Conn)) (may_give : List Given → Type 0) (line : AgentLine) (halves : LaneHalves) (is : IsPortServed conns may_give (opened_agent rules.limits.requests lane half) (record { line = line; finished = Some halves })) where
   abbrev sessions : List Session
   sessions = is.served.sessions
 
-  halves_are : halves ≡ last_halves (opened_agent limits.requests lane half) sessions is.served.lost
+  halves_are : halves ≡ last_halves (opened_agent rules.limits.requests lane half) sessions is.served.lost
   halves_are = is.goodbye.1 ∙ ap (λ (agent : Agent). after_reply agent.halves Bye (plain Gone)) is.served.asked.agent_is
 
   -- it has the place at which it was opened
@@ -89,16 +91,16 @@ module _ (limits : Limits) (lane : Identity Request) (half : Half Answer) (conns
   unfolding numbered_from
   asked = is.served.requests ∙ (ap (λ (agent : Agent). length agent.halves.requests.sent) is.served.asked.agent_is ∙ numbered-length (numbered_request half.agent) 0 (bodies_of sessions))
 
-  last_number : length (after_requests (opened_agent limits.requests lane half) (bodies_of sessions) (flat_map reply_of (answers_of sessions)) is.served.lost).halves.requests.sent ≡ line.requests
+  last_number : length (after_requests (opened_agent rules.limits.requests lane half) (bodies_of sessions) (flat_map reply_of (answers_of sessions)) is.served.lost).halves.requests.sent ≡ line.requests
   last_number = ap (λ (agent : Agent). length agent.halves.requests.sent) (sym is.served.asked.agent_is) ∙ sym is.served.requests
 
   -- where it was heard to its end, this is its account
-  pub agent_account : {B : Type 0} (keeper : Keeper B) (before : List Exchange) (desk : Desk B) (agent : ℕ) → keeper.limits desk.start ≡ limits → half.agent ≡ agent → IsHeard keeper before desk halves → IsAgentAccount conns may_give limits before desk.requests.taken agent line halves
-  agent_account keeper before desk agent limits_are number heard =
+  pub agent_account : {B : Type 0} (keeper : Keeper B) (before : List Exchange) (desk : Desk B) (agent : ℕ) → keeper.rules desk.start ≡ rules → half.agent ≡ agent → IsHeard keeper before desk halves → IsAgentAccount conns may_give rules before desk.requests.taken agent line halves
+  agent_account keeper before desk agent rules_are number heard =
       let here : halves.requests.agent ≡ agent = ap (λ (e : LaneHalves). e.requests.agent) halves_are ∙ number in record {
         number = here;
         taken_all = ap (λ (a : ℕ). from_agent (λ (request : Request). request.agent) a desk.requests.taken) (sym here) ∙ heard.taken;
-        answered = heard.got ∙ (λ i. answers_to (here i) (history_after (limits_are i) before desk.requests.taken));
+        answered = heard.got ∙ (λ i. answers_to (here i) (history_under (rules_are i) before desk.requests.taken));
         sessions = sessions;
         follow = is.served.follow;
         over = subst (λ (lost : Bool). AreOverPort conns sessions lost line.port_failed) is.goodbye.0 is.served.over;
@@ -126,9 +128,9 @@ are_from agent (half ∷ halves) lines = (
   are_from (suc agent) halves (λ a d inside. lines (suc a) d (omega (arith, inside)) ∙ (let same : agent + suc a ≡ suc agent + a = omega arith in same)),
 )
 
-module _ {P S : Type 0} (port : Port P S) (limits : Limits) (lane : Identity Request) where
+module _ {P S : Type 0} (port : Port P S) (rules : Rules) (lane : Identity Request) where
   abbrev pub Serve : List (Half Answer) → List P → List (Option PortEnd) → Type 0
-  Serve answers ports ends = AreServed port (map (opened_agent limits.requests lane) answers) ports ends
+  Serve answers ports ends = AreServed port (map (opened_agent rules.limits.requests lane) answers) ports ends
 
   -- they have the places at which they were opened
   pub same_places : (answers : List (Half Answer)) (ports : List P) (ends : List (Option PortEnd)) (lines : List AgentLine) (crew : List LaneHalves) → Serve answers ports ends → AreEnded ends lines crew → map lanes_of crew ≡ map (lanes_at lane) answers
@@ -142,11 +144,11 @@ module _ {P S : Type 0} (port : Port P S) (limits : Limits) (lane : Identity Req
   same_places (answer ∷ answers) (one ∷ ports) (end ∷ ends) [] crew served ended = absurd ended
   same_places (answer ∷ answers) (one ∷ ports) (end ∷ ends) (line ∷ lines) [] served ended = absurd ended
   same_places (answer ∷ answers) (one ∷ ports) (end ∷ ends) (line ∷ lines) (agent ∷ crew) served ended =
-      let here = subst (λ (e : Option PortEnd). IfSome e (IsPortServed (port.conns one) (port.may_give one) (opened_agent limits.requests lane answer))) ended.0 served.0 in
-      λ i. same_place limits lane answer (port.conns one) (port.may_give one) line agent here i ∷ same_places answers ports ends lines crew served.1 ended.1 i
+      let here = subst (λ (e : Option PortEnd). IfSome e (IsPortServed (port.conns one) (port.may_give one) (opened_agent rules.limits.requests lane answer))) ended.0 served.0 in
+      λ i. same_place rules lane answer (port.conns one) (port.may_give one) line agent here i ∷ same_places answers ports ends lines crew served.1 ended.1 i
 
   -- and where each was heard to its end, these are their accounts
-  pub agent_accounts : {B : Type 0} (keeper : Keeper B) (before : List Exchange) (desk : Desk B) → keeper.limits desk.start ≡ limits → (agent : ℕ) (answers : List (Half Answer)) (ports : List P) (ends : List (Option PortEnd)) (lines : List AgentLine) (crew : List LaneHalves) → AreFrom agent answers → Serve answers ports ends → AreEnded ends lines crew → All (IsHeard keeper before desk) crew → AreAgentAccounts port limits before desk.requests.taken agent ports lines crew
+  pub agent_accounts : {B : Type 0} (keeper : Keeper B) (before : List Exchange) (desk : Desk B) → keeper.rules desk.start ≡ rules → (agent : ℕ) (answers : List (Half Answer)) (ports : List P) (ends : List (Option PortEnd)) (lines : List AgentLine) (crew : List LaneHalves) → AreFrom agent answers → Serve answers ports ends → AreEnded ends lines crew → All (IsHeard keeper before desk) crew → AreAgentAccounts port rules before desk.requests.taken agent ports lines crew
   agent_accounts keeper before desk is agent [] [] [] [] [] from served ended heard = tt
   agent_accounts keeper before desk is agent [] [] [] [] (one ∷ crew) from served ended heard = absurd ended
   agent_accounts keeper before desk is agent [] [] [] (line ∷ lines) crew from served ended heard = absurd ended
@@ -157,16 +159,15 @@ module _ {P S : Type 0} (port : Port P S) (limits : Limits) (lane : Identity Req
   agent_accounts keeper before desk is agent (answer ∷ answers) (one ∷ ports) (end ∷ ends) [] crew from served ended heard = absurd ended
   agent_accounts keeper before desk is agent (answer ∷ answers) (one ∷ ports) (end ∷ ends) (line ∷ lines) [] from served ended heard = absurd ended
   agent_accounts keeper before desk is agent (answer ∷ answers) (one ∷ ports) (end ∷ ends) (line ∷ lines) (last ∷ crew) from served ended heard =
-      let here = subst (λ (e : Option PortEnd). IfSome e (IsPortServed (port.conns one) (port.may_give one) (opened_agent limits.requests lane answer))) ended.0 served.0 in (
-        agent_account limits lane answer (port.conns one) (port.may_give one) line last here keeper before desk agent is from.0 (All-head (IsHeard keeper before desk) last crew heard),
+      let here = subst (λ (e : Option PortEnd). IfSome e (IsPortServed (port.conns one) (port.may_give one) (opened_agent rules.limits.requests lane answer))) ended.0 served.0 in (
+        agent_account rules lane answer (port.conns one) (port.may_give one) line last here keeper before desk agent is from.0 (All-head (IsHeard keeper before desk) last crew heard),
         agent_accounts keeper before desk is (suc agent) answers ports ends lines crew from.1 served.1 ended.1 (All-tail (IsHeard keeper before desk) last crew heard),
       )
 
 -- ---- the letters
 
-none_taken : (limits : Limits) (before : List Exchange) (requests : List Request) → requests ≡ [] → sealed_letters (history_after limits before requests) ≡ sealed_letters before
-unfolding history_after
-none_taken limits before requests none = ap (λ (q : List Request). sealed_letters (history_after limits before q)) none
+none_taken : (rules : Rules) (before : List Exchange) (requests : List Request) → requests ≡ [] → sealed_letters (history_under rules before requests) ≡ sealed_letters before
+none_taken rules before requests none = ap (λ (q : List Request). sealed_letters (history_under rules before q)) none ∙ ap sealed_letters (under-none rules before)
 
 -- the letters of the run are those that the sink took, and then the one that the collector held
 pub run_letters : {B : Type 0} (keeper : Keeper B) (before : List Exchange) (old new : Desk B) (sink after : LetterSink) (result : Result (Unit {0}) DeskFault) → IsRun keeper before TakesLetter old new sink after result → old.requests.taken ≡ [] → sink.letters ≡ []
@@ -174,7 +175,7 @@ pub run_letters : {B : Type 0} (keeper : Keeper B) (before : List Exchange) (old
 run_letters keeper before old new sink after result run none no_sent =
     let took = handed_letters sink after run.handed run.sink_is in
     let letters : after.letters ≡ run.handed = took.0 ∙ ap (λ (ls : List Letter). ls ++ run.handed) no_sent in (
-      run.letters ∙ (λ i. none_taken (keeper.limits old.start) before old.requests.taken none i ++ (sym letters i ++ letter_kept result)),
+      run.letters ∙ (λ i. none_taken (keeper.rules old.start) before old.requests.taken none i ++ (sym letters i ++ letter_kept result)),
       took.1,
     )
 
@@ -244,37 +245,36 @@ untouched : {W : Type 0} (drain : Drain W) (start end : W) → start ≡ end →
 untouched drain start end same = subst (IsUntouched drain start) same (record { nothing = Appends-nil (drain.contents start); failures = refl; flushes = refl; marked = refl; no_moment = stands_still })
 
 -- what a run was given stands for what it did, where it never began
-given_back : {B : Type 0} (keeper : Keeper B) (before : List Exchange) (book : B) (cause : CrewCause) → (stands : StandsAtFault keeper [] before cause book) → IsHandedBack keeper (keeper.limits book) [] (history_after (keeper.limits book) before []) cause book
-unfolding history_after
-given_back keeper before book cause stands = record { limits_are = refl; stands = stands }
+given_back : {B : Type 0} (keeper : Keeper B) (before : List Exchange) (book : B) (cause : CrewCause) → (stands : StandsAtFault keeper [] before cause book) → IsHandedBack keeper (keeper.rules book) [] (history_under (keeper.rules book) before []) cause book
+given_back keeper before book cause stands = record { rules_are = refl; stands = subst (λ (t : List Exchange). StandsAtFault keeper [] t cause book) (sym (under-none (keeper.rules book) before)) stands }
 
 -- a run that never began sealed nothing, and hands back what it was given
 sealed_none : {B W : Type 0} (keeper : Keeper B) (drain : Drain W) (from : PostedBefore W) (before : List Exchange) (agents : ℕ) (book : B) (outbox : W) (cause : CrewCause) → StandsAtFault keeper [] before cause book → IsFaultWith drain from [] agents (never_begun_with cause outbox book) cause
-    → HasFault keeper drain from (keeper.limits book) before agents (never_begun_with cause outbox book)
+    → HasFault keeper drain from (keeper.rules book) before agents (never_begun_with cause outbox book)
 sealed_none keeper drain from before agents book outbox cause stands is = record {
   sealed = [];
-  are = record { are = none_taken (keeper.limits book) before [] refl ∙ sym (append-nil (sealed_letters before)) };
+  are = record { are = none_taken (keeper.rules book) before [] refl ∙ sym (append-nil (sealed_letters before)) };
   is = is;
   book = given_back keeper before book cause stands;
 }
 
-pub never_counted : {B W : Type 0} (keeper : Keeper B) (drain : Drain W) (from : PostedBefore W) (before : List Exchange) (agents : ℕ) (book : B) (outbox : W) (fault : CrewFault W B) → keeper.has book before [] → from.outbox ≡ outbox → fault ≡ never_begun_with causes.PortCount outbox book → HasFault keeper drain from (keeper.limits book) before agents fault
+pub never_counted : {B W : Type 0} (keeper : Keeper B) (drain : Drain W) (from : PostedBefore W) (before : List Exchange) (agents : ℕ) (book : B) (outbox : W) (fault : CrewFault W B) → keeper.has book before [] → from.outbox ≡ outbox → fault ≡ never_begun_with causes.PortCount outbox book → HasFault keeper drain from (keeper.rules book) before agents fault
 never_counted keeper drain from before agents book outbox fault has same is =
-    subst (HasFault keeper drain from (keeper.limits book) before agents) (sym is) (sealed_none keeper drain from before agents book outbox causes.PortCount has (sym same, refl, refl, refl))
+    subst (HasFault keeper drain from (keeper.rules book) before agents) (sym is) (sealed_none keeper drain from before agents book outbox causes.PortCount has (sym same, refl, refl, refl))
 
-pub never_begun : {B W : Type 0} (keeper : Keeper B) (drain : Drain W) (from : PostedBefore W) (before : List Exchange) (agents : ℕ) (book : B) (outbox : W) (fault : CrewFault W B) → keeper.has book before [] → from.outbox ≡ outbox → fault ≡ never_begun_with causes.Refused outbox book → HasFault keeper drain from (keeper.limits book) before agents fault
+pub never_begun : {B W : Type 0} (keeper : Keeper B) (drain : Drain W) (from : PostedBefore W) (before : List Exchange) (agents : ℕ) (book : B) (outbox : W) (fault : CrewFault W B) → keeper.has book before [] → from.outbox ≡ outbox → fault ≡ never_begun_with causes.Refused outbox book → HasFault keeper drain from (keeper.rules book) before agents fault
 never_begun keeper drain from before agents book outbox fault has same is =
-    subst (HasFault keeper drain from (keeper.limits book) before agents) (sym is)
+    subst (HasFault keeper drain from (keeper.rules book) before agents) (sym is)
     (sealed_none keeper drain from before agents book outbox causes.Refused has (inl (record { taken = refl; behind = refl; unsent = refl; outbox = untouched drain from.outbox outbox same })))
 
 -- and a crash leaves what it might have left before
-never_crashed : {B W : Type 0} (keeper : Keeper B) (before : List Exchange) (agents : ℕ) (cause : CrewCause) (outbox : W) (book : B) (fault : CrewFault W B) → LeavesKept keeper → keeper.has book before [] → fault ≡ never_begun_with cause outbox book → IfSome fault.book (MayCrashWithin keeper book (keeper.limits book) before agents fault.taken fault.behind)
+never_crashed : {B W : Type 0} (keeper : Keeper B) (before : List Exchange) (agents : ℕ) (cause : CrewCause) (outbox : W) (book : B) (fault : CrewFault W B) → LeavesKept keeper → keeper.has book before [] → fault ≡ never_begun_with cause outbox book → IfSome fault.book (MayCrashWithin keeper book (keeper.rules book) before agents fault.taken fault.behind)
 never_crashed keeper before agents cause outbox book fault law has is =
-    subst (λ (it : CrewFault _ _). IfSome it.book (MayCrashWithin keeper book (keeper.limits book) before agents it.taken it.behind)) (sym is)
+    subst (λ (it : CrewFault _ _). IfSome it.book (MayCrashWithin keeper book (keeper.rules book) before agents it.taken it.behind)) (sym is)
     (record {
       together = omega arith;
       next = record { from = All-nil (λ (request : Request). request.agent < agents); numbered = λ agent. numbered_none (λ (request : Request). request.number) };
-      at_each_moment = none_done keeper book book book (keeper.limits book) before [] law refl has;
+      at_each_moment = none_done keeper book book book (keeper.rules book) before [] law refl has;
     })
 
 never_more : {B W : Type 0} (keeper : Keeper B) (cause : CrewCause) (outbox : W) (book : B) (fault : CrewFault W B) → fault ≡ never_begun_with cause outbox book → IfSome fault.book (λ left. keeper.sealed left ≤ keeper.sealed book + length fault.taken)
@@ -282,7 +282,7 @@ never_more keeper cause outbox book fault is = subst (λ (it : CrewFault _ _). I
 
 -- the run that it was
 pub never_ran : {B P S W : Type 0} (keeper : Keeper B) (port : Port P S) (drain : Drain W) (book : B) (ports : List P) (outgoing : Outgoing W) (cause : CrewCause) (outbox : W) (fault : CrewFault W B) → LeavesKept keeper → fault ≡ never_begun_with cause outbox book
-    → ((from : PostedBefore W) → IsPostedBy drain from outgoing → (before : List Exchange) → BeginsWith keeper book before → HasFault keeper drain from (keeper.limits book) before (length ports) fault)
+    → ((from : PostedBefore W) → IsPostedBy drain from outgoing → (before : List Exchange) → BeginsWith keeper book before → HasFault keeper drain from (keeper.rules book) before (length ports) fault)
     → IsCrewRun keeper port drain book ports outgoing (Err fault)
 never_ran keeper port drain book ports outgoing cause outbox fault law is has = record {
   account = λ from by before with_it. tt;
@@ -305,13 +305,13 @@ all_of_none : (history : List Exchange) (letters : List Letter) → AreSealedAft
 unfolding letters_after
 all_of_none history letters sealed = sym sealed.are
 
-pub book_account : {P S W : Type 0} (port : Port P S) (drain : Drain W) (host : List ℕ) (limits of_book : Limits) (ports : List P) (start : W) (result : Result (Account W Book) (CrewFault W Book)) → of_book ≡ limits → IfOk result (HasAccount book_keeper port drain (none_posted host start) of_book [] ports) → IfOk result (IsAccount port drain host limits ports start)
+pub book_account : {P S W : Type 0} (port : Port P S) (drain : Drain W) (host : List ℕ) (limits of_book : Limits) (ports : List P) (start : W) (result : Result (Account W Book) (CrewFault W Book)) → of_book ≡ limits → IfOk result (HasAccount book_keeper port drain (none_posted host start) (releasing_none of_book) [] ports) → IfOk result (IsAccount port drain host limits ports start)
 book_account port drain host limits of_book ports start (Err fault) same has = tt
 book_account port drain host limits of_book ports start (Ok account) same has =
     subst (λ (l : Limits). IsAccount port drain host l ports start account) same
-    (subst (λ (letters : List Letter). IsAccountAfter book_keeper port drain (none_posted host start) of_book [] letters ports account) (all_of_none _ _ has.sealed) has.is)
+    (subst (λ (letters : List Letter). IsAccountAfter book_keeper port drain (none_posted host start) (releasing_none of_book) [] letters ports account) (all_of_none _ _ has.sealed) has.is)
 
-pub book_fault : {W : Type 0} (drain : Drain W) (host : List ℕ) (limits of_book : Limits) (agents : ℕ) (start : W) (result : Result (Account W Book) (CrewFault W Book)) → of_book ≡ limits → IfErr result (HasFault book_keeper drain (none_posted host start) of_book [] agents)
+pub book_fault : {W : Type 0} (drain : Drain W) (host : List ℕ) (limits of_book : Limits) (agents : ℕ) (start : W) (result : Result (Account W Book) (CrewFault W Book)) → of_book ≡ limits → IfErr result (HasFault book_keeper drain (none_posted host start) (releasing_none of_book) [] agents)
     → IfErr result (λ fault. IsCrewFault drain host limits agents start fault fault.cause)
 book_fault drain host limits of_book agents start (Ok account) same has = tt
 book_fault drain host limits of_book agents start (Err fault) same has =
@@ -319,34 +319,34 @@ book_fault drain host limits of_book agents start (Err fault) same has =
     (subst (λ (letters : List Letter). IsFaultWith drain (none_posted host start) letters agents fault fault.cause) (all_of_none _ _ has.are) has.is)
 
 -- a book refuses nothing
-unkept_never : (limits : Limits) (behind : List Request) (exchanges : List Exchange) (why : NotKept) (book : Option Book) → is_some book ≡ true → IfSome book (IsHandedBack book_keeper limits behind exchanges (causes.Unkept why)) → ⊥
-unkept_never limits behind exchanges why None some handed = absurd (false≢true some)
-unkept_never limits behind exchanges why (Some book) some handed = handed.stands.2
+unkept_never : (rules : Rules) (behind : List Request) (exchanges : List Exchange) (why : NotKept) (book : Option Book) → is_some book ≡ true → IfSome book (IsHandedBack book_keeper rules behind exchanges (causes.Unkept why)) → ⊥
+unkept_never rules behind exchanges why None some handed = absurd (false≢true some)
+unkept_never rules behind exchanges why (Some book) some handed = handed.stands.2
 
-pub book_kept : {W : Type 0} (drain : Drain W) (host : List ℕ) (limits : Limits) (agents : ℕ) (start : W) (result : Result (Account W Book) (CrewFault W Book)) → IfErr result (HasFault book_keeper drain (none_posted host start) limits [] agents) → IfErr result (λ fault. (why : NotKept) → fault.cause ≢ causes.Unkept why)
-book_kept drain host limits agents start (Ok account) has = tt
-book_kept drain host limits agents start (Err fault) has = λ why same.
+pub book_kept : {W : Type 0} (drain : Drain W) (host : List ℕ) (rules : Rules) (agents : ℕ) (start : W) (result : Result (Account W Book) (CrewFault W Book)) → IfErr result (HasFault book_keeper drain (none_posted host start) rules [] agents) → IfErr result (λ fault. (why : NotKept) → fault.cause ≢ causes.Unkept why)
+book_kept drain host rules agents start (Ok account) has = tt
+book_kept drain host rules agents start (Err fault) has = λ why same.
     let broken : IsBrokenOff drain (none_posted host start) has.sealed agents fault = subst (IsFaultWith drain (none_posted host start) has.sealed agents fault) same has.is in
-    unkept_never limits fault.behind (history_after limits [] fault.taken) why fault.book broken.handed_back
-    (subst (λ (cause : CrewCause). IfSome fault.book (IsHandedBack book_keeper limits fault.behind (history_after limits [] fault.taken) cause)) same has.book)
+    unkept_never rules fault.behind (history_under rules [] fault.taken) why fault.book broken.handed_back
+    (subst (λ (cause : CrewCause). IfSome fault.book (IsHandedBack book_keeper rules fault.behind (history_under rules [] fault.taken) cause)) same has.book)
 
 -- so it stands for what was taken
-stood_book : (limits : Limits) (behind : List Request) (exchanges : List Exchange) (cause : CrewCause) (book : Book) → IsHandedBack book_keeper limits behind exchanges cause book → Represents book exchanges
-stood_book limits behind exchanges causes.Lost book handed = handed.stands
-stood_book limits behind exchanges causes.Refused book handed = handed.stands
-stood_book limits behind exchanges causes.PortCount book handed = handed.stands
-stood_book limits behind exchanges (causes.Unkept why) book handed = absurd handed.stands.2
+stood_book : (rules : Rules) (behind : List Request) (exchanges : List Exchange) (cause : CrewCause) (book : Book) → IsHandedBack book_keeper rules behind exchanges cause book → Represents book exchanges
+stood_book rules behind exchanges causes.Lost book handed = handed.stands
+stood_book rules behind exchanges causes.Refused book handed = handed.stands
+stood_book rules behind exchanges causes.PortCount book handed = handed.stands
+stood_book rules behind exchanges (causes.Unkept why) book handed = absurd handed.stands.2
 
-left_book : (limits : Limits) (behind : List Request) (exchanges : List Exchange) (cause : CrewCause) (book : Option Book) → IfSome book (IsHandedBack book_keeper limits behind exchanges cause) → IfSome book (λ it. (it.limits ≡ limits) × Represents it exchanges)
+left_book : (limits : Limits) (behind : List Request) (exchanges : List Exchange) (cause : CrewCause) (book : Option Book) → IfSome book (IsHandedBack book_keeper (releasing_none limits) behind exchanges cause) → IfSome book (λ it. (it.limits ≡ limits) × Represents it exchanges)
 left_book limits behind exchanges cause None handed = tt
-left_book limits behind exchanges cause (Some book) handed = (handed.limits_are, stood_book limits behind exchanges cause book handed)
+left_book limits behind exchanges cause (Some book) handed = (ap (λ (rules : Rules). rules.limits) handed.rules_are, stood_book (releasing_none limits) behind exchanges cause book handed)
 
-pub book_left : {W : Type 0} (drain : Drain W) (host : List ℕ) (limits of_book : Limits) (agents : ℕ) (start : W) (result : Result (Account W Book) (CrewFault W Book)) → of_book ≡ limits → IfErr result (HasFault book_keeper drain (none_posted host start) of_book [] agents)
+pub book_left : {W : Type 0} (drain : Drain W) (host : List ℕ) (limits of_book : Limits) (agents : ℕ) (start : W) (result : Result (Account W Book) (CrewFault W Book)) → of_book ≡ limits → IfErr result (HasFault book_keeper drain (none_posted host start) (releasing_none of_book) [] agents)
     → IfErr result (λ fault. IfSome fault.book (λ book. (book.limits ≡ limits) × Represents book (history_of limits fault.taken)))
 book_left drain host limits of_book agents start (Ok account) same has = tt
 book_left drain host limits of_book agents start (Err fault) same has =
     subst (λ (l : Limits). IfSome fault.book (λ book. (book.limits ≡ l) × Represents book (history_of l fault.taken))) same
-    (left_book of_book fault.behind (history_after of_book [] fault.taken) fault.cause fault.book has.book)
+    (left_book of_book fault.behind (history_under (releasing_none of_book) [] fault.taken) fault.cause fault.book has.book)
 
 -- ---- why a run was broken off
 
@@ -414,11 +414,11 @@ module _ {B : Type 0} (keeper : Keeper B) (desk : Desk B) (exchanges : List Exch
 -- ---- the whole
 
 module _ {B P S : Type 0} (keeper : Keeper B) (port : Port P S) (book : B) (ports : List P) (count : ℕ) (agents : List Agent) (desk : Desk B) (opened : IsOpened keeper book count agents desk) (count_is : count ≡ length ports) (handles : List (Option (PromisedHandle PortEnd (Serves P)))) (started : AreStarted agents ports handles) where
-  abbrev limits : Limits
-  limits = keeper.limits book
+  abbrev rules : Rules
+  rules = keeper.rules book
 
   pub handles_length : length handles ≡ count
-  handles_length = starts-length agents ports handles started ∙ (ap length opened.crew_is ∙ (length-map desk.answers (opened_agent limits.requests desk.requests.lane) ∙ opened.count))
+  handles_length = starts-length agents ports handles started ∙ (ap length opened.crew_is ∙ (length-map desk.answers (opened_agent rules.limits.requests desk.requests.lane) ∙ opened.count))
 
   -- no more agents are missed than there are
   pub missing_few : missing_threads handles ≤ count
@@ -435,7 +435,7 @@ module _ {B P S : Type 0} (keeper : Keeper B) (port : Port P S) (book : B) (port
     pub ends_length : length ends ≡ count
     ends_length = AllZip-long (IsJoined port) handles ends joined ∙ handles_length
 
-    served : AreServed port (map (opened_agent limits.requests desk.requests.lane) desk.answers) ports ends
+    served : AreServed port (map (opened_agent rules.limits.requests desk.requests.lane) desk.answers) ports ends
     served = subst (λ (crew : List Agent). AreServed port crew ports ends) opened.crew_is (are-served port agents ports handles ends started joined)
 
     module _ (missed : ℕ) (begun : Desk B) (begun_is : begun ≡ missing_more desk missed) where
@@ -453,7 +453,7 @@ module _ {B P S : Type 0} (keeper : Keeper B) (port : Port P S) (book : B) (port
 
         pub may_close : (collected : Result (Desk B) (BrokenOff B)) (all : Result Gathered Breach) → IsCollected keeper before begun sink after collected → IsGathered ends all → MayClose keeper collected all
         may_close (Ok new) (Ok gathered) has is = (
-          same_places port limits desk.requests.lane desk.answers ports ends gathered.lines.items gathered.agents.items served is
+          same_places port rules desk.requests.lane desk.answers ports ends gathered.lines.items gathered.agents.items served is
               ∙ (sym (ap agent_lanes_of begun_is) ∙ sym has.0.places),
           has.1,
         )
@@ -488,25 +488,25 @@ module _ {B P S : Type 0} (keeper : Keeper B) (port : Port P S) (book : B) (port
             ∙ (length-map desk.answers (lanes_at desk.requests.lane) ∙ (opened.count ∙ count_is)))
 
         -- what a crash leaves at each moment of its run
-        crash_of : (new : Desk B) → BeginsWith keeper book before → new.start ≡ book → IsDesk keeper new → MayCrash keeper book new.book limits before (new.requests.taken ++ new.behind)
+        crash_of : (new : Desk B) → BeginsWith keeper book before → new.start ≡ book → IsDesk keeper new → MayCrash keeper book new.book rules before (new.requests.taken ++ new.behind)
         crash_of new with_it start_was kept =
-            subst (λ (b : B). MayCrash keeper b new.book (keeper.limits b) before (new.requests.taken ++ new.behind)) start_was
+            subst (λ (b : B). MayCrash keeper b new.book (keeper.rules b) before (new.requests.taken ++ new.behind)) start_was
             (kept.stands before (subst (λ (b : B). BeginsWith keeper b before) (sym start_was) with_it)).crash
 
-        crash_at_end : {W : Type 0} (collected : Result (Desk B) (BrokenOff B)) (all : Result Gathered Breach) (posted : Posted W) (result : Result (Account W B) (CrewFault W B)) → BeginsWith keeper book before → IsCollected keeper before begun sink after collected → Concludes keeper collected all posted result → IfOk result (λ account. MayCrash keeper book account.book limits before account.taken)
+        crash_at_end : {W : Type 0} (collected : Result (Desk B) (BrokenOff B)) (all : Result Gathered Breach) (posted : Posted W) (result : Result (Account W B) (CrewFault W B)) → BeginsWith keeper book before → IsCollected keeper before begun sink after collected → Concludes keeper collected all posted result → IfOk result (λ account. MayCrash keeper book account.book rules before account.taken)
         crash_at_end collected all posted (Err fault) with_it has ends_so = tt
         crash_at_end (Ok new) (Ok gathered) posted (Ok account) with_it has closed =
-            subst (λ (it : Account _ B). MayCrash keeper book it.book limits before it.taken) (sym closed.account_is)
-            (subst (λ (requests : List Request). MayCrash keeper book new.book limits before requests) (ap (λ (q : List Request). new.requests.taken ++ q) (none_behind keeper new has.2 has.1) ∙ append-nil new.requests.taken)
+            subst (λ (it : Account _ B). MayCrash keeper book it.book rules before it.taken) (sym closed.account_is)
+            (subst (λ (requests : List Request). MayCrash keeper book new.book rules before requests) (ap (λ (q : List Request). new.requests.taken ++ q) (none_behind keeper new has.2 has.1) ∙ append-nil new.requests.taken)
             (crash_of new with_it (has.0.start ∙ start_is) has.2))
         crash_at_end (Ok new) (Err breach) posted (Ok account) with_it has closed = absurd closed
         crash_at_end (Err broken) all posted (Ok account) with_it has closed = absurd closed
 
         crash_left : {W : Type 0} (cause : CrewCause) (held : List Letter) (new : Desk B) (left : B) (posted : Posted W) (fault : CrewFault W B) → fault ≡ fault_of cause held left new posted → left ≡ new.book → BeginsWith keeper book before → agent_lanes_of new ≡ agent_lanes_of begun → new.start ≡ book → IsDesk keeper new
-            → IfSome fault.book (MayCrashWithin keeper book limits before (length ports) fault.taken fault.behind)
+            → IfSome fault.book (MayCrashWithin keeper book rules before (length ports) fault.taken fault.behind)
         crash_left cause held new left posted fault fault_is left_is with_it places start_was kept =
-            subst (λ (it : CrewFault _ B). IfSome it.book (MayCrashWithin keeper book limits before (length ports) it.taken it.behind)) (sym fault_is)
-            (subst (MayCrashWithin keeper book limits before (length ports) new.requests.taken new.behind) (sym left_is)
+            subst (λ (it : CrewFault _ B). IfSome it.book (MayCrashWithin keeper book rules before (length ports) it.taken it.behind)) (sym fault_is)
+            (subst (MayCrashWithin keeper book rules before (length ports) new.requests.taken new.behind) (sym left_is)
             (record {
               together = kept.together;
               next = subst (λ (k : ℕ). AreNextOf k new.requests.taken new.behind) (lines_of new places) kept.next;
@@ -514,20 +514,20 @@ module _ {B P S : Type 0} (keeper : Keeper B) (port : Port P S) (book : B) (port
             }))
 
         crash_at_fault : {W : Type 0} (collected : Result (Desk B) (BrokenOff B)) (all : Result Gathered Breach) (posted : Posted W) (result : Result (Account W B) (CrewFault W B)) → BeginsWith keeper book before → IsCollected keeper before begun sink after collected → IsGathered ends all → Concludes keeper collected all posted result
-            → IfErr result (λ fault. IfSome fault.book (MayCrashWithin keeper book limits before (length ports) fault.taken fault.behind))
+            → IfErr result (λ fault. IfSome fault.book (MayCrashWithin keeper book rules before (length ports) fault.taken fault.behind))
         crash_at_fault collected all posted (Ok account) with_it has is ends_so = tt
         crash_at_fault (Ok new) all posted (Err fault) with_it has is faulted = crash_left _ _ new new.book posted fault (broken_for keeper ends new all posted fault is faulted).1.0 refl with_it has.0.places (has.0.start ∙ start_is) has.2
         crash_at_fault (Err broken) all posted (Err fault) with_it has is faulted = crash_left _ _ broken.desk.value broken.book posted fault faulted has.5 with_it has.1.places (has.1.start ∙ start_is) has.3
 
         module _ {W : Type 0} (drain : Drain W) (from : PostedBefore W) (poster : Outgoing W) (by : IsPostedBy drain from poster) (posted : Posted W) (post : IsPosted drain poster 16 after.letters posted) where
           module _ (new : Desk B) {result : Result (Unit {0}) DeskFault} (run : IsRun keeper before TakesLetter begun new sink after result) where
-            limits_are : keeper.limits new.start ≡ limits
-            limits_are = ap keeper.limits (run.start ∙ start_is)
+            rules_are : keeper.rules new.start ≡ rules
+            rules_are = ap keeper.rules (run.start ∙ start_is)
 
-            sealed_are : AreSealedAfter before (history_after limits before new.requests.taken) (after.letters ++ letter_kept result)
+            sealed_are : AreSealedAfter before (history_under rules before new.requests.taken) (after.letters ++ letter_kept result)
             sealed_are = record {
               are =
-                  ap (λ (l : Limits). sealed_letters (history_after l before new.requests.taken)) (sym limits_are)
+                  ap (λ (r : Rules). sealed_letters (history_under r before new.requests.taken)) (sym rules_are)
                   ∙ (run_letters keeper before begun new sink after result run (ap (λ (d : Desk B). d.requests.taken) begun_is ∙ opened.taken.0) fresh).0;
             }
 
@@ -535,20 +535,20 @@ module _ {B P S : Type 0} (keeper : Keeper B) (port : Port P S) (book : B) (port
             lines_length = lines_of new run.places
 
           -- where the run ended well the sink took them all
-          all_sealed : (new : Desk B) → IsRun keeper before TakesLetter begun new sink after (Ok tt) → AreSealedAfter before (history_after limits before new.requests.taken) after.letters
-          all_sealed new run = subst (AreSealedAfter before (history_after limits before new.requests.taken)) (append-nil after.letters) (sealed_are new run)
+          all_sealed : (new : Desk B) → IsRun keeper before TakesLetter begun new sink after (Ok tt) → AreSealedAfter before (history_under rules before new.requests.taken) after.letters
+          all_sealed new run = subst (AreSealedAfter before (history_under rules before new.requests.taken)) (append-nil after.letters) (sealed_are new run)
 
           account_at : (new : Desk B) (lines : List AgentLine) (crew : List LaneHalves) → IsRun keeper before TakesLetter begun new sink after (Ok tt) → IsDesk keeper new → AreEnded ends lines crew → posted.lost ≡ None → All (IsHeard keeper before new) crew → keeper.has new.book (history keeper before new) []
-              → HasAccount keeper port drain from limits before ports (account_of lines crew new posted)
+              → HasAccount keeper port drain from rules before ports (account_of lines crew new posted)
           account_at new lines crew run kept ended all heard has =
-              let limited = limits_are new run in record {
+              let ruled = rules_are new run in record {
                 letters = after.letters;
                 sealed = all_sealed new run;
                 is = record {
-                  agents = agent_accounts port limits desk.requests.lane keeper before new limited 0 desk.answers ports ends lines crew (are_from 0 desk.answers (λ a d inside. (opened.lines a d inside).agent_is ∙ (let same : a ≡ 0 + a = omega arith in same))) served ended heard;
+                  agents = agent_accounts port rules desk.requests.lane keeper before new ruled 0 desk.answers ports ends lines crew (are_from 0 desk.answers (λ a d inside. (opened.lines a d inside).agent_is ∙ (let same : a ≡ 0 + a = omega arith in same))) served ended heard;
                   only = subst (λ (k : ℕ). All (λ (request : Request). request.agent < k) new.requests.taken) (lines_length new run) kept.mine;
-                  book_limits = kept.limits ∙ limited;
-                  book = subst (λ (l : Limits). keeper.has new.book (history_after l before new.requests.taken) []) limited has;
+                  book_rules = kept.rules ∙ ruled;
+                  book = subst (λ (r : Rules). keeper.has new.book (history_under r before new.requests.taken) []) ruled has;
                   count = post.count ∙ ap length (post.whole.0 all).1;
                   outbox = subst (λ (ls : List Letter). IsOutbox drain from.host from.start posted.end.outbox posted.end.whole posted.end.unsent (from.first ++ ls)) (post.whole.0 all).1 (post.outbox from.host from.start from.first by.delivered);
                 };
@@ -557,56 +557,56 @@ module _ {B P S : Type 0} (keeper : Keeper B) (port : Port P S) (book : B) (port
           new_begins : (new : Desk B) → IsRun keeper before TakesLetter begun new sink after (Ok tt) → BeginsWith keeper book before → BeginsWith keeper new.start before
           new_begins new run is = subst (λ (b : B). BeginsWith keeper b before) (sym (run.start ∙ start_is)) is
 
-          account_is : BeginsWith keeper book before → (collected : Result (Desk B) (BrokenOff B)) (all : Result Gathered Breach) (result : Result (Account W B) (CrewFault W B)) → IsCollected keeper before begun sink after collected → IsGathered ends all → Concludes keeper collected all posted result → IfOk result (HasAccount keeper port drain from limits before ports)
+          account_is : BeginsWith keeper book before → (collected : Result (Desk B) (BrokenOff B)) (all : Result Gathered Breach) (result : Result (Account W B) (CrewFault W B)) → IsCollected keeper before begun sink after collected → IsGathered ends all → Concludes keeper collected all posted result → IfOk result (HasAccount keeper port drain from rules before ports)
           account_is with_it collected all (Err fault) has is ends_so = tt
           account_is with_it (Ok new) (Ok gathered) (Ok account) has is closed =
-              subst (HasAccount keeper port drain from limits before ports) (sym closed.account_is)
+              subst (HasAccount keeper port drain from rules before ports) (sym closed.account_is)
               (account_at new gathered.lines.items gathered.agents.items has.0 has.2 is closed.all (closed.heard before (new_begins new has.0 with_it)) (subst (λ (it : Account W B). keeper.has it.book (history keeper before new) []) closed.account_is (closed.has before (new_begins new has.0 with_it))))
           account_is with_it (Ok new) (Err breach) (Ok account) has is closed = absurd closed
           account_is with_it (Err broken) all (Ok account) has is closed = absurd closed
 
           -- a fault whose requests are those of the collector
-          has_fault : (cause : CrewCause) (held : List Letter) (new : Desk B) (left : B) (fault : CrewFault W B) (letters : List Letter) → fault ≡ fault_of cause held left new posted → AreSealedAfter before (history_after limits before new.requests.taken) letters → IsHandedBack keeper limits new.behind (history_after limits before new.requests.taken) cause left → IsFaultWith drain from letters (length ports) fault fault.cause
-              → HasFault keeper drain from limits before (length ports) fault
+          has_fault : (cause : CrewCause) (held : List Letter) (new : Desk B) (left : B) (fault : CrewFault W B) (letters : List Letter) → fault ≡ fault_of cause held left new posted → AreSealedAfter before (history_under rules before new.requests.taken) letters → IsHandedBack keeper rules new.behind (history_under rules before new.requests.taken) cause left → IsFaultWith drain from letters (length ports) fault fault.cause
+              → HasFault keeper drain from rules before (length ports) fault
           has_fault cause held new left fault letters fault_is sealed handed is = record {
             sealed = letters;
-            are = subst (λ (q : List Request). AreSealedAfter before (history_after limits before q) letters) (sym (ap (λ (it : CrewFault W B). it.taken) fault_is)) sealed;
+            are = subst (λ (q : List Request). AreSealedAfter before (history_under rules before q) letters) (sym (ap (λ (it : CrewFault W B). it.taken) fault_is)) sealed;
             is = is;
-            book = subst (λ (it : CrewFault W B). IfSome it.book (IsHandedBack keeper limits it.behind (history_after limits before it.taken) it.cause)) (sym fault_is) handed;
+            book = subst (λ (it : CrewFault W B). IfSome it.book (IsHandedBack keeper rules it.behind (history_under rules before it.taken) it.cause)) (sym fault_is) handed;
           }
 
           module _ (with_it : BeginsWith keeper book before) where
             module _ (new : Desk B) (fault : CrewFault W B) (run : IsRun keeper before TakesLetter begun new sink after (Ok tt)) (gone : all_gone new ≡ true) (kept : IsDesk keeper new) where
-              left_has : keeper.has new.book (history_after limits before new.requests.taken) new.behind
+              left_has : keeper.has new.book (history_under rules before new.requests.taken) new.behind
               left_has =
-                  subst (λ (l : Limits). keeper.has new.book (history_after l before new.requests.taken) new.behind) (limits_are new run)
+                  subst (λ (r : Rules). keeper.has new.book (history_under r before new.requests.taken) new.behind) (rules_are new run)
                   (has_here keeper new kept (going_on new gone) before (new_begins new run with_it))
 
-              broken_at : (cause : CrewCause) → IsBrokenFor new posted fault cause → HasFault keeper drain from limits before (length ports) fault
+              broken_at : (cause : CrewCause) → IsBrokenFor new posted fault cause → HasFault keeper drain from rules before (length ports) fault
               broken_at cause is =
-                  has_fault cause [] new new.book fault after.letters is.0 (all_sealed new run) (record { limits_are = kept.limits ∙ limits_are new run; stands = broken_stands keeper new _ cause _ is.1 left_has })
+                  has_fault cause [] new new.book fault after.letters is.0 (all_sealed new run) (record { rules_are = kept.rules ∙ rules_are new run; stands = broken_stands keeper new _ cause _ is.1 left_has })
                   (broken_fault keeper drain from poster by after.letters posted post new kept (length ports) (lines_length new run) fault cause is.1 is.0 (none_behind keeper new kept gone))
 
             -- the collector has failed, for this reason
-            handed_at : (breach : Breach) (new : Desk B) (left : B) {result : Result (Unit {0}) DeskFault} → IsRun keeper before TakesLetter begun new sink after result → IsDesk keeper new → IsStopped keeper new breach → left ≡ new.book → IsHandedBack keeper limits new.behind (history_after limits before new.requests.taken) (cause_of breach) left
+            handed_at : (breach : Breach) (new : Desk B) (left : B) {result : Result (Unit {0}) DeskFault} → IsRun keeper before TakesLetter begun new sink after result → IsDesk keeper new → IsStopped keeper new breach → left ≡ new.book → IsHandedBack keeper rules new.behind (history_under rules before new.requests.taken) (cause_of breach) left
             handed_at breach new left run kept stopped left_is =
-                let limited = limits_are new run in
+                let ruled = rules_are new run in
                 let stands = kept.stands before (subst (λ (b : B). BeginsWith keeper b before) (sym (run.start ∙ start_is)) with_it) in
-                subst (IsHandedBack keeper limits new.behind (history_after limits before new.requests.taken) (cause_of breach)) (sym left_is)
+                subst (IsHandedBack keeper rules new.behind (history_under rules before new.requests.taken) (cause_of breach)) (sym left_is)
                 (record {
-                  limits_are = kept.limits ∙ limited;
+                  rules_are = kept.rules ∙ ruled;
                   stands =
-                      subst (λ (l : Limits). StandsAtFault keeper new.behind (history_after l before new.requests.taken) (cause_of breach) new.book) limited
+                      subst (λ (r : Rules). StandsAtFault keeper new.behind (history_under r before new.requests.taken) (cause_of breach) new.book) ruled
                       (stopped_stands keeper new (history keeper before new) (cause_of breach) (stopped_for keeper new breach stopped) stands.has);
                 })
 
-            fault_is : (collected : Result (Desk B) (BrokenOff B)) (all : Result Gathered Breach) (result : Result (Account W B) (CrewFault W B)) → IsCollected keeper before begun sink after collected → IsGathered ends all → Concludes keeper collected all posted result → IfErr result (HasFault keeper drain from limits before (length ports))
+            fault_is : (collected : Result (Desk B) (BrokenOff B)) (all : Result Gathered Breach) (result : Result (Account W B) (CrewFault W B)) → IsCollected keeper before begun sink after collected → IsGathered ends all → Concludes keeper collected all posted result → IfErr result (HasFault keeper drain from rules before (length ports))
             fault_is collected all (Ok account) has is ends_so = tt
             fault_is (Ok new) all (Err fault) has is faulted = let why = broken_for keeper ends new all posted fault is faulted in broken_at new fault has.0 has.1 has.2 why.0 why.1
             fault_is (Err broken) all (Err fault) has is faulted =
                 let new = broken.desk.value in
                 has_fault (cause_of broken.breach) (letters_in broken.held) new broken.book fault (after.letters ++ letters_in broken.held) faulted
-                (subst (λ (ls : List Letter). AreSealedAfter before (history_after limits before new.requests.taken) (after.letters ++ ls)) (sym has.2) (sealed_are new has.1))
+                (subst (λ (ls : List Letter). AreSealedAfter before (history_under rules before new.requests.taken) (after.letters ++ ls)) (sym has.2) (sealed_are new has.1))
                 (handed_at broken.breach new broken.book has.1 has.3 has.4 has.5)
                 (failed_fault keeper drain from poster by after.letters posted post new has.3 (length ports) (lines_length new has.1) fault broken.breach broken.book broken.held has.4 faulted)
 

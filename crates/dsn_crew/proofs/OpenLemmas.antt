@@ -6,11 +6,13 @@ use Rattle.std.proofs.lemmas.List.Elements.{All-nil}
 use native.Mathlib.Decide.{ℕ_discrete}
 use Rattle.dsn_book.specs.Keeper.{MayCrash}
 use Rattle.dsn_book.specs.declared.keeper.Keeper.{Ghosts as Keeper}
+use Rattle.dsn_book.specs.Release.{history_under}
+use Rattle.dsn_book.proofs.ReleaseLemmas.{under-none}
 use Rattle.dsn_crew.specs.lane.Halves.{Half, Identity, fresh_halves}
 use Rattle.dsn_crew.specs.lane.Lane.{IsNumbered}
 use Rattle.dsn_crew.proofs.lane.AgentLemmas.{numbered_none}
 use Rattle.dsn_outcome.specs.Agents.{from_agent}
-use Rattle.dsn_outcome.specs.History.{Exchange, answers_to, history_after}
+use Rattle.dsn_outcome.specs.History.{Exchange, answers_to}
 use Rattle.dsn_outcome.specs.Request.{Request}
 use Rattle.dsn_outcome.specs.declared.answer.Answer.{Answer}
 use Rattle.dsn_crew.specs.agents.Agent.{Agent}
@@ -25,7 +27,6 @@ use Rattle.dsn_crew.proofs.desk.CrashLemmas.{LeavesKept, none_done}
 
 -- a collector that has taken nothing
 pub new_desk : {B : Type 0} (keeper : Keeper B) (book : B) (intake : Intake) (halves : List (Half Answer)) → LeavesKept keeper → (before : List Exchange) × BeginsWith keeper book before → keeper.sealed book < 2 ^ 63 → intake.requests.first ≡ 0 → intake.requests.past ≡ length halves → intake.requests.taken ≡ [] → intake.behind ≡ [] → AreLines halves → length halves ≤ 16 → IsDesk keeper (desk_seen book book None intake halves 0)
-unfolding history_after
 new_desk keeper book intake halves law began small first past taken none lines few = subst (λ (q : List Request). IsDesk keeper (desk_seen book book None (record { requests = intake.requests; behind = q }) halves 0)) (sym none) (record {
   first = first;
   past = past;
@@ -33,7 +34,7 @@ new_desk keeper book intake halves law began small first past taken none lines f
   mine = subst (All (λ (request : Request). request.agent < length halves)) (sym taken) (All-nil (λ (request : Request). request.agent < length halves));
   numbered = λ agent. subst (λ (q : List Request). IsNumbered (λ (request : Request). request.number) (from_agent (λ (request : Request). request.agent) agent q)) (sym taken) (numbered_none (λ (request : Request). request.number));
   lines = λ a d inside. (lines a d inside).agent_is;
-  limits = refl;
+  rules = refl;
   began = began;
   room = small;
   sealed = omega arith;
@@ -46,14 +47,16 @@ new_desk keeper book intake halves law began small first past taken none lines f
   in_time = λ n few. absurd (omega arith);
   counted = λ _ a d inside. ap length (lines a d inside).unused ∙ ap (λ (q : List Request). length (from_agent (λ (request : Request). request.agent) a q)) (sym taken);
   stands = λ before begins.
-      let none : (a : ℕ) (d : Half Answer) → a < length halves → (slice_index_or halves a d).sent ≡ answers_to a (history_after (keeper.limits book) before intake.requests.taken) =
+      let no_more : (t : List Exchange) → history_under (keeper.rules book) t intake.requests.taken ≡ t =
+      λ t. ap (history_under (keeper.rules book) t) taken ∙ under-none (keeper.rules book) t in
+      let none : (a : ℕ) (d : Half Answer) → a < length halves → (slice_index_or halves a d).sent ≡ answers_to a (history_under (keeper.rules book) before intake.requests.taken) =
       λ a d inside.
       (lines a d inside).unused
-      ∙ (sym (begins.1 a (omega (arith, inside))) ∙ ap (λ (q : List Request). answers_to a (history_after (keeper.limits book) before q)) (sym taken)) in record {
-        has = subst (λ (q : List Request). keeper.has book (history_after (keeper.limits book) before q) []) (sym taken) begins.0;
+      ∙ (sym (begins.1 a (omega (arith, inside))) ∙ ap (answers_to a) (sym (no_more before))) in record {
+        has = subst (λ (t : List Exchange). keeper.has book t []) (sym (no_more before)) begins.0;
         sent = λ a d inside. ([], append-nil (slice_index_or halves a d).sent ∙ none a d inside);
         answered = λ _. none;
-        crash = subst (λ (q : List Request). MayCrash keeper book book (keeper.limits book) before (q ++ [])) (sym taken) (none_done keeper book book book (keeper.limits book) before [] law refl begins.0);
+        crash = subst (λ (q : List Request). MayCrash keeper book book (keeper.rules book) before (q ++ [])) (sym taken) (none_done keeper book book book (keeper.rules book) before [] law refl begins.0);
       };
 })
 
@@ -111,5 +114,5 @@ two_at limit lane (one ∷ other ∷ third ∷ rest) count = absurd (omega arith
 -- of two agents
 pub opened_two : {B : Type 0} (keeper : Keeper B) (start : B) (crew : List Agent) (desk : Desk B) → IsOpened keeper start 2 crew desk → (first : Agent) × (second : Agent) × (crew ≡ first ∷ second ∷ []) × AreCrew (first.halves ∷ second.halves ∷ []) desk
 opened_two keeper start crew desk opened =
-    let pair = two_at (keeper.limits start).requests desk.requests.lane desk.answers opened.count in
+    let pair = two_at (keeper.rules start).limits.requests desk.requests.lane desk.answers opened.count in
     (pair.0, pair.1, opened.crew_is ∙ pair.2, pair.3)

@@ -1,16 +1,17 @@
--- Crews: what a run of a whole crew comes to, and what its fault says.
+-- Crews: the account of a run of a whole crew, and what its fault says.
 use Rattle.std.specs.Prelude.{◌≡◌, ◌≢◌, ℕ, suc, ◌+◌, ◌<◌, ◌≤◌, ◌⊎◌, Bool, false, List, [], ◌∷◌, ◌++◌, All, length, Option, Some, IfErr, IfOk, IfSome, Result, is_some, true}
 use Rattle.std.specs.List.{flat_map}
 use Rattle.dsn_book.specs.Book.{Book}
 use Rattle.dsn_book.specs.Keeper.{MayCrash, book_keeper}
 use Rattle.dsn_book.specs.NotKept.{unkept_code}
+use Rattle.dsn_book.specs.Release.{Rules, history_under, releasing_none}
 use Rattle.dsn_book.specs.declared.keeper.Keeper.{Ghosts as Keeper}
 use Rattle.dsn_device.specs.declared.drain.Drain.{Ghosts as Drain}
 use Rattle.dsn_text.specs.FaultCode.{agent_count_code, crew_refused_code, lane_lost_code}
 use Rattle.dsn_frame.specs.bodies.Spoken.{reply_of}
 use Rattle.dsn_crew.specs.lane.Lane.{IsNumbered, most_agents}
 use Rattle.dsn_outcome.specs.Agents.{from_agent}
-use Rattle.dsn_outcome.specs.History.{Limits, Exchange, answers_to, history_after, history_of, plain, sealed_letters}
+use Rattle.dsn_outcome.specs.History.{Limits, Exchange, answers_to, history_of, plain, sealed_letters}
 use Rattle.dsn_outcome.specs.Letter.{Letter}
 use Rattle.dsn_outcome.specs.Request.{Request, Bye}
 use Rattle.dsn_outcome.specs.declared.answer.Reply.TheVariants.{Gone}
@@ -51,22 +52,22 @@ pub record Account (W B : Type 0) : Type 0 where
   pub taken : List Request
   pub halves : List LaneHalves
 
--- what is true of one agent whose port told these connections, and may give so much, where the
--- collector took these requests, after this history. All that the agent sent was taken, in that
--- order, and what it got are the answers of the history. What it sent is what the sessions over its connections ask, one
--- after another, and then its only goodbye; what it got are their replies, and then Gone. Its line
--- counts its requests, its connections, and the sessions among them that ended with a fault, none
--- of them for a lost lane. Its port gave as many connections, and then was done or failed, as the
--- line says
+-- What is true of one agent, by what its port says of its connections, if the collector took these
+-- requests after this history and carried them out by these rules. All that the agent sent was
+-- taken, in that order, and it received the answers of the history. It sent the requests of the
+-- sessions over its connections, one session after another, and then its only goodbye; it received
+-- their replies, and then Gone. Its line counts its requests, its connections, and the sessions
+-- among them that ended with a fault, none of which is a lost lane. Its port gave the number of
+-- connections that the line says, and then was done or failed, as the line says
 pub record IsAgentAccount (conns : Option (List Conn)) (may_give : List Given → Type 0)
-    (limits : Limits) (before : List Exchange) (taken : List Request)
+    (rules : Rules) (before : List Exchange) (taken : List Request)
     (agent : ℕ)
     (line : AgentLine) (halves : LaneHalves) : Type 0 where
   pub number : halves.requests.agent ≡ agent
   pub taken_all : from_agent (λ (request : Request). request.agent) agent taken ≡ halves.requests.sent
-  pub answered : halves.answers.taken ≡ answers_to agent (history_after limits before taken)
+  pub answered : halves.answers.taken ≡ answers_to agent (history_under rules before taken)
   pub sessions : List Session
-  pub follow : AreSessions limits.requests 0 sessions
+  pub follow : AreSessions rules.limits.requests 0 sessions
   pub over : AreOverPort conns sessions false line.port_failed
   pub gave : HasGiven may_give line false
   pub heard : All (λ (session : Session). session.end ≢ Some lane_lost_code) sessions
@@ -85,13 +86,13 @@ pub record IsAgentAccount (conns : Option (List Conn)) (may_give : List Given �
 
 -- what is true of each agent, from one on, with the port in its place
 abbrev pub AreAgentAccounts :
-    {P S : Type 0} → Port P S → Limits → List Exchange → List Request → ℕ → List P → List AgentLine
+    {P S : Type 0} → Port P S → Rules → List Exchange → List Request → ℕ → List P → List AgentLine
     → List LaneHalves → Type 0
-AreAgentAccounts port limits before taken agent [] [] [] = Unit {0}
-AreAgentAccounts port limits before taken agent (one ∷ ports) (line ∷ lines) (halves ∷ crew) =
-    IsAgentAccount (port.conns one) (port.may_give one) limits before taken agent line halves
-    × AreAgentAccounts port limits before taken (suc agent) ports lines crew
-AreAgentAccounts port limits before taken agent ports lines crew = ⊥
+AreAgentAccounts port rules before taken agent [] [] [] = Unit {0}
+AreAgentAccounts port rules before taken agent (one ∷ ports) (line ∷ lines) (halves ∷ crew) =
+    IsAgentAccount (port.conns one) (port.may_give one) rules before taken agent line halves
+    × AreAgentAccounts port rules before taken (suc agent) ports lines crew
+AreAgentAccounts port rules before taken agent ports lines crew = ⊥
 
 -- what a run posts after: the host that notices come from; the outbox before the first letter of all;
 -- the letters that were handed on since, before the run; and the outbox as the run gets it
@@ -111,40 +112,41 @@ pub record IsPostedBy {W : Type 0} (drain : Drain W) (from : PostedBefore W)
   pub delivered : Delivered drain from.host from.start poster from.first
   pub outbox : from.outbox ≡ poster.poster.outbox
 
--- what a run after a history that ended well comes to: each agent's part; nothing else was taken; the
--- book stands for the history with what was taken, and awaits nothing; and the outbox is that of the
--- letters that were posted before and of these, in order, each of these posted or unsent
+-- The account of a run after a history, which ended well and carried out requests by these rules.
+-- It has the account of each agent, and only these agents' requests were taken. The book keeps the
+-- rules, models the history with what was taken, and no kept request waits. The outbox is that of
+-- the letters that were posted before and of these, in order; each of these is posted or unsent
 pub record IsAccountAfter {B P S W : Type 0} (keeper : Keeper B) (port : Port P S) (drain : Drain W)
-    (from : PostedBefore W) (limits : Limits) (before : List Exchange) (letters : List Letter)
+    (from : PostedBefore W) (rules : Rules) (before : List Exchange) (letters : List Letter)
     (ports : List P) (account : Account W B) : Type 0 where
-  pub agents : AreAgentAccounts port limits before account.taken 0 ports account.agents account.halves
+  pub agents : AreAgentAccounts port rules before account.taken 0 ports account.agents account.halves
   pub only : All (λ (request : Request). request.agent < length ports) account.taken
-  pub book_limits : keeper.limits account.book ≡ limits
-  pub book : keeper.has account.book (history_after limits before account.taken) []
+  pub book_rules : keeper.rules account.book ≡ rules
+  pub book : keeper.has account.book (history_under rules before account.taken) []
   pub count : account.letters + length account.unsent ≡ length letters
   pub outbox :
       IsOutbox drain from.host from.start account.outbox account.whole account.unsent
       (from.first ++ letters)
 
--- and so one over a book that begins empty, whose letters are those that the history of what was taken
--- sealed
+-- the account of a run over a book that begins empty: no key is released, and its letters are those
+-- that the history of what was taken sealed
 abbrev pub IsAccount :
     {P S W : Type 0} → Port P S → Drain W → List ℕ → Limits → List P → W → Account W Book → Type 0
 IsAccount port drain host limits ports start account =
-    IsAccountAfter book_keeper port drain (none_posted host start) limits []
+    IsAccountAfter book_keeper port drain (none_posted host start) (releasing_none limits) []
     (sealed_letters (history_of limits account.taken)) ports account
 
 -- the letters that a history sealed after one before it
 pub record AreSealedAfter (before history : List Exchange) (letters : List Letter) : Type 0 where
   pub are : sealed_letters history ≡ sealed_letters before ++ letters
 
--- what a run after any history comes to: its letters are those that were sealed in it
+-- the account of a run after any history: its letters are those that were sealed in it
 pub record HasAccount {B P S W : Type 0} (keeper : Keeper B) (port : Port P S) (drain : Drain W)
-    (from : PostedBefore W) (limits : Limits) (before : List Exchange) (ports : List P)
+    (from : PostedBefore W) (rules : Rules) (before : List Exchange) (ports : List P)
     (account : Account W B) : Type 0 where
   pub letters : List Letter
-  pub sealed : AreSealedAfter before (history_after limits before account.taken) letters
-  pub is : IsAccountAfter keeper port drain from limits before letters ports account
+  pub sealed : AreSealedAfter before (history_under rules before account.taken) letters
+  pub is : IsAccountAfter keeper port drain from rules before letters ports account
 
 -- a run that ended with a fault: its cause, the outbox, the letters that are not in it, what
 -- carried the requests out, where it is handed back, the requests that were taken and carried out,
@@ -209,7 +211,7 @@ IsFaultWith drain from sealed agents fault Lost =
 IsFaultWith drain from sealed agents fault (Unkept why) =
     IsBrokenOff drain from sealed agents fault
 
--- and so of one over a book that begins empty
+-- the fault of a run over a book that begins empty
 abbrev pub IsCrewFault :
     {B W : Type 0} → Drain W → List ℕ → Limits → ℕ → W → CrewFault W B → CrewCause → Type 0
 IsCrewFault drain host limits agents start fault cause =
@@ -227,58 +229,58 @@ StandsAtFault keeper behind exchanges PortCount book = keeper.has book exchanges
 StandsAtFault keeper behind exchanges (Unkept why) book =
     StandsOrRefused keeper (Some why) behind exchanges book
 
--- what is handed back at a fault: its limits are those of the run, and this is what it stands for
-pub record IsHandedBack {B : Type 0} (keeper : Keeper B) (limits : Limits) (behind : List Request)
+-- what is returned at a fault: it keeps the rules of the run, and this is what it models
+pub record IsHandedBack {B : Type 0} (keeper : Keeper B) (rules : Rules) (behind : List Request)
     (exchanges : List Exchange) (cause : CrewCause) (book : B) : Type 0 where
-  pub limits_are : keeper.limits book ≡ limits
+  pub rules_are : keeper.rules book ≡ rules
   pub stands : StandsAtFault keeper behind exchanges cause book
 
--- and of one after any history
+-- the fault of a run after any history, which carried out requests by these rules
 pub record HasFault {B W : Type 0} (keeper : Keeper B) (drain : Drain W)
-    (from : PostedBefore W) (limits : Limits) (before : List Exchange) (agents : ℕ)
+    (from : PostedBefore W) (rules : Rules) (before : List Exchange) (agents : ℕ)
     (fault : CrewFault W B) : Type 0 where
   pub sealed : List Letter
-  pub are : AreSealedAfter before (history_after limits before fault.taken) sealed
+  pub are : AreSealedAfter before (history_under rules before fault.taken) sealed
   pub is : IsFaultWith drain from sealed agents fault fault.cause
   pub book :
       IfSome fault.book
-      (IsHandedBack keeper limits fault.behind (history_after limits before fault.taken) fault.cause)
+      (IsHandedBack keeper rules fault.behind (history_under rules before fault.taken) fault.cause)
 
--- What a crash leaves at each moment of a run over so many agents that ended with a fault. A later
--- run stands by it for the history with the first of the requests that were carried out, and of those
--- behind, which are the next of their agents
-pub record MayCrashWithin {B : Type 0} (keeper : Keeper B) (start : B) (limits : Limits)
+-- What a crash leaves at each moment of a run of the given number of agents that ended with a
+-- fault. A later run models the history with a first part of the requests that were carried out and
+-- of those behind, which are the next of their agents
+pub record MayCrashWithin {B : Type 0} (keeper : Keeper B) (start : B) (rules : Rules)
     (before : List Exchange) (agents : ℕ) (taken behind : List Request) (book : B) : Type 0 where
   pub together : length behind ≤ most_together
   pub next : AreNextOf agents taken behind
-  pub at_each_moment : MayCrash keeper start book limits before (taken ++ behind)
+  pub at_each_moment : MayCrash keeper start book rules before (taken ++ behind)
 
--- The result of a run over these ports and what carries its requests out, after what this poster has
--- posted. Whatever was posted before, and whatever history it began with: at its end it has an account
--- of both, and else a fault. At a fault what carried the requests out is handed back. It sealed no
--- more letters than requests were taken. And this is what a crash leaves at each of its moments
+-- The result of a run over these ports and this keeper, after what this poster has posted. It is an
+-- account by the keeper's rules, whatever was posted before and whatever history the run began with;
+-- otherwise a fault, which returns the keeper. The run sealed no more letters than requests were
+-- taken. The last clauses say what a crash leaves at each moment of the run
 pub record IsCrewRun {B P S W : Type 0} (keeper : Keeper B) (port : Port P S) (drain : Drain W)
     (book : B) (ports : List P) (outgoing : Outgoing W)
     (result : Result (Account W B) (CrewFault W B)) : Type 0 where
   pub account : (from : PostedBefore W) → IsPostedBy drain from outgoing
       → (before : List Exchange) → BeginsWith keeper book before
-      → IfOk result (HasAccount keeper port drain from (keeper.limits book) before ports)
+      → IfOk result (HasAccount keeper port drain from (keeper.rules book) before ports)
   pub sealed :
       IfOk result
       (λ account. keeper.sealed account.book ≤ keeper.sealed book + length account.taken)
   pub fault : (from : PostedBefore W) → IsPostedBy drain from outgoing
       → (before : List Exchange) → BeginsWith keeper book before
-      → IfErr result (HasFault keeper drain from (keeper.limits book) before (length ports))
+      → IfErr result (HasFault keeper drain from (keeper.rules book) before (length ports))
   pub left :
       IfErr result
       (λ fault. IfSome fault.book
       (λ left. keeper.sealed left ≤ keeper.sealed book + length fault.taken))
   pub crash : (before : List Exchange) → BeginsWith keeper book before
       → IfOk result
-      (λ account. MayCrash keeper book account.book (keeper.limits book) before account.taken)
+      (λ account. MayCrash keeper book account.book (keeper.rules book) before account.taken)
   pub crash_at_fault : (before : List Exchange) → BeginsWith keeper book before
       → IfErr result
       (λ fault. IfSome fault.book
-      (MayCrashWithin keeper book (keeper.limits book) before (length ports) fault.taken
+      (MayCrashWithin keeper book (keeper.rules book) before (length ports) fault.taken
       fault.behind))
   pub handed_back : IfErr result (λ fault. is_some fault.book ≡ true)

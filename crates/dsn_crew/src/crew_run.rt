@@ -93,17 +93,21 @@ fn empty_book(alloc: Global, limits: Limits, ports: usize) -> Result<Book, Breac
     }
 }
 
-/// Runs a crew as [`run_crew`] does, over what keeps its requests and carries them out. Its notices
-/// come after those that were posted before.
+/// Runs a crew as [`run_crew`] does, over a keeper, which keeps its requests and carries them out by
+/// its rules. Its notices come after those that were posted before.
+///
+/// If the rules say so, the keeper releases closed keys to make room. The history of the run then
+/// has these requests of the keeper's own, exactly where `history_under` says; they answer no agent
+/// and seal no letter, and `taken` has the agents' requests alone.
 ///
 /// Requests that wait are kept together, up to 16. Beside what [`run_crew`] returns, it returns
 /// `Unkept` (45) if they were not kept; none of them is carried out or answered then, nor a later
-/// one. A fault has what carried the requests out, or was to.
+/// one. A fault returns the keeper.
 ///
-/// At each moment of the run a crash leaves what a later run reopens to the history with the first
-/// of the requests that were taken, and no other. Each request is among them before its answer is
+/// A crash at any moment of the run leaves what a later run reopens to the history with a first part
+/// of the requests that were taken, and no other. Each request is in that part before its answer is
 /// sent. Requires that fewer than 2^63 letters were sealed before, that there is a history to begin
-/// with, after which no request is awaited, and that no letter is unsent.
+/// with, after which no kept request waits, and that no letter is unsent.
 pub fn run_crew_over<
     R: Threads + Wait + Sync,
     B: Keeper + Drop,

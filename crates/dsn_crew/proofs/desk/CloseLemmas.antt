@@ -60,7 +60,7 @@ pub record IsAnswered (exchanges : List Exchange) (halves : LaneHalves) : Type 0
 heard : {B : Type 0} (keeper : Keeper B) (before : List Exchange) (desk : Desk B) (halves : LaneHalves) → IsEarlier before → halves.requests.agent < most_agents → IsAnswered (history keeper before desk) halves → IsPrefix (from_agent (λ (request : Request). request.agent) halves.requests.agent desk.requests.taken) halves.requests.sent → IsHeard keeper before desk halves
 heard keeper before desk halves earlier small answered taken =
     let each = answered.finished.answered in
-    let as_many = answered_as_asked (keeper.limits desk.start) before halves.requests.agent desk.requests.taken earlier small in
+    let as_many = answered_as_asked (keeper.rules desk.start) before halves.requests.agent desk.requests.taken earlier small in
     let less = prefix-length _ _ answered.got in
     let few = prefix-length _ _ taken in
     record {

@@ -10,21 +10,22 @@ use mathlib.Core.List.{IsPrefix}
 use native.Mathlib.Decide.{ℕ_discrete}
 use Rattle.dsn_book.specs.Keeper.{MayCrash}
 use Rattle.dsn_book.specs.declared.keeper.Keeper.{Ghosts as Keeper}
+use Rattle.dsn_book.specs.Release.{collector, history_next, history_under}
+use Rattle.dsn_book.proofs.ReleaseLemmas.{before_answers, next_mine, next_other, under-more}
 use Rattle.dsn_device.proofs.ThroughoutLemmas.{stood_still}
 use Rattle.dsn_crew.specs.lane.Halves.{Half, Out, Identity}
 use Rattle.dsn_outcome.specs.Agents.{from_agent}
-use Rattle.dsn_outcome.specs.History.{Exchange, answer_of, answers_after, answers_to, exchange_of, history_after}
+use Rattle.dsn_outcome.specs.History.{Exchange, answer_of, answers_after, answers_to}
 use Rattle.dsn_outcome.specs.Request.{Request}
 use Rattle.dsn_outcome.specs.declared.answer.Answer.{Answer}
-use Rattle.dsn_outcome.proofs.HistoryLaws.{answers_mine, answers_more, answers_other}
-use Rattle.dsn_crew.specs.desk.Desk.{AreLeft, Desk, IsDesk, StandsAfter, AreAnswered, IsAnswerSent, answered_more, history, next_exchange, agent_lanes_of}
+use Rattle.dsn_outcome.proofs.HistoryLaws.{answers_more}
+use Rattle.dsn_crew.specs.desk.Desk.{AreLeft, Desk, IsDesk, StandsAfter, AreAnswered, IsAnswerSent, answered_more, history, history_before, next_exchange, agent_lanes_of}
 use Rattle.dsn_crew.specs.KeeperHistory.{AreNextOf, BeginsWith}
 use Rattle.dsn_crew.specs.inner.Desk.{desk_seen}
 use Rattle.dsn_crew.specs.inner.Desk.{Intake}
 use Rattle.dsn_crew.specs.desk.Intake.{goodbyes, taken_request}
 use Rattle.dsn_crew.specs.declared.breach.Breach.{Breach}
 use Rattle.dsn_crew.specs.agents.AgentLanes.{AgentLanes, lanes_at}
-use Rattle.dsn_crew.proofs.desk.EarlierLemmas.{more_after}
 use Rattle.dsn_crew.proofs.desk.IntakeLemmas.{next_of, are_numbered_first, number_next}
 
 -- ---- the halves of the answer lanes
@@ -166,20 +167,25 @@ module _ {B : Type 0} (keeper : Keeper B) (desk : Desk B) (request : Request) (r
               omega (arith, here, then, more, all)
         ]
 
-    module _ (before : List Exchange) (stands : StandsAfter keeper before desk) (answer_is : answer ≡ answer_of (history keeper before desk) (next_exchange keeper before desk request)) where
-      mine : ((next_exchange keeper before desk request).request.agent == answer.agent) ≡ true
-      unfolding exchange_of
+    module _ (before : List Exchange) (stands : StandsAfter keeper before desk) (answer_is : answer ≡ answer_of (history_before keeper before desk request) (next_exchange keeper before desk request)) where
+      mine : (request.agent == answer.agent) ≡ true
       mine = eq-eqb request.agent answer.agent (sym asked.agent_is)
 
-      not_mine : (a : ℕ) → a ≢ answer.agent → ((next_exchange keeper before desk request).request.agent == a) ≡ false
-      unfolding exchange_of
+      not_mine : (a : ℕ) → a ≢ answer.agent → (request.agent == a) ≡ false
       not_mine a other = ne_eqb request.agent a (λ same. other (sym same ∙ sym asked.agent_is))
 
-      history_new : history keeper before answered_desk ≡ history keeper before desk ++ next_exchange keeper before desk request ∷ []
-      history_new =
-          ap (λ (o : Out Request). history_after (keeper.limits desk.start) before o.taken) taken ∙ more_after (keeper.limits desk.start) before desk.requests.taken request
+      -- the history with the request more
+      abbrev pub next_history : List Exchange
+      next_history = history_next (keeper.rules desk.start) (history keeper before desk) request
 
-      sent_at : (is_sent : IsAnswerSent true desk.answers answer halves) (a : ℕ) (d : Half Answer) → a < length desk.answers → (slice_index_or halves a d).sent ≡ answers_to a (history keeper before desk ++ next_exchange keeper before desk request ∷ [])
+      few_agents : (a : ℕ) → a < length desk.answers → a < collector
+      few_agents a inside = let few = asked.kept.few in omega (arith, inside, few)
+
+      history_new : history keeper before answered_desk ≡ next_history
+      history_new =
+          ap (λ (o : Out Request). history_under (keeper.rules desk.start) before o.taken) taken ∙ under-more (keeper.rules desk.start) before desk.requests.taken request
+
+      sent_at : (is_sent : IsAnswerSent true desk.answers answer halves) (a : ℕ) (d : Half Answer) → a < length desk.answers → (slice_index_or halves a d).sent ≡ answers_to a next_history
       sent_at is_sent a d inside =
           elim (ℕ_discrete a answer.agent) [
             | yes same ↦
@@ -187,13 +193,13 @@ module _ {B : Type 0} (keeper : Keeper B) (desk : Desk B) (request : Request) (r
                 ∙ (ap (λ (k : ℕ). (slice_index_or (set desk.answers answer.agent (answered_more true (slice_index_or desk.answers answer.agent d) answer)) k d).sent) same
                 ∙ (ap (λ (e : Half Answer). e.sent) (get_or-set_same desk.answers answer.agent (answered_more true (slice_index_or desk.answers answer.agent d) answer) d within)
                 ∙ ((λ i. stands.answered asked.going answer.agent d within i ++ answer_is i ∷ [])
-                ∙ (sym (answers_mine answer.agent (history keeper before desk) (next_exchange keeper before desk request) mine)
-                ∙ ap (λ (k : ℕ). answers_to k (history keeper before desk ++ next_exchange keeper before desk request ∷ [])) (sym same)))))
+                ∙ (sym (next_mine answer.agent (few_agents answer.agent within) (keeper.rules desk.start) (history keeper before desk) request mine)
+                ∙ ap (λ (k : ℕ). answers_to k next_history) (sym same)))))
             | no other ↦
                 ap (λ (es : List (Half Answer)). (slice_index_or es a d).sent) (is_sent d)
                 ∙ (ap (λ (e : Half Answer). e.sent) (get_or-set_other desk.answers answer.agent a (answered_more true (slice_index_or desk.answers answer.agent d) answer) d other)
                 ∙ (stands.answered asked.going a d inside
-                ∙ sym (answers_other a (history keeper before desk) (next_exchange keeper before desk request) (not_mine a other))))
+                ∙ sym (next_other a (few_agents a inside) (keeper.rules desk.start) (history keeper before desk) request (not_mine a other))))
           ]
 
       -- each agent was sent what the history with the request more answers it
@@ -205,23 +211,25 @@ module _ {B : Type 0} (keeper : Keeper B) (desk : Desk B) (request : Request) (r
       sent_new true d is_sent a d' inside = ([], append-nil (slice_index_or halves a d').sent ∙ answered_new d is_sent a d' inside)
       sent_new false d is_sent a d' inside =
           let same = sent_none desk.answers halves answer d is_sent in
-          let sent_then : (slice_index_or halves a d').sent ≡ answers_to a (history keeper before desk) =
-          ap (λ (es : List (Half Answer)). (slice_index_or es a d').sent) same ∙ stands.answered asked.going a d' (subst (λ (es : List (Half Answer)). a < length es) same inside) in (
-            from_agent (λ (it : Answer). it.agent) a (answers_after (history keeper before desk) (next_exchange keeper before desk request ∷ [])),
-            ap (λ (l : List Answer). l ++ from_agent (λ (it : Answer). it.agent) a (answers_after (history keeper before desk) (next_exchange keeper before desk request ∷ []))) sent_then
-                ∙ (sym (answers_more a (history keeper before desk) (next_exchange keeper before desk request ∷ []))
+          let here : a < length desk.answers = subst (λ (es : List (Half Answer)). a < length es) same inside in
+          let sent_then : (slice_index_or halves a d').sent ≡ answers_to a (history_before keeper before desk request) =
+          ap (λ (es : List (Half Answer)). (slice_index_or es a d').sent) same
+          ∙ (stands.answered asked.going a d' here ∙ sym (before_answers a (few_agents a here) (keeper.rules desk.start) (history keeper before desk) request)) in (
+            from_agent (λ (it : Answer). it.agent) a (answers_after (history_before keeper before desk request) (next_exchange keeper before desk request ∷ [])),
+            ap (λ (l : List Answer). l ++ from_agent (λ (it : Answer). it.agent) a (answers_after (history_before keeper before desk request) (next_exchange keeper before desk request ∷ []))) sent_then
+                ∙ (sym (answers_more a (history_before keeper before desk request) (next_exchange keeper before desk request ∷ []))
                 ∙ ap (answers_to a) (sym history_new)),
           )
 
       -- the collector stands for one request more, after a history
-      pub stands_on : (sent : Bool) (d : Half Answer) → IsAnswerSent sent desk.answers answer halves → keeper.has book (history keeper before desk ++ next_exchange keeper before desk request ∷ []) rest → (keeper.moment book ≡ keeper.moment desk.book) × ((t : ℕ) (left : List ℕ) → keeper.left_since book t left → keeper.left_since desk.book t left) → (failed ≡ false → sent ≡ true)
+      pub stands_on : (sent : Bool) (d : Half Answer) → IsAnswerSent sent desk.answers answer halves → keeper.has book next_history rest → (keeper.moment book ≡ keeper.moment desk.book) × ((t : ℕ) (left : List ℕ) → keeper.left_since book t left → keeper.left_since desk.book t left) → (failed ≡ false → sent ≡ true)
           → StandsAfter keeper before answered_desk
       stands_on sent d is_sent book_is still going_on = record {
         has = subst (λ (t : List Exchange). keeper.has book t rest) (sym history_new) book_is;
         sent = sent_new sent d is_sent;
         answered = λ well. answered_new d (subst (λ (it : Bool). IsAnswerSent it desk.answers answer halves) (going_on well) is_sent);
         crash =
-            subst (λ (requests : List Request). MayCrash keeper desk.start book (keeper.limits desk.start) before requests)
+            subst (λ (requests : List Request). MayCrash keeper desk.start book (keeper.rules desk.start) before requests)
             (ap (λ (q : List Request). desk.requests.taken ++ q) asked.behind ∙ (sym (append_assoc desk.requests.taken (request ∷ []) rest) ∙ ap (λ (o : Out Request). o.taken ++ rest) (sym taken)))
             (stood_still keeper.moment keeper.left_since desk.start desk.book book _ still.0 still.1 stands.crash);
       }
@@ -243,10 +251,10 @@ module _ {B : Type 0} (keeper : Keeper B) (desk : Desk B) (request : Request) (r
 
     -- it keeps what every collector does
     pub keeps :
-        (sent : Bool) (d : Half Answer) → IsAnswerSent sent desk.answers answer halves → (failed ≡ false → sent ≡ true) → keeper.limits book ≡ keeper.limits desk.book → keeper.sealed book ≤ keeper.sealed desk.book + 1
+        (sent : Bool) (d : Half Answer) → IsAnswerSent sent desk.answers answer halves → (failed ≡ false → sent ≡ true) → keeper.rules book ≡ keeper.rules desk.book → keeper.sealed book ≤ keeper.sealed desk.book + 1
         → (keeper.moment book ≡ keeper.moment desk.book) × ((t : ℕ) (left : List ℕ) → keeper.left_since book t left → keeper.left_since desk.book t left)
-        → ((before : List Exchange) → BeginsWith keeper desk.start before → (answer ≡ answer_of (history keeper before desk) (next_exchange keeper before desk request)) × keeper.has book (history keeper before desk ++ next_exchange keeper before desk request ∷ []) rest) → IsDesk keeper answered_desk
-    keeps sent d is_sent going_on limits sealed still book_is =
+        → ((before : List Exchange) → BeginsWith keeper desk.start before → (answer ≡ answer_of (history_before keeper before desk request) (next_exchange keeper before desk request)) × keeper.has book (history_next (keeper.rules desk.start) (history keeper before desk) request) rest) → IsDesk keeper answered_desk
+    keeps sent d is_sent going_on same_rules sealed still book_is =
         let same = long sent d is_sent in
         let first = asked.kept.first in
         let past = asked.kept.past in
@@ -267,7 +275,7 @@ module _ {B : Type 0} (keeper : Keeper B) (desk : Desk B) (request : Request) (r
           together = omega arith;
           in_time = left_new same;
           lines = λ a d' inside. lines_new sent is_sent a d' (omega arith);
-          limits = limits ∙ asked.kept.limits;
+          rules = same_rules ∙ asked.kept.rules;
           began = asked.kept.began;
           room = asked.kept.room;
           sealed = omega arith;

@@ -8,43 +8,43 @@ use mathlib.Core.List.{IsPrefix}
 use Rattle.std.proofs.Math.Seq.{take-append-add}
 use Rattle.dsn_book.specs.Step.{letters_in}
 use Rattle.dsn_book.specs.declared.keeper.Keeper.{Ghosts as Keeper}
+use Rattle.dsn_book.specs.Release.{before_request, exchange_under, history_next, history_under}
+use Rattle.dsn_book.proofs.ReleaseLemmas.{next_letters, under-more}
 use Rattle.dsn_crew.specs.lane.Halves.{Half, Out}
-use Rattle.dsn_outcome.specs.History.{Exchange, exchange_of, history_after, letter_of, sealed_letters}
+use Rattle.dsn_outcome.specs.History.{Exchange, letter_of, sealed_letters}
 use Rattle.dsn_outcome.specs.Letter.{Letter}
 use Rattle.dsn_outcome.specs.declared.answer.Answer.{Answer}
 use Rattle.dsn_outcome.specs.Request.{Request}
-use Rattle.dsn_outcome.proofs.HistoryLaws.{letters_more}
 use Rattle.dsn_crew.specs.declared.desk.desk_fault.DeskFault.{DeskFault}
 use Rattle.dsn_crew.specs.declared.desk.desk_fault.DeskFault.TheVariants.{Requests, Answers, Letters}
 use Rattle.dsn_crew.specs.post.Sink.{Handed}
 use Rattle.dsn_crew.specs.agents.AgentLanes.{lanes_at}
-use Rattle.dsn_crew.specs.desk.Desk.{AreAnswered, AreLeft, Desk, EndsBy, HasStopped, IsFirstBehind, IsLastRequest, IsRun, IsRequestTaken, IsUnmoved, StandsAfter, all_gone, history, history_with, agent_lanes_of, letter_kept, next_exchange, taken_requests, with_failed}
+use Rattle.dsn_crew.specs.desk.Desk.{AreAnswered, AreLeft, Desk, EndsBy, HasStopped, IsFirstBehind, IsLastRequest, IsRun, IsRequestTaken, IsUnmoved, StandsAfter, all_gone, history, history_before, history_with, agent_lanes_of, letter_kept, next_exchange, taken_requests, with_failed}
 use Rattle.dsn_crew.specs.desk.Intake.{goodbyes, taken_request}
-use Rattle.dsn_crew.proofs.desk.EarlierLemmas.{more_after}
 
 module _ {B : Type 0} (keeper : Keeper B) (before : List Exchange) where
   -- the letters of one request more
-  letters_new : (old new : Desk B) (request : Request) (letter : List Letter) → new.start ≡ old.start → new.requests ≡ taken_request old.requests request → letter ≡ letter_of (history keeper before old) (next_exchange keeper before old request)
+  letters_new : (old new : Desk B) (request : Request) (letter : List Letter) → new.start ≡ old.start → new.requests ≡ taken_request old.requests request → letter ≡ letter_of (history_before keeper before old request) (next_exchange keeper before old request)
       → sealed_letters (history keeper before new) ≡ sealed_letters (history keeper before old) ++ letter
   letters_new old new request letter start taken is =
-      let more : history keeper before new ≡ history keeper before old ++ next_exchange keeper before old request ∷ [] =
-      (λ i. history_after (keeper.limits (start i)) before (taken i).taken) ∙ more_after (keeper.limits old.start) before old.requests.taken request in
+      let more : history keeper before new ≡ history_next (keeper.rules old.start) (history keeper before old) request =
+      (λ i. history_under (keeper.rules (start i)) before (taken i).taken) ∙ under-more (keeper.rules old.start) before old.requests.taken request in
       ap sealed_letters more
-      ∙ (letters_more (history keeper before old) (next_exchange keeper before old request)
+      ∙ (next_letters (keeper.rules old.start) (history keeper before old) request
       ∙ ap (λ (ls : List Letter). sealed_letters (history keeper before old) ++ ls) (sym is))
 
   letters_same : (old new : Desk B) → new.start ≡ old.start → new.requests ≡ old.requests → sealed_letters (history keeper before new) ≡ sealed_letters (history keeper before old) ++ []
   letters_same old new start taken =
-      ap sealed_letters (λ i. history_after (keeper.limits (start i)) before (taken i).taken) ∙ sym (append-nil (sealed_letters (history keeper before old)))
+      ap sealed_letters (λ i. history_under (keeper.rules (start i)) before (taken i).taken) ∙ sym (append-nil (sealed_letters (history keeper before old)))
 
   -- one request is the last of one
-  last_one : (desk : Desk B) (request : Request) (letter : List Letter) → letter ≡ letter_of (history keeper before desk) (next_exchange keeper before desk request) → IsLastRequest keeper before desk (request ∷ []) request letter
+  last_one : (desk : Desk B) (request : Request) (letter : List Letter) → letter ≡ letter_of (history_before keeper before desk request) (next_exchange keeper before desk request) → IsLastRequest keeper before desk (request ∷ []) request letter
   last_one desk request letter is = record {
     earlier = [];
     more_are = refl;
     letter_is =
         is
-        ∙ ap (λ (q : List Request). letter_of (history_after (keeper.limits desk.start) before q) (exchange_of (keeper.limits desk.start) (history_after (keeper.limits desk.start) before q) request)) (sym (append-nil desk.requests.taken));
+        ∙ ap (λ (q : List Request). letter_of (before_request (keeper.rules desk.start) (history_under (keeper.rules desk.start) before q) request) (exchange_under (keeper.rules desk.start) (history_under (keeper.rules desk.start) before q) request)) (sym (append-nil desk.requests.taken));
   }
 
 no_more : (out : Out Request) → out ≡ taken_requests out []
@@ -149,7 +149,7 @@ module _ {B : Type 0} (keeper : Keeper B) (before : List Exchange) where
   last_then old mid some more request letter start same last = record {
     earlier = some ++ last.earlier;
     more_are = ap (λ (l : List Request). some ++ l) last.more_are ∙ sym (append_assoc some last.earlier (request ∷ []));
-    letter_is = last.letter_is ∙ (λ i. letter_of (same last.earlier i) (exchange_of (keeper.limits (start i)) (same last.earlier i) request));
+    letter_is = last.letter_is ∙ (λ i. letter_of (before_request (keeper.rules (start i)) (same last.earlier i) request) (exchange_under (keeper.rules (start i)) (same last.earlier i) request));
   }
 
   ends_then : (old mid new : Desk B) (some more : List Request) (result : Result (Unit {0}) DeskFault) → mid.failed ≡ old.failed → mid.start ≡ old.start → ((later : List Request) → history_with keeper before mid later ≡ history_with keeper before old (some ++ later)) → EndsBy keeper before mid more new result → EndsBy keeper before old (some ++ more) new result
@@ -164,7 +164,7 @@ module _ {B : Type 0} (keeper : Keeper B) (before : List Exchange) where
 module _ {B S : Type 0} (keeper : Keeper B) (before : List Exchange) (takes : S → Letter → S → Type 0) where
   -- what all runs of one request share
   one_run : (old new : Desk B) (sink after : S) (request : Request) (handed : List Letter) (result : Result (Unit {0}) DeskFault) → new.requests ≡ taken_request old.requests request → IsFirstBehind old.behind request new.behind → new.start ≡ old.start → agent_lanes_of new ≡ agent_lanes_of old → new.missed ≡ old.missed
-      → Handed takes sink handed after → handed ++ letter_kept result ≡ letter_of (history keeper before old) (next_exchange keeper before old request) → old.failed ≡ false → AreLeft old old.requests.taken → new.failed ≡ is_err result → EndsBy keeper before old (request ∷ []) new result → IsRun keeper before takes old new sink after result
+      → Handed takes sink handed after → handed ++ letter_kept result ≡ letter_of (history_before keeper before old request) (next_exchange keeper before old request) → old.failed ≡ false → AreLeft old old.requests.taken → new.failed ≡ is_err result → EndsBy keeper before old (request ∷ []) new result → IsRun keeper before takes old new sink after result
   one_run old new sink after request handed result requests behind limits places missed sink_is letters going left failed ends = record {
     more = request ∷ [];
     requests = requests;
@@ -207,7 +207,7 @@ module _ {B S : Type 0} (keeper : Keeper B) (before : List Exchange) (takes : S 
   took_fault old new sink (Answers agent letter) kept left taken limits places =
       let answered : AreAnswered new.answers (history_with keeper before old []) =
       subst (λ (ends : List (Half Answer)). AreAnswered ends (history_with keeper before old [])) (sym taken.5)
-      (subst (λ (q : List Request). AreAnswered old.answers (history_after (keeper.limits old.start) before q)) (sym (append-nil old.requests.taken)) (kept.answered taken.1)) in
+      (subst (λ (q : List Request). AreAnswered old.answers (history_under (keeper.rules old.start) before q)) (sym (append-nil old.requests.taken)) (kept.answered taken.1)) in
       one_run old new sink sink taken.0 [] (Err (Answers agent letter)) taken.3 taken.8 limits places taken.6 refl taken.7 taken.1 (some_left old left taken.1) taken.2 (taken.1, taken.0, taken.4, last_one keeper before old taken.0 (letters_in letter) taken.7, answered)
   took_fault old new sink (Letters letter) kept left taken limits places = absurd taken
 
@@ -218,7 +218,7 @@ module _ {B S : Type 0} (keeper : Keeper B) (before : List Exchange) (takes : S 
   -- the sink is gone: the collector is as it was once the request was answered, but failed
   pub took_lost : (old mid new : Desk B) (sink after : S) (letter back : Letter) → StandsAfter keeper before mid → all_gone old ≡ false → IsRequestTaken keeper before old mid (Ok (Some letter)) → mid.start ≡ old.start → agent_lanes_of mid ≡ agent_lanes_of old → new ≡ with_failed mid true → back ≡ letter → after ≡ sink → IsRun keeper before takes old new sink after (Err (Letters back))
   took_lost old mid new sink after letter back kept left taken limits places is same sink_same =
-      let sealed : back ∷ [] ≡ letter_of (history keeper before old) (next_exchange keeper before old taken.0) = ap (λ (l : Letter). l ∷ []) same ∙ taken.6 in
+      let sealed : back ∷ [] ≡ letter_of (history_before keeper before old taken.0) (next_exchange keeper before old taken.0) = ap (λ (l : Letter). l ∷ []) same ∙ taken.6 in
       one_run old new sink after taken.0 [] (Err (Letters back)) (ap (λ (desk : Desk B). desk.requests) is ∙ taken.3) (subst (IsFirstBehind old.behind taken.0) (sym (ap (λ (desk : Desk B). desk.behind) is)) taken.7) (ap (λ (desk : Desk B). desk.start) is ∙ limits) (ap agent_lanes_of is ∙ places) (ap (λ (desk : Desk B). desk.missed) is ∙ taken.5) sink_same
       sealed taken.1 (some_left old left taken.1) (ap (λ (desk : Desk B). desk.failed) is) (taken.1, taken.0, last_one keeper before old taken.0 (back ∷ []) sealed, subst (λ (desk : Desk B). AreAnswered desk.answers (history keeper before desk)) (sym is) (kept.answered taken.2))
 
@@ -252,8 +252,8 @@ module _ {B S : Type 0} (keeper : Keeper B) (before : List Exchange) (takes : S 
   -- what a run took is said of the history that it began with
   history_then : {old mid : Desk B} {first second : S} (run : IsRun keeper before takes old mid first second (Ok tt)) → (more : List Request) → history_with keeper before mid more ≡ history_with keeper before old (run.more ++ more)
   history_then {old} run more =
-      (λ i. history_after (keeper.limits (run.start i)) before ((run.requests i).taken ++ more))
-      ∙ ap (history_after (keeper.limits old.start) before) (append_assoc old.requests.taken run.more more)
+      (λ i. history_under (keeper.rules (run.start i)) before ((run.requests i).taken ++ more))
+      ∙ ap (history_under (keeper.rules old.start) before) (append_assoc old.requests.taken run.more more)
 
   -- one run after another
   pub run_then : (old mid new : Desk B) (first second third : S) (result : Result (Unit {0}) DeskFault) → IsRun keeper before takes old mid first second (Ok tt) → IsRun keeper before takes mid new second third result → IsRun keeper before takes old new first third result

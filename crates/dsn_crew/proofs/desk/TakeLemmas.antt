@@ -6,12 +6,14 @@ use Rattle.std.proofs.lemmas.List.{append-nil}
 use Rattle.dsn_book.specs.Keeper.{MayCrash}
 use Rattle.dsn_book.specs.declared.keeper.Keeper.{Ghosts as Keeper}
 use Rattle.dsn_book.specs.declared.not_kept.NotKept.{NotKept}
+use Rattle.dsn_book.specs.Release.{before_request, exchange_under, history_next, history_under}
+use Rattle.dsn_book.proofs.ReleaseLemmas.{under-more}
 use Rattle.dsn_crew.specs.lane.Halves.{Out}
-use Rattle.dsn_outcome.specs.History.{Exchange, answer_of, exchange_of, history_after, letter_of}
+use Rattle.dsn_outcome.specs.History.{Exchange, answer_of, letter_of}
 use Rattle.dsn_outcome.specs.Letter.{Letter}
 use Rattle.dsn_outcome.specs.Request.{Request}
 use Rattle.dsn_outcome.specs.declared.answer.Answer.{Answer}
-use Rattle.dsn_crew.specs.desk.Desk.{AreLeft, Desk, IsDesk, IsRequestTaken, all_gone, history, next_exchange, with_failed}
+use Rattle.dsn_crew.specs.desk.Desk.{AreLeft, Desk, IsDesk, IsRequestTaken, all_gone, history, history_before, next_exchange, with_failed}
 use Rattle.dsn_crew.specs.KeeperHistory.{BeginsWith, StandsOrRefused}
 use Rattle.dsn_crew.specs.inner.Desk.{MayBeSent, with_kept}
 use Rattle.dsn_crew.specs.declared.desk.desk_fault.DeskFault.{DeskFault}
@@ -19,7 +21,6 @@ use Rattle.dsn_crew.specs.declared.desk.desk_fault.DeskFault.TheVariants.{Reques
 use Rattle.dsn_crew.specs.inner.Desk.{Intake}
 use Rattle.dsn_crew.specs.desk.Intake.{goodbyes, taken_request}
 use Rattle.dsn_crew.proofs.desk.CrashLemmas.{LeavesKept, done_on, none_done}
-use Rattle.dsn_crew.proofs.desk.EarlierLemmas.{more_after}
 use Rattle.dsn_crew.proofs.desk.IntakeLemmas.{AreNumbered, goodbyes-append}
 
 -- ---- the keeper
@@ -27,19 +28,19 @@ use Rattle.dsn_crew.proofs.desk.IntakeLemmas.{AreNumbered, goodbyes-append}
 -- what a keeper stands for, once it has kept what it was asked to or refused it, and what a crash
 -- leaves at each moment of that
 abbrev pub IsTied : {B : Type 0} → Keeper B → B → B → Option NotKept → List Request → Type 0
-IsTied keeper book new_book unkept behind = (t : List Exchange) → keeper.has book t [] → StandsOrRefused keeper unkept behind t new_book × MayCrash keeper book new_book (keeper.limits book) t behind
+IsTied keeper book new_book unkept behind = (t : List Exchange) → keeper.has book t [] → StandsOrRefused keeper unkept behind t new_book × MayCrash keeper book new_book (keeper.rules book) t behind
 
 module _ {B : Type 0} (keeper : Keeper B) (book new_book : B) (behind : List Request) where
   -- one that was asked nothing
   pub unmoved_tied : LeavesKept keeper → behind ≡ [] → IsTied keeper book book None behind
-  unmoved_tied law none = λ t has. subst (λ (q : List Request). keeper.has book t q × MayCrash keeper book book (keeper.limits book) t q) (sym none) (has, none_done keeper book book book (keeper.limits book) t [] law refl has)
+  unmoved_tied law none = λ t has. subst (λ (q : List Request). keeper.has book t q × MayCrash keeper book book (keeper.rules book) t q) (sym none) (has, none_done keeper book book book (keeper.rules book) t [] law refl has)
 
   -- one that has kept these requests
-  pub kept_tied : ((t : List Exchange) → keeper.has book t [] → keeper.has new_book t behind) → ((t : List Exchange) → keeper.has book t [] → MayCrash keeper book new_book (keeper.limits book) t behind) → IsTied keeper book new_book None behind
+  pub kept_tied : ((t : List Exchange) → keeper.has book t [] → keeper.has new_book t behind) → ((t : List Exchange) → keeper.has book t [] → MayCrash keeper book new_book (keeper.rules book) t behind) → IsTied keeper book new_book None behind
   kept_tied has crash = λ t was. (has t was, crash t was)
 
   -- one that refused them
-  pub refused_tied : (why : NotKept) → 1 ≤ length behind → keeper.refuses book behind why new_book → ((t : List Exchange) → keeper.has book t [] → MayCrash keeper book new_book (keeper.limits book) t behind) → IsTied keeper book new_book (Some why) behind
+  pub refused_tied : (why : NotKept) → 1 ≤ length behind → keeper.refuses book behind why new_book → ((t : List Exchange) → keeper.has book t [] → MayCrash keeper book new_book (keeper.rules book) t behind) → IsTied keeper book new_book (Some why) behind
   refused_tied why some refuses crash = λ t has. ((book, has, refuses, some), crash t has)
 
 -- ---- the collector
@@ -53,7 +54,7 @@ failed_desk keeper desk kept = record {
   lines = kept.lines;
   mine = kept.mine;
   numbered = kept.numbered;
-  limits = kept.limits;
+  rules = kept.rules;
   began = kept.began;
   room = kept.room;
   sealed = kept.sealed;
@@ -110,9 +111,9 @@ module _ {B : Type 0} (keeper : Keeper B) (desk : Desk B) (kept : IsDesk keeper 
     -- they are behind, kept or refused
     pub taken_desk :
         (book : B) (out : Out Request) (behind : List Request) (failed : Bool) (unkept : Option NotKept) → out ≡ desk.requests → length behind ≤ 16 → All (λ (r : Request). r.agent < desk.requests.past) behind → AreNumbered (out.taken ++ behind)
-        → ((n : ℕ) → n < length behind → AreLeft desk (desk.requests.taken ++ take n behind)) → IsTied keeper desk.book book unkept behind → keeper.limits book ≡ keeper.limits desk.book → keeper.sealed book ≡ keeper.sealed desk.book → (failed ≡ false → unkept ≡ None)
+        → ((n : ℕ) → n < length behind → AreLeft desk (desk.requests.taken ++ take n behind)) → IsTied keeper desk.book book unkept behind → keeper.rules book ≡ keeper.rules desk.book → keeper.sealed book ≡ keeper.sealed desk.book → (failed ≡ false → unkept ≡ None)
         → IsDesk keeper (record { start = desk.start; book = book; requests = out; behind = behind; answers = desk.answers; missed = desk.missed; failed = failed; unkept = unkept })
-    taken_desk book out behind failed unkept same few from numbered in_time tied limits sealed unless =
+    taken_desk book out behind failed unkept same few from numbered in_time tied same_rules sealed unless =
         subst (λ (o : Out Request). IsDesk keeper (record { start = desk.start; book = book; requests = o; behind = behind; answers = desk.answers; missed = desk.missed; failed = failed; unkept = unkept })) (sym same)
         (record {
           first = kept.first;
@@ -121,7 +122,7 @@ module _ {B : Type 0} (keeper : Keeper B) (desk : Desk B) (kept : IsDesk keeper 
           lines = kept.lines;
           mine = kept.mine;
           numbered = kept.numbered;
-          limits = limits ∙ kept.limits;
+          rules = same_rules ∙ kept.rules;
           began = kept.began;
           room = kept.room;
           sealed = (let before = kept.sealed in omega (arith, sealed));
@@ -138,8 +139,8 @@ module _ {B : Type 0} (keeper : Keeper B) (desk : Desk B) (kept : IsDesk keeper 
                 has = (tied _ (has_none before begins)).0;
                 sent = then.sent;
                 answered = λ _. then.answered going;
-                crash = done_on keeper desk.start desk.book book (keeper.limits desk.start) before desk.requests.taken desk.behind behind idle then.crash
-                    (subst (λ l. MayCrash keeper desk.book book l (history keeper before desk) behind) kept.limits (tied _ (has_none before begins)).1);
+                crash = done_on keeper desk.start desk.book book (keeper.rules desk.start) before desk.requests.taken desk.behind behind idle then.crash
+                    (subst (λ r. MayCrash keeper desk.book book r (history keeper before desk) behind) kept.rules (tied _ (has_none before begins)).1);
               };
         })
 
@@ -152,31 +153,31 @@ module _ {B : Type 0} (keeper : Keeper B) (desk : Desk B) (kept : IsDesk keeper 
     has_some = (_, rest, has_next kept.began.0 kept.began.1)
 
     -- the answer is the one that each history says
-    pub answer_says : (answer : Answer) → ((t : List Exchange) (q : List Request) → keeper.has desk.book t (request ∷ q) → answer ≡ answer_of t (exchange_of (keeper.limits desk.book) t request)) → (before : List Exchange) → BeginsWith keeper desk.start before → answer ≡ answer_of (history keeper before desk) (next_exchange keeper before desk request)
+    pub answer_says : (answer : Answer) → ((t : List Exchange) (q : List Request) → keeper.has desk.book t (request ∷ q) → answer ≡ answer_of (before_request (keeper.rules desk.book) t request) (exchange_under (keeper.rules desk.book) t request)) → (before : List Exchange) → BeginsWith keeper desk.start before → answer ≡ answer_of (history_before keeper before desk request) (next_exchange keeper before desk request)
     answer_says answer says before begins =
-        says _ rest (has_next before begins) ∙ ap (λ l. answer_of (history keeper before desk) (exchange_of l (history keeper before desk) request)) kept.limits
+        says _ rest (has_next before begins) ∙ ap (λ r. answer_of (before_request r (history keeper before desk) request) (exchange_under r (history keeper before desk) request)) kept.rules
 
     -- and so is the letter
-    pub letter_says : (letters : List Letter) → ((t : List Exchange) (q : List Request) → keeper.has desk.book t (request ∷ q) → letters ≡ letter_of t (exchange_of (keeper.limits desk.book) t request)) → (before : List Exchange) → BeginsWith keeper desk.start before
-        → letters ≡ letter_of (history keeper before desk) (next_exchange keeper before desk request)
+    pub letter_says : (letters : List Letter) → ((t : List Exchange) (q : List Request) → keeper.has desk.book t (request ∷ q) → letters ≡ letter_of (before_request (keeper.rules desk.book) t request) (exchange_under (keeper.rules desk.book) t request)) → (before : List Exchange) → BeginsWith keeper desk.start before
+        → letters ≡ letter_of (history_before keeper before desk request) (next_exchange keeper before desk request)
     letter_says letters says before begins =
-        says _ rest (has_next before begins) ∙ ap (λ l. letter_of (history keeper before desk) (exchange_of l (history keeper before desk) request)) kept.limits
+        says _ rest (has_next before begins) ∙ ap (λ r. letter_of (before_request r (history keeper before desk) request) (exchange_under r (history keeper before desk) request)) kept.rules
 
-    module _ (book : B) (has : (t : List Exchange) (q : List Request) → keeper.has desk.book t (request ∷ q) → keeper.has book (t ++ exchange_of (keeper.limits desk.book) t request ∷ []) q) where
-      pub has_says : (before : List Exchange) → BeginsWith keeper desk.start before → keeper.has book (history keeper before desk ++ next_exchange keeper before desk request ∷ []) rest
+    module _ (book : B) (has : (t : List Exchange) (q : List Request) → keeper.has desk.book t (request ∷ q) → keeper.has book (history_next (keeper.rules desk.book) t request) q) where
+      pub has_says : (before : List Exchange) → BeginsWith keeper desk.start before → keeper.has book (history_next (keeper.rules desk.start) (history keeper before desk) request) rest
       has_says before begins =
-          subst (λ l. keeper.has book (history keeper before desk ++ exchange_of l (history keeper before desk) request ∷ []) rest) kept.limits (has _ rest (has_next before begins))
+          subst (λ r. keeper.has book (history_next r (history keeper before desk) request) rest) kept.rules (has _ rest (has_next before begins))
 
       -- the answer may be sent
-      pub may_be_sent : (answer : Answer) → ((before : List Exchange) → BeginsWith keeper desk.start before → answer ≡ answer_of (history keeper before desk) (next_exchange keeper before desk request)) → (intake : Intake) → intake.requests ≡ taken_request desk.requests request → intake.behind ≡ rest → (before : List Exchange) → BeginsWith keeper desk.start before
-          → MayBeSent keeper (keeper.limits desk.start) before intake book answer
+      pub may_be_sent : (answer : Answer) → ((before : List Exchange) → BeginsWith keeper desk.start before → answer ≡ answer_of (history_before keeper before desk request) (next_exchange keeper before desk request)) → (intake : Intake) → intake.requests ≡ taken_request desk.requests request → intake.behind ≡ rest → (before : List Exchange) → BeginsWith keeper desk.start before
+          → MayBeSent keeper (keeper.rules desk.start) before intake book answer
       may_be_sent answer says intake taken left before begins =
           let more = ap (λ (o : Out Request). o.taken) taken in record {
             earlier = desk.requests.taken;
             last = request;
             taken_are = more;
             has =
-                subst (keeper.has book (history_after (keeper.limits desk.start) before intake.requests.taken)) (sym left)
-                (subst (λ h. keeper.has book h rest) (sym (ap (history_after (keeper.limits desk.start) before) more ∙ more_after (keeper.limits desk.start) before desk.requests.taken request)) (has_says before begins));
+                subst (keeper.has book (history_under (keeper.rules desk.start) before intake.requests.taken)) (sym left)
+                (subst (λ h. keeper.has book h rest) (sym (ap (history_under (keeper.rules desk.start) before) more ∙ under-more (keeper.rules desk.start) before desk.requests.taken request)) (has_says before begins));
             answers = says before begins;
           }

@@ -1,15 +1,16 @@
--- Desks: what contracts see of the collector, and what each request that it takes comes to.
+-- Desks: what contracts see of the collector, and what each request that it takes does.
 use Rattle.std.specs.Prelude.{◌≡◌, ◌≢◌, ◌⊎◌, ℕ, ◌+◌, ◌^◌, ◌<◌, ◌≤◌, Bool, true, false, ◌==◌, ◌&&◌, ◌||◌, not, List, [], ◌∷◌, ◌++◌, length, map, take, slice_set, All, Result, Ok, Err, is_err, Option, Some, None}
 use mathlib.Core.List.{IsPrefix}
 use Rattle.std.specs.List.{slice_index_or}
 use Rattle.dsn_book.specs.Keeper.{MayCrash}
 use Rattle.dsn_book.specs.declared.keeper.Keeper.{Ghosts as Keeper}
+use Rattle.dsn_book.specs.Release.{before_request, exchange_under, history_under}
 use Rattle.dsn_book.specs.declared.not_kept.NotKept.{NotKept}
 use Rattle.dsn_book.specs.Step.{letters_in}
 use Rattle.dsn_crew.specs.lane.Halves.{Half, Out}
 use Rattle.dsn_crew.specs.lane.Lane.{IsNumbered, most_agents}
 use Rattle.dsn_outcome.specs.Agents.{from_agent}
-use Rattle.dsn_outcome.specs.History.{Exchange, answer_of, answers_to, exchange_of, history_after, letter_of, sealed_letters}
+use Rattle.dsn_outcome.specs.History.{Exchange, answer_of, answers_to, letter_of, sealed_letters}
 use Rattle.dsn_outcome.specs.Letter.{Letter}
 use Rattle.dsn_outcome.specs.Request.{Request}
 use Rattle.dsn_outcome.specs.declared.answer.Answer.{Answer}
@@ -44,19 +45,25 @@ all_gone desk =
 abbrev pub AreLeft : {B : Type 0} → Desk B → List Request → Type 0
 AreLeft desk requests = goodbyes requests + desk.missed ≢ length desk.answers
 
--- what the requests come to that it carried out, after the history that it began with; and so with
--- these requests more
+-- the history of the requests that it carried out by its keeper's rules, after the one that it began
+-- with; and with these requests more
 abbrev pub history : {B : Type 0} → Keeper B → List Exchange → Desk B → List Exchange
-history keeper before desk = history_after (keeper.limits desk.start) before desk.requests.taken
+history keeper before desk = history_under (keeper.rules desk.start) before desk.requests.taken
 
 abbrev pub history_with :
     {B : Type 0} → Keeper B → List Exchange → Desk B → List Request → List Exchange
 history_with keeper before desk more =
-    history_after (keeper.limits desk.start) before (desk.requests.taken ++ more)
+    history_under (keeper.rules desk.start) before (desk.requests.taken ++ more)
+
+-- the history in which its next request is carried out, once room is made for it, and the exchange
+abbrev pub history_before :
+    {B : Type 0} → Keeper B → List Exchange → Desk B → Request → List Exchange
+history_before keeper before desk request =
+    before_request (keeper.rules desk.start) (history keeper before desk) request
 
 abbrev pub next_exchange : {B : Type 0} → Keeper B → List Exchange → Desk B → Request → Exchange
 next_exchange keeper before desk request =
-    exchange_of (keeper.limits desk.start) (history keeper before desk) request
+    exchange_under (keeper.rules desk.start) (history keeper before desk) request
 
 -- each agent was sent what a history answers it
 abbrev pub AreAnswered : List (Half Answer) → List Exchange → Type 0
@@ -64,10 +71,10 @@ AreAnswered halves exchanges =
     (a : ℕ) (d : Half Answer) → a < length halves
     → (slice_index_or halves a d).sent ≡ answers_to a exchanges
 
--- A collector that began with a history. Its book stands for what it carried out, and has kept those
--- behind, or stood for that until it refused these. What it sent each agent are the first of the
--- answers which that history gives the agent, and all of them unless it failed. At each moment since
--- it began a crash leaves the history with the first of the requests that it took, those behind too
+-- A collector that began with a history. Its book models what it carried out, and has kept those
+-- behind, or modelled that until it refused these. It sent each agent the first of the answers that
+-- this history gives the agent, and all of them unless it failed. At each moment since it began a
+-- crash leaves the history with a first part of the requests that it took, those behind too
 pub record StandsAfter {B : Type 0} (keeper : Keeper B) (before : List Exchange)
     (desk : Desk B) : Type 0 where
   pub has :
@@ -75,15 +82,15 @@ pub record StandsAfter {B : Type 0} (keeper : Keeper B) (before : List Exchange)
   pub sent : (a : ℕ) (d : Half Answer) → a < length desk.answers
       → IsPrefix (slice_index_or desk.answers a d).sent (answers_to a (history keeper before desk))
   pub answered : desk.failed ≡ false → AreAnswered desk.answers (history keeper before desk)
-  pub crash : MayCrash keeper desk.start desk.book (keeper.limits desk.start) before
+  pub crash : MayCrash keeper desk.start desk.book (keeper.rules desk.start) before
       (desk.requests.taken ++ desk.behind)
 
 -- What every collector keeps. Each answer lane is of its agent, and the agents are numbered from 0,
 -- up to `most_agents`. What it took, those behind too, is of these agents, and numbered from 0 agent
 -- by agent. Those behind are at most `most_together`, and each was taken while agents were left. It
--- began with some history, and stands for what it carried out after whatever history it began with,
--- under the limits that it began with. Unless it failed each agent was answered as often as requests
--- of its were carried out, and no request was refused
+-- began with some history, and models what it carried out after whatever history it began with, by
+-- the rules that it began with. Unless it failed, each agent was answered as often as its requests
+-- were carried out, and no request was refused
 pub record IsDesk {B : Type 0} (keeper : Keeper B) (desk : Desk B) : Type 0 where
   pub first : desk.requests.first ≡ 0
   pub past : desk.requests.past ≡ length desk.answers
@@ -94,7 +101,7 @@ pub record IsDesk {B : Type 0} (keeper : Keeper B) (desk : Desk B) : Type 0 wher
   pub numbered : (agent : ℕ)
       → IsNumbered (λ (request : Request). request.number)
       (from_agent (λ (request : Request). request.agent) agent desk.requests.taken)
-  pub limits : keeper.limits desk.book ≡ keeper.limits desk.start
+  pub rules : keeper.rules desk.book ≡ keeper.rules desk.start
   pub began : (before : List Exchange) × BeginsWith keeper desk.start before
   pub room : keeper.sealed desk.start < 2 ^ 63
   pub sealed : keeper.sealed desk.book ≤ keeper.sealed desk.start + length desk.requests.taken
@@ -148,10 +155,10 @@ missing desk agents = record desk { missed = desk.missed + agents }
 abbrev pub IsFirstBehind : List Request → Request → List Request → Type 0
 IsFirstBehind old request new = (old ≡ request ∷ new) ⊎ (old ≡ [])
 
--- what taking one request comes to, after the history that the collector began with: it is the first
--- of those behind, where some are. Ok: it was answered as the history defines, and the letter is the
--- one that it sealed. `Requests`: nothing was carried out. `Answers`: the request was carried out,
--- and its answer is lost
+-- What taking one request does, after the history that the collector began with: it is the first of
+-- those behind, if some are. Ok: it was answered as the history defines, once room was made for it,
+-- and the letter is the one that it sealed. `Requests`: nothing was carried out. `Answers`: the
+-- request was carried out, and its answer is lost
 abbrev pub IsRequestTaken :
     {B : Type 0} → Keeper B → List Exchange → Desk B → Desk B → Result (Option Letter) DeskFault
     → Type 0
@@ -159,10 +166,12 @@ IsRequestTaken keeper before old new (Ok letter) =
     (request : Request) × (old.failed ≡ false) × (new.failed ≡ false)
     × (new.requests ≡ taken_request old.requests request)
     × IsAnswerSent true old.answers
-    (answer_of (history keeper before old) (next_exchange keeper before old request)) new.answers
+    (answer_of (history_before keeper before old request)
+    (next_exchange keeper before old request)) new.answers
     × (new.missed ≡ old.missed)
     × (letters_in letter
-    ≡ letter_of (history keeper before old) (next_exchange keeper before old request))
+    ≡ letter_of (history_before keeper before old request)
+    (next_exchange keeper before old request))
     × IsFirstBehind old.behind request new.behind
 IsRequestTaken keeper before old new (Err Requests) = HasStopped keeper old new
 IsRequestTaken keeper before old new (Err (Answers agent letter)) =
@@ -170,7 +179,8 @@ IsRequestTaken keeper before old new (Err (Answers agent letter)) =
     × (new.requests ≡ taken_request old.requests request)
     × (agent ≡ request.agent) × (new.answers ≡ old.answers) × (new.missed ≡ old.missed)
     × (letters_in letter
-    ≡ letter_of (history keeper before old) (next_exchange keeper before old request))
+    ≡ letter_of (history_before keeper before old request)
+    (next_exchange keeper before old request))
     × IsFirstBehind old.behind request new.behind
 IsRequestTaken keeper before old new (Err (Letters letter)) = ⊥
 
@@ -195,8 +205,9 @@ pub record IsLastRequest {B : Type 0} (keeper : Keeper B) (before : List Exchang
   pub earlier : List Request
   pub more_are : more ≡ earlier ++ last ∷ []
   pub letter_is : letter
-      ≡ letter_of (history_with keeper before desk earlier)
-      (exchange_of (keeper.limits desk.start) (history_with keeper before desk earlier) last)
+      ≡ letter_of
+      (before_request (keeper.rules desk.start) (history_with keeper before desk earlier) last)
+      (exchange_under (keeper.rules desk.start) (history_with keeper before desk earlier) last)
 
 -- what a fault that ends a run says of it. `Requests`: all that was carried out was answered, and
 -- agents are left. `Answers`: so it was, but for the last request, which was of this agent and sealed this

@@ -55,7 +55,7 @@ pub record IsOpened {B : Type 0} (keeper : Keeper B) (start : B) (agents : ℕ) 
   pub count : length desk.answers ≡ agents
   pub lines : AreLines desk.answers
   pub crew_is : crew
-      ≡ map (opened_agent (keeper.limits start).requests desk.requests.lane) desk.answers
+      ≡ map (opened_agent (keeper.rules start).limits.requests desk.requests.lane) desk.answers
   pub missed : desk.missed ≡ 0
   pub begun : desk.failed ≡ false
   pub kept : IsDesk keeper desk

@@ -1,13 +1,14 @@
--- Desks: what contracts see of the collector, and what each request that it takes comes to.
+-- Desks: what contracts of private parts see of the collector, and of a request that it takes.
 use Rattle.std.specs.Prelude.{ℕ, Bool, List, [], None, Option, Some, ◌≡◌, ◌≤◌, length, is_some, ◌∷◌, ◌++◌, take, drop}
 use Rattle.dsn_book.specs.declared.keeper.Keeper.{Ghosts as Keeper}
+use Rattle.dsn_book.specs.Release.{Rules, before_request, exchange_under, history_under}
 use Rattle.dsn_book.specs.declared.not_kept.NotKept.{NotKept}
 use Rattle.dsn_crew.specs.declared.breach.Breach.TheVariants.{AgentGone, HandedBack, Full, Unkept}
 use Rattle.dsn_crew.specs.declared.breach.Breach.{Breach}
 use Rattle.dsn_crew.specs.desk.Desk.{Desk}
 use Rattle.dsn_crew.specs.desk.Intake.{most_taken}
 use Rattle.dsn_crew.specs.lane.Halves.{Half, Out}
-use Rattle.dsn_outcome.specs.History.{Limits, Exchange, answer_of, exchange_of, history_after}
+use Rattle.dsn_outcome.specs.History.{Exchange, answer_of}
 use Rattle.dsn_outcome.specs.Request.{Request}
 use Rattle.dsn_outcome.specs.declared.answer.Answer.{Answer}
 
@@ -76,17 +77,18 @@ desk_seen start book stop intake answers missed = record {
   unkept = unkept_of stop;
 }
 
--- An answer that may be sent after a history: it is that of the last request which was carried out.
--- What carries requests out has kept all behind it that were taken, so that a crash leaves them
-pub record MayBeSent {B : Type 0} (keeper : Keeper B) (limits : Limits) (before : List Exchange)
+-- An answer that may be sent after a history: it is that of the last request that was carried out,
+-- by these rules. The keeper has kept all those behind it that were taken, so that a crash leaves
+-- them
+pub record MayBeSent {B : Type 0} (keeper : Keeper B) (rules : Rules) (before : List Exchange)
     (intake : Intake) (book : B) (answer : Answer) : Type 0 where
   pub earlier : List Request
   pub last : Request
   pub taken_are : intake.requests.taken ≡ earlier ++ last ∷ []
-  pub has : keeper.has book (history_after limits before intake.requests.taken) intake.behind
+  pub has : keeper.has book (history_under rules before intake.requests.taken) intake.behind
   pub answers : answer
-      ≡ answer_of (history_after limits before earlier)
-      (exchange_of limits (history_after limits before earlier) last)
+      ≡ answer_of (before_request rules (history_under rules before earlier) last)
+      (exchange_under rules (history_under rules before earlier) last)
 
 -- what is seen of a half of which so many requests were handed on
 abbrev pub intake_of : ℕ → Out Request → Intake

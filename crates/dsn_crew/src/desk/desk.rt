@@ -25,9 +25,10 @@ use std::snapshot::Snapshot;
 use std::sync::Wait;
 
 /// The collector of a crew: it takes the agents' requests that wait, has them kept together, and
-/// carries them out and answers them one after another. Contracts see its book, as it was at first
-/// and as it is, the requests that it carried out and those behind that it took, what it answered
-/// each agent, whether it failed, and why those behind were not kept, if they weren't.
+/// has its keeper carry them out by its rules, one after another, and answers them. Contracts see
+/// the keeper, as it was at first and as it is, the requests that it carried out and those behind
+/// that it took, what it answered each agent, whether it failed, and why those behind were not kept,
+/// if they weren't.
 #[derive(Drop)]
 pub struct Desk<B: Keeper = Book> {
     start: Snapshot<B>,
@@ -109,7 +110,7 @@ impl<B: Keeper> Desk<B> {
         }
     }
 
-    /// What carries its requests out. Its halves are given up, so that no agent waits for them.
+    /// Returns its keeper. Its halves are dropped, so that no agent waits for them.
     pub(crate) fn into_book(self) -> B
         ensures { result ≡ self.book }
     {
@@ -300,7 +301,7 @@ fn send_answer<B: Keeper>(
     answer: Answer,
 ) -> Result<(), LaneGone>
     requires kept { (before : List Exchange) → BeginsWith B.Keeper _start.now.value before
-        → MayBeSent B.Keeper (B.limits _start.now.value) before _intake.now _book.now answer }
+        → MayBeSent B.Keeper (B.rules _start.now.value) before _intake.now _book.now answer }
     requires within { answer.agent < length lines.old.items }
     requires agent { (d : Half Answer)
         → (slice_index_or lines.old.items answer.agent d).agent ≡ answer.agent }

@@ -99,7 +99,8 @@ impl Intake {
         take_together(rt, &mut self.lane, &mut self.behind, heard, agents)
     }
 
-    /// Has the requests behind kept.
+    /// Has the requests behind kept by the keeper, whose rules stay the same. Returns why they were
+    /// not kept, if so.
     pub(crate) fn keep_by<B: Keeper>(&mut self, keeper: &mut B) -> Result<(), NotKept>
         requires has { (t : List Exchange) × B.has keeper.old t [] }
         ensures same { self.new ≡ self.old }
@@ -107,8 +108,8 @@ impl Intake {
             → B.has keeper.new t self.old.behind) }
         ensures refused { IfErr result (λ why. B.refuses keeper.old self.old.behind why keeper.new) }
         ensures any_moment { (t : List Exchange) → B.has keeper.old t []
-            → MayCrash B.Keeper keeper.old keeper.new (B.limits keeper.old) t self.old.behind }
-        ensures limits { B.limits keeper.new ≡ B.limits keeper.old }
+            → MayCrash B.Keeper keeper.old keeper.new (B.rules keeper.old) t self.old.behind }
+        ensures rules { B.rules keeper.new ≡ B.rules keeper.old }
         ensures sealed { B.sealed keeper.new ≡ B.sealed keeper.old }
     {
         // A group that isn't kept is answered in no part, though its first requests may have had

@@ -7,7 +7,7 @@ use Rattle.dsn_outcome.specs.History.{letter_of}
 use Rattle.dsn_crew.proofs.desk.DeskLemmas.{IsAsked, first_half, keeps, line_agent, line_number, none_stopped, seen_going, sent_none, sent_places, sent_room, small, within}
 use Rattle.dsn_crew.proofs.desk.IntakeLemmas.{goodbyes_fit, goodbyes_more}
 use Rattle.dsn_crew.proofs.desk.TakeLemmas.{answer_says, has_says, has_some, letter_says, may_be_sent}
-use Rattle.dsn_crew.specs.desk.Desk.{Desk, IsAnswerSent, IsDesk, history, next_exchange, agent_lanes_of}
+use Rattle.dsn_crew.specs.desk.Desk.{Desk, IsAnswerSent, IsDesk, history_before, next_exchange, agent_lanes_of}
 use Rattle.dsn_crew.specs.inner.Desk.{desk_seen}
 use Rattle.dsn_crew.specs.desk.Intake.{taken_request}
 use Rattle.dsn_crew.proofs.desk.desk.Desk.answer_next.Goals as goal
@@ -82,7 +82,7 @@ invariant_of-self g c =
     let sent : is_ok c.send_answer.result ≡ true = search rules in
     let is_sent : IsAnswerSent true c.self.inside.lines.items c.apply-letter.result.answer c.send_answer.new.lines.items = subst (λ (it : Bool). IsAnswerSent it c.self.inside.lines.items c.apply-letter.result.answer c.send_answer.new.lines.items) sent c.send_answer.ensures in
     let bye = goodbyes_more c.self.inside.gone c.from.result c.is_bye.result c.self.inside.intake.requests.taken c.next-request.new.self.requests.taken c.next-request.result c.self.invariant.1 (ap (λ (o : Out _). o.taken) c.next-request.ensures.handed_on) (search rules) (search rules) in (
-      subst (IsDesk g.B.Keeper) (sym (seen_going _ _ _ _ _ _ going)) (keeps g.B.Keeper _ _ _ _ is_asked c.apply-letter.new.self c.next-request.new.self.requests c.send_answer.new.lines.items false c.next-request.ensures.handed_on true d is_sent (λ _. refl) c.apply-letter.ensures.limits c.apply-letter.ensures.sealed c.apply-letter.ensures.no_moment (λ before begins. (says before begins, stands before begins))),
+      subst (IsDesk g.B.Keeper) (sym (seen_going _ _ _ _ _ _ going)) (keeps g.B.Keeper _ _ _ _ is_asked c.apply-letter.new.self c.next-request.new.self.requests c.send_answer.new.lines.items false c.next-request.ensures.handed_on true d is_sent (λ _. refl) c.apply-letter.ensures.rules c.apply-letter.ensures.sealed c.apply-letter.ensures.no_moment (λ before begins. (says before begins, stands before begins))),
       bye,
       (search rules, sent_room true _ _ c.apply-letter.result.answer _ d is_sent c.self.invariant.2.1),
       none_stopped _ c.self.inside.stop going,
@@ -99,7 +99,7 @@ returns-in-Ok-clause-kept g c =
     let d : Half Answer = first_half _ _ (within _ _ _ _ _ is_asked) in
     let sent : is_ok c.send_answer.result ≡ true = search rules in
     let is_sent : IsAnswerSent true c.self.inside.lines.items c.apply-letter.result.answer c.send_answer.new.lines.items = subst (λ (it : Bool). IsAnswerSent it c.self.inside.lines.items c.apply-letter.result.answer c.send_answer.new.lines.items) sent c.send_answer.ensures in
-    subst (IsDesk g.B.Keeper) (sym (seen_going _ _ _ _ _ _ going)) (keeps g.B.Keeper _ _ _ _ is_asked c.apply-letter.new.self c.next-request.new.self.requests c.send_answer.new.lines.items false c.next-request.ensures.handed_on true d is_sent (λ _. refl) c.apply-letter.ensures.limits c.apply-letter.ensures.sealed c.apply-letter.ensures.no_moment (λ before begins. (says before begins, stands before begins)))
+    subst (IsDesk g.B.Keeper) (sym (seen_going _ _ _ _ _ _ going)) (keeps g.B.Keeper _ _ _ _ is_asked c.apply-letter.new.self c.next-request.new.self.requests c.send_answer.new.lines.items false c.next-request.ensures.handed_on true d is_sent (λ _. refl) c.apply-letter.ensures.rules c.apply-letter.ensures.sealed c.apply-letter.ensures.no_moment (λ before begins. (says before begins, stands before begins)))
 
 pub invariant_of-self-in-Err : goal.invariant_of-self-in-Err
 invariant_of-self-in-Err g c =
@@ -113,7 +113,7 @@ invariant_of-self-in-Err g c =
     let sent : is_ok c.send_answer.result ≡ false = search rules in
     let is_sent : IsAnswerSent false c.self.inside.lines.items c.apply-letter.result.answer c.send_answer.new.lines.items = subst (λ (it : Bool). IsAnswerSent it c.self.inside.lines.items c.apply-letter.result.answer c.send_answer.new.lines.items) sent c.send_answer.ensures in
     let bye = goodbyes_more c.self.inside.gone c.from.result c.is_bye.result c.self.inside.intake.requests.taken c.next-request.new.self.requests.taken c.next-request.result c.self.invariant.1 (ap (λ (o : Out _). o.taken) c.next-request.ensures.handed_on) (search rules) (search rules) in (
-      keeps g.B.Keeper _ _ _ _ is_asked c.apply-letter.new.self c.next-request.new.self.requests c.send_answer.new.lines.items true c.next-request.ensures.handed_on false d is_sent (λ never. absurd (true≢false never)) c.apply-letter.ensures.limits c.apply-letter.ensures.sealed c.apply-letter.ensures.no_moment (λ before begins. (says before begins, stands before begins)),
+      keeps g.B.Keeper _ _ _ _ is_asked c.apply-letter.new.self c.next-request.new.self.requests c.send_answer.new.lines.items true c.next-request.ensures.handed_on false d is_sent (λ never. absurd (true≢false never)) c.apply-letter.ensures.rules c.apply-letter.ensures.sealed c.apply-letter.ensures.no_moment (λ before begins. (says before begins, stands before begins)),
       bye,
       (search rules, sent_room false _ _ c.apply-letter.result.answer _ d is_sent c.self.invariant.2.1),
       refl,
@@ -130,7 +130,7 @@ returns-in-Err-clause-kept g c =
     let d : Half Answer = first_half _ _ (within _ _ _ _ _ is_asked) in
     let sent : is_ok c.send_answer.result ≡ false = search rules in
     let is_sent : IsAnswerSent false c.self.inside.lines.items c.apply-letter.result.answer c.send_answer.new.lines.items = subst (λ (it : Bool). IsAnswerSent it c.self.inside.lines.items c.apply-letter.result.answer c.send_answer.new.lines.items) sent c.send_answer.ensures in
-    keeps g.B.Keeper _ _ _ _ is_asked c.apply-letter.new.self c.next-request.new.self.requests c.send_answer.new.lines.items true c.next-request.ensures.handed_on false d is_sent (λ never. absurd (true≢false never)) c.apply-letter.ensures.limits c.apply-letter.ensures.sealed c.apply-letter.ensures.no_moment (λ before begins. (says before begins, stands before begins))
+    keeps g.B.Keeper _ _ _ _ is_asked c.apply-letter.new.self c.next-request.new.self.requests c.send_answer.new.lines.items true c.next-request.ensures.handed_on false d is_sent (λ never. absurd (true≢false never)) c.apply-letter.ensures.rules c.apply-letter.ensures.sealed c.apply-letter.ensures.no_moment (λ before begins. (says before begins, stands before begins))
 
 pub returns-in-Ok-clause-places : goal.returns-in-Ok-clause-places
 returns-in-Ok-clause-places g c =
@@ -173,6 +173,6 @@ returns-in-Err-clause-taken g c =
       sent_none _ _ c.apply-letter.result.answer d is_sent ∙ ap (λ (desk : Desk _). desk.answers) is,
       ap (λ (desk : Desk _). desk.missed) is,
       letter_says g.B.Keeper _ kept refl c.next-request.result c.next-request.new.self.behind c.next-request.ensures.next _ c.apply-letter.ensures.letter before (search rules)
-          ∙ ap (λ (desk : Desk _). letter_of (history g.B.Keeper before desk) (next_exchange g.B.Keeper before desk c.next-request.result)) is,
+          ∙ ap (λ (desk : Desk _). letter_of (history_before g.B.Keeper before desk c.next-request.result) (next_exchange g.B.Keeper before desk c.next-request.result)) is,
       inl (sym (ap (λ (desk : Desk _). desk.behind) is) ∙ c.next-request.ensures.next),
     )

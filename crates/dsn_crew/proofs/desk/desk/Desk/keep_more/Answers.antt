@@ -46,7 +46,7 @@ invariant_of-self-in-Err-keep_by g c =
     λ n few. left_of (desk_seen c.self.inside.start.value c.self.inside.book None c.self.inside.intake c.self.inside.lines.items c.self.inside.missed) c.self.inside.gone (c.from.result + c.from-2.result) c.len.result (take n c.fill.new.self.behind) c.self.invariant.1 (search rules) (search rules) (c.fill.ensures.in_time n few) in
     let counted = c.self.invariant.1 ∙ ap (λ (o : Out _). goodbyes o.taken) (sym c.fill.ensures.handed_on) in (
       subst (λ (intake : Intake). IsDesk g.B.Keeper (desk_seen c.self.inside.start.value c.keep_by.new.keeper (Some (Unkept c.in-Err-keep_by.why)) intake c.self.inside.lines.items c.self.inside.missed)) (sym c.keep_by.ensures.same)
-          (taken_desk g.B.Keeper _ kept refl idle c.keep_by.new.keeper c.fill.new.self.requests c.fill.new.self.behind true (Some c.in-Err-keep_by.why) c.fill.ensures.handed_on c.fill.ensures.together c.fill.ensures.agents c.fill.ensures.numbered in_time (refused_tied g.B.Keeper c.self.inside.book c.keep_by.new.keeper c.fill.new.self.behind c.in-Err-keep_by.why (search rules) (search rules) c.keep_by.ensures.any_moment) c.keep_by.ensures.limits c.keep_by.ensures.sealed (λ never. absurd (true≢false never))),
+          (taken_desk g.B.Keeper _ kept refl idle c.keep_by.new.keeper c.fill.new.self.requests c.fill.new.self.behind true (Some c.in-Err-keep_by.why) c.fill.ensures.handed_on c.fill.ensures.together c.fill.ensures.agents c.fill.ensures.numbered in_time (refused_tied g.B.Keeper c.self.inside.book c.keep_by.new.keeper c.fill.new.self.behind c.in-Err-keep_by.why (search rules) (search rules) c.keep_by.ensures.any_moment) c.keep_by.ensures.rules c.keep_by.ensures.sealed (λ never. absurd (true≢false never))),
       counted ∙ ap (λ (intake : Intake). goodbyes intake.requests.taken) (sym c.keep_by.ensures.same),
       c.self.invariant.2,
       record { unkept = refl; was = c.self.inside.book; refuses = search rules; some = search rules },
@@ -60,7 +60,7 @@ returns-in-Err-keep_by-clause-kept g c =
     let in_time : (n : ℕ) → n < length c.fill.new.self.behind → AreLeft (desk_seen c.self.inside.start.value c.self.inside.book None c.self.inside.intake c.self.inside.lines.items c.self.inside.missed) (c.self.inside.intake.requests.taken ++ take n c.fill.new.self.behind) =
     λ n few. left_of (desk_seen c.self.inside.start.value c.self.inside.book None c.self.inside.intake c.self.inside.lines.items c.self.inside.missed) c.self.inside.gone (c.from.result + c.from-2.result) c.len.result (take n c.fill.new.self.behind) c.self.invariant.1 (search rules) (search rules) (c.fill.ensures.in_time n few) in
     subst (λ (intake : Intake). IsDesk g.B.Keeper (desk_seen c.self.inside.start.value c.keep_by.new.keeper (Some (Unkept c.in-Err-keep_by.why)) intake c.self.inside.lines.items c.self.inside.missed)) (sym c.keep_by.ensures.same)
-    (taken_desk g.B.Keeper _ kept refl idle c.keep_by.new.keeper c.fill.new.self.requests c.fill.new.self.behind true (Some c.in-Err-keep_by.why) c.fill.ensures.handed_on c.fill.ensures.together c.fill.ensures.agents c.fill.ensures.numbered in_time (refused_tied g.B.Keeper c.self.inside.book c.keep_by.new.keeper c.fill.new.self.behind c.in-Err-keep_by.why (search rules) (search rules) c.keep_by.ensures.any_moment) c.keep_by.ensures.limits c.keep_by.ensures.sealed (λ never. absurd (true≢false never)))
+    (taken_desk g.B.Keeper _ kept refl idle c.keep_by.new.keeper c.fill.new.self.requests c.fill.new.self.behind true (Some c.in-Err-keep_by.why) c.fill.ensures.handed_on c.fill.ensures.together c.fill.ensures.agents c.fill.ensures.numbered in_time (refused_tied g.B.Keeper c.self.inside.book c.keep_by.new.keeper c.fill.new.self.behind c.in-Err-keep_by.why (search rules) (search rules) c.keep_by.ensures.any_moment) c.keep_by.ensures.rules c.keep_by.ensures.sealed (λ never. absurd (true≢false never)))
 
 pub invariant_of-self-in_default-keep_by : goal.invariant_of-self-in_default-keep_by
 invariant_of-self-in_default-keep_by g c =
@@ -71,7 +71,7 @@ invariant_of-self-in_default-keep_by g c =
     λ n few. left_of (desk_seen c.self.inside.start.value c.self.inside.book None c.self.inside.intake c.self.inside.lines.items c.self.inside.missed) c.self.inside.gone (c.from.result + c.from-2.result) c.len.result (take n c.fill.new.self.behind) c.self.invariant.1 (search rules) (search rules) (c.fill.ensures.in_time n few) in
     let counted = c.self.invariant.1 ∙ ap (λ (o : Out _). goodbyes o.taken) (sym c.fill.ensures.handed_on) in (
       subst (λ (intake : Intake). IsDesk g.B.Keeper (desk_seen c.self.inside.start.value c.keep_by.new.keeper c.self.inside.stop intake c.self.inside.lines.items c.self.inside.missed)) (sym c.keep_by.ensures.same)
-          (subst (IsDesk g.B.Keeper) (sym (seen_going _ _ _ _ _ _ going)) (taken_desk g.B.Keeper _ kept refl idle c.keep_by.new.keeper c.fill.new.self.requests c.fill.new.self.behind false None c.fill.ensures.handed_on c.fill.ensures.together c.fill.ensures.agents c.fill.ensures.numbered in_time (kept_tied g.B.Keeper c.self.inside.book c.keep_by.new.keeper c.fill.new.self.behind (search rules) c.keep_by.ensures.any_moment) c.keep_by.ensures.limits c.keep_by.ensures.sealed (λ _. refl))),
+          (subst (IsDesk g.B.Keeper) (sym (seen_going _ _ _ _ _ _ going)) (taken_desk g.B.Keeper _ kept refl idle c.keep_by.new.keeper c.fill.new.self.requests c.fill.new.self.behind false None c.fill.ensures.handed_on c.fill.ensures.together c.fill.ensures.agents c.fill.ensures.numbered in_time (kept_tied g.B.Keeper c.self.inside.book c.keep_by.new.keeper c.fill.new.self.behind (search rules) c.keep_by.ensures.any_moment) c.keep_by.ensures.rules c.keep_by.ensures.sealed (λ _. refl))),
       counted ∙ ap (λ (intake : Intake). goodbyes intake.requests.taken) (sym c.keep_by.ensures.same),
       c.self.invariant.2,
       none_stopped _ c.self.inside.stop going,
@@ -85,4 +85,4 @@ returns-clause-kept g c =
     let in_time : (n : ℕ) → n < length c.fill.new.self.behind → AreLeft (desk_seen c.self.inside.start.value c.self.inside.book None c.self.inside.intake c.self.inside.lines.items c.self.inside.missed) (c.self.inside.intake.requests.taken ++ take n c.fill.new.self.behind) =
     λ n few. left_of (desk_seen c.self.inside.start.value c.self.inside.book None c.self.inside.intake c.self.inside.lines.items c.self.inside.missed) c.self.inside.gone (c.from.result + c.from-2.result) c.len.result (take n c.fill.new.self.behind) c.self.invariant.1 (search rules) (search rules) (c.fill.ensures.in_time n few) in
     subst (λ (intake : Intake). IsDesk g.B.Keeper (desk_seen c.self.inside.start.value c.keep_by.new.keeper c.self.inside.stop intake c.self.inside.lines.items c.self.inside.missed)) (sym c.keep_by.ensures.same)
-    (subst (IsDesk g.B.Keeper) (sym (seen_going _ _ _ _ _ _ going)) (taken_desk g.B.Keeper _ kept refl idle c.keep_by.new.keeper c.fill.new.self.requests c.fill.new.self.behind false None c.fill.ensures.handed_on c.fill.ensures.together c.fill.ensures.agents c.fill.ensures.numbered in_time (kept_tied g.B.Keeper c.self.inside.book c.keep_by.new.keeper c.fill.new.self.behind (search rules) c.keep_by.ensures.any_moment) c.keep_by.ensures.limits c.keep_by.ensures.sealed (λ _. refl)))
+    (subst (IsDesk g.B.Keeper) (sym (seen_going _ _ _ _ _ _ going)) (taken_desk g.B.Keeper _ kept refl idle c.keep_by.new.keeper c.fill.new.self.requests c.fill.new.self.behind false None c.fill.ensures.handed_on c.fill.ensures.together c.fill.ensures.agents c.fill.ensures.numbered in_time (kept_tied g.B.Keeper c.self.inside.book c.keep_by.new.keeper c.fill.new.self.behind (search rules) c.keep_by.ensures.any_moment) c.keep_by.ensures.rules c.keep_by.ensures.sealed (λ _. refl)))

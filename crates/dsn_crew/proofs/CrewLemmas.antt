@@ -1,4 +1,4 @@
--- Crews: what each agent's thread, the collector and the poster came to, put together.
+-- Crews: the results of each agent's thread, of the collector and of the poster, put together.
 use Rattle.std.proofs.Common.{◌≡◌, ◌≢◌, ℕ, suc, ◌+◌, ◌<◌, ◌≤◌, ◌⊎◌, inl, inr, Bool, true, All, List, [], ◌∷◌, ◌++◌, length, map, refl, ap, sym, ◌∙◌, subst, append_assoc, length-append, arith}
 use Rattle.std.specs.Prelude.{IfErr, IfOk, IfSome, Option, Some, None, Result, Ok, Err, is_none, is_some, not}
 use Rattle.std.proofs.lemmas.Bool.{false≢true}
@@ -94,7 +94,7 @@ module _ (rules : Rules) (lane : Identity Request) (half : Half Answer) (conns :
   last_number : length (after_requests (opened_agent rules.limits.requests lane half) (bodies_of sessions) (flat_map reply_of (answers_of sessions)) is.served.lost).halves.requests.sent ≡ line.requests
   last_number = ap (λ (agent : Agent). length agent.halves.requests.sent) (sym is.served.asked.agent_is) ∙ sym is.served.requests
 
-  -- where it was heard to its end, this is its account
+  -- if it was heard to its end, this is its account
   pub agent_account : {B : Type 0} (keeper : Keeper B) (before : List Exchange) (desk : Desk B) (agent : ℕ) → keeper.rules desk.start ≡ rules → half.agent ≡ agent → IsHeard keeper before desk halves → IsAgentAccount conns may_give rules before desk.requests.taken agent line halves
   agent_account keeper before desk agent rules_are number heard =
       let here : halves.requests.agent ≡ agent = ap (λ (e : LaneHalves). e.requests.agent) halves_are ∙ number in record {
@@ -147,7 +147,7 @@ module _ {P S : Type 0} (port : Port P S) (rules : Rules) (lane : Identity Reque
       let here = subst (λ (e : Option PortEnd). IfSome e (IsPortServed (port.conns one) (port.may_give one) (opened_agent rules.limits.requests lane answer))) ended.0 served.0 in
       λ i. same_place rules lane answer (port.conns one) (port.may_give one) line agent here i ∷ same_places answers ports ends lines crew served.1 ended.1 i
 
-  -- and where each was heard to its end, these are their accounts
+  -- if each was heard to its end, these are their accounts
   pub agent_accounts : {B : Type 0} (keeper : Keeper B) (before : List Exchange) (desk : Desk B) → keeper.rules desk.start ≡ rules → (agent : ℕ) (answers : List (Half Answer)) (ports : List P) (ends : List (Option PortEnd)) (lines : List AgentLine) (crew : List LaneHalves) → AreFrom agent answers → Serve answers ports ends → AreEnded ends lines crew → All (IsHeard keeper before desk) crew → AreAgentAccounts port rules before desk.requests.taken agent ports lines crew
   agent_accounts keeper before desk is agent [] [] [] [] [] from served ended heard = tt
   agent_accounts keeper before desk is agent [] [] [] [] (one ∷ crew) from served ended heard = absurd ended
@@ -244,11 +244,11 @@ never_begun_with cause outbox book = record { cause = cause; outbox = outbox; un
 untouched : {W : Type 0} (drain : Drain W) (start end : W) → start ≡ end → IsUntouched drain start end
 untouched drain start end same = subst (IsUntouched drain start) same (record { nothing = Appends-nil (drain.contents start); failures = refl; flushes = refl; marked = refl; no_moment = stands_still })
 
--- what a run was given stands for what it did, where it never began
+-- the keeper that a run was given models what the run did, if it never began
 given_back : {B : Type 0} (keeper : Keeper B) (before : List Exchange) (book : B) (cause : CrewCause) → (stands : StandsAtFault keeper [] before cause book) → IsHandedBack keeper (keeper.rules book) [] (history_under (keeper.rules book) before []) cause book
 given_back keeper before book cause stands = record { rules_are = refl; stands = subst (λ (t : List Exchange). StandsAtFault keeper [] t cause book) (sym (under-none (keeper.rules book) before)) stands }
 
--- a run that never began sealed nothing, and hands back what it was given
+-- a run that never began sealed nothing, and returns the keeper that it was given
 sealed_none : {B W : Type 0} (keeper : Keeper B) (drain : Drain W) (from : PostedBefore W) (before : List Exchange) (agents : ℕ) (book : B) (outbox : W) (cause : CrewCause) → StandsAtFault keeper [] before cause book → IsFaultWith drain from [] agents (never_begun_with cause outbox book) cause
     → HasFault keeper drain from (keeper.rules book) before agents (never_begun_with cause outbox book)
 sealed_none keeper drain from before agents book outbox cause stands is = record {
@@ -330,7 +330,7 @@ book_kept drain host rules agents start (Err fault) has = λ why same.
     unkept_never rules fault.behind (history_under rules [] fault.taken) why fault.book broken.handed_back
     (subst (λ (cause : CrewCause). IfSome fault.book (IsHandedBack book_keeper rules fault.behind (history_under rules [] fault.taken) cause)) same has.book)
 
--- so it stands for what was taken
+-- so it models what was taken
 stood_book : (rules : Rules) (behind : List Request) (exchanges : List Exchange) (cause : CrewCause) (book : Book) → IsHandedBack book_keeper rules behind exchanges cause book → Represents book exchanges
 stood_book rules behind exchanges causes.Lost book handed = handed.stands
 stood_book rules behind exchanges causes.Refused book handed = handed.stands
@@ -398,7 +398,7 @@ no_count keeper ends collected all posted (Ok account) may is ends_so = tt
 no_count keeper ends (Ok new) all posted (Err fault) may is faulted = let why = broken_for keeper ends new all posted fault is faulted in broken≢count new posted fault why.0 why.1
 no_count keeper ends (Err broken) all posted (Err fault) may is faulted = λ same. stopped≢count broken.desk.value (cause_of broken.breach) (stopped_for keeper broken.desk.value broken.breach may) (sym (ap (λ it. it.cause) faulted) ∙ same)
 
--- ---- what is handed back
+-- ---- the keeper that is returned
 
 module _ {B : Type 0} (keeper : Keeper B) (desk : Desk B) (exchanges : List Exchange) where
   -- if a collector has failed, for this reason
@@ -469,7 +469,7 @@ module _ {B P S : Type 0} (keeper : Keeper B) (port : Port P S) (book : B) (port
         sealed_few (Ok new) (Err breach) posted (Ok account) has closed = absurd closed
         sealed_few (Err broken) all posted (Ok account) has closed = absurd closed
 
-        -- what is handed back sealed no more than it took
+        -- the keeper that is returned sealed no more letters than requests were taken
         few_of : {W : Type 0} (cause : CrewCause) (held : List Letter) (new : Desk B) (left : B) (posted : Posted W) (fault : CrewFault W B) → fault ≡ fault_of cause held left new posted → left ≡ new.book → new.start ≡ book → IsDesk keeper new → IfSome fault.book (λ it. keeper.sealed it ≤ keeper.sealed book + length fault.taken)
         few_of cause held new left posted fault fault_is left_is start_was kept =
             subst (λ (it : CrewFault _ B). IfSome it.book (λ b. keeper.sealed b ≤ keeper.sealed book + length it.taken)) (sym fault_is)
@@ -534,7 +534,7 @@ module _ {B P S : Type 0} (keeper : Keeper B) (port : Port P S) (book : B) (port
             lines_length : length new.answers ≡ length ports
             lines_length = lines_of new run.places
 
-          -- where the run ended well the sink took them all
+          -- if the run ended well, the sink took them all
           all_sealed : (new : Desk B) → IsRun keeper before TakesLetter begun new sink after (Ok tt) → AreSealedAfter before (history_under rules before new.requests.taken) after.letters
           all_sealed new run = subst (AreSealedAfter before (history_under rules before new.requests.taken)) (append-nil after.letters) (sealed_are new run)
 

@@ -94,8 +94,8 @@ AreAgentAccounts port rules before taken agent (one ∷ ports) (line ∷ lines) 
     × AreAgentAccounts port rules before taken (suc agent) ports lines crew
 AreAgentAccounts port rules before taken agent ports lines crew = ⊥
 
--- what a run posts after: the host that notices come from; the outbox before the first letter of all;
--- the letters that were handed on since, before the run; and the outbox as the run gets it
+-- what was posted before a run: the host that notices are from; the outbox before the first letter
+-- of all; the letters that were passed to the poster since; and the outbox that the run gets
 pub record PostedBefore (W : Type 0) : Type 0 where
   pub host : List ℕ
   pub start : W
@@ -148,9 +148,9 @@ pub record HasAccount {B P S W : Type 0} (keeper : Keeper B) (port : Port P S) (
   pub sealed : AreSealedAfter before (history_under rules before account.taken) letters
   pub is : IsAccountAfter keeper port drain from rules before letters ports account
 
--- a run that ended with a fault: its cause, the outbox, the letters that are not in it, what
--- carried the requests out, where it is handed back, the requests that were taken and carried out,
--- and those behind these that were taken and were not
+-- a run that ended with a fault: its cause, the outbox, the letters that are not in it, the keeper
+-- if it is returned, the requests that were taken and carried out, and those behind these that were
+-- taken and not carried out
 pub record CrewFault (W B : Type 0) : Type 0 where
   pub cause : CrewCause
   pub outbox : W
@@ -167,13 +167,13 @@ pub record IsUnbegun {B W : Type 0} (drain : Drain W) (start : W)
   pub unsent : fault.unsent ≡ []
   pub outbox : IsUntouched drain start fault.outbox
 
--- what is left of a run of so many agents, in which these letters were sealed, that was broken off. The
--- requests that were carried out are of these agents, and numbered from 0 agent by agent; those
--- behind are at most `most_together`, and the next of their agents. The letters that came to the
--- poster are the first of those which were sealed; those that are not in the outbox are unsent, in
--- order, and it is theirs after the letters that were posted before. At most `letters_waiting` later
--- ones waited for the poster, and are dropped. After them comes at most one more, which the collector
--- still held. What carried the requests out is handed back
+-- What is left of a run of the given number of agents, in which these letters were sealed, if it was
+-- broken off. The requests that were carried out are of these agents, and numbered from 0 agent by
+-- agent; those behind are at most `most_together`, and the next of their agents. The poster received
+-- the first of the sealed letters. Those of them that are not in the outbox are unsent, in order; the
+-- outbox is that of the letters that were posted before and of these. At most `letters_waiting` later
+-- letters waited for the poster, and are dropped. The collector still held at most one letter after
+-- them. The keeper is returned
 pub record IsBrokenOff {B W : Type 0} (drain : Drain W) (from : PostedBefore W)
     (sealed : List Letter) (agents : ℕ) (fault : CrewFault W B) : Type 0 where
   pub only : All (λ (request : Request). request.agent < agents) fault.taken
@@ -195,9 +195,10 @@ pub record IsBrokenOff {B W : Type 0} (drain : Drain W) (from : PostedBefore W)
   pub outbox : IsOutbox drain from.host from.start fault.outbox whole unsent (from.first ++ letters)
   pub handed_back : is_some fault.book ≡ true
 
--- what a run for so many agents that ended with a fault comes to, where these letters were sealed. 43: there are not 1 to 16 ports,
--- and the outbox comes back as it was. 42: it never began; or the thread of an agent could not be
--- made, all letters came to the poster, and nothing is behind. 41: a lane was lost. 45: a request was not kept
+-- The fault of a run for the given number of agents, if these letters were sealed. 43: there are not
+-- 1 to 16 ports, and the outbox is returned as it was. 42: the run never began; or the thread of an
+-- agent could not be made, the poster received all letters, and nothing is behind. 41: a lane was
+-- lost. 45: a request was not kept
 abbrev pub IsFaultWith :
     {B W : Type 0} → Drain W → PostedBefore W → List Letter → ℕ → CrewFault W B → CrewCause → Type 0
 IsFaultWith drain from sealed agents fault PortCount =
@@ -218,9 +219,8 @@ IsCrewFault drain host limits agents start fault cause =
     IsFaultWith drain (none_posted host start) (sealed_letters (history_of limits fault.taken)) agents
     fault cause
 
--- What carried the requests out stands for this history at a fault of this cause, and has kept those
--- behind. Or it stood for the history until it refused these, for this reason, and is what it says
--- of that
+-- the keeper models this history at a fault of this cause, and has kept those behind; or it modelled
+-- the history until it refused these, for this reason, and is what its refusal says
 abbrev pub StandsAtFault :
     {B : Type 0} → Keeper B → List Request → List Exchange → CrewCause → B → Type 0
 StandsAtFault keeper behind exchanges Lost book = keeper.has book exchanges behind

@@ -11,12 +11,12 @@ use Rattle.dsn_outcome.specs.Request.{Request}
 abbrev pub IsEarlier : List Exchange → Type 0
 IsEarlier before = (agent : ℕ) → agent < most_agents → answers_to agent before ≡ []
 
--- what carries requests out stands for such a history, and awaits nothing
+-- the keeper models such a history, and no kept request waits
 abbrev pub BeginsWith : {B : Type 0} → Keeper B → B → List Exchange → Type 0
 BeginsWith keeper start before = keeper.has start before [] × IsEarlier before
 
--- a keeper stands for a history, and has kept these requests behind it. Where they were not kept, it
--- stood for the history until it refused them, and is what it says of that; one at least was refused
+-- A keeper models a history, and has kept these requests behind it. If they were not kept, it
+-- modelled the history until it refused them, and is what its refusal says; at least one was refused
 abbrev pub StandsOrRefused :
     {B : Type 0} → Keeper B → Option NotKept → List Request → List Exchange → B → Type 0
 StandsOrRefused keeper None behind exchanges book = keeper.has book exchanges behind
@@ -24,7 +24,7 @@ StandsOrRefused {B} keeper (Some why) behind exchanges book =
     (was : B) × keeper.has was exchanges [] × keeper.refuses was behind why book
     × (1 ≤ length behind)
 
--- these requests are the next ones of so many agents, behind those that were carried out
+-- these requests are the next ones of the given number of agents, behind those that were carried out
 pub record AreNextOf (agents : ℕ) (taken requests : List Request) : Type 0 where
   pub from : All (λ (request : Request). request.agent < agents) requests
   pub numbered : (agent : ℕ)

@@ -206,7 +206,7 @@ module _ {B : Type 0} (keeper : Keeper B) (desk : Desk B) (request : Request) (r
       answered_new : (d : Half Answer) → IsAnswerSent true desk.answers answer halves → AreAnswered halves (history keeper before answered_desk)
       answered_new d is_sent = λ a d' inside. let same = long true d is_sent in sent_at is_sent a d' (omega arith) ∙ ap (answers_to a) (sym history_new)
 
-      -- or, where the answer was lost, the first of it
+      -- if the answer was lost, it was sent the first of these
       sent_new : (sent : Bool) (d : Half Answer) → IsAnswerSent sent desk.answers answer halves → (a : ℕ) (d' : Half Answer) → a < length halves → IsPrefix (slice_index_or halves a d').sent (answers_to a (history keeper before answered_desk))
       sent_new true d is_sent a d' inside = ([], append-nil (slice_index_or halves a d').sent ∙ answered_new d is_sent a d' inside)
       sent_new false d is_sent a d' inside =
@@ -221,7 +221,7 @@ module _ {B : Type 0} (keeper : Keeper B) (desk : Desk B) (request : Request) (r
                 ∙ ap (answers_to a) (sym history_new)),
           )
 
-      -- the collector stands for one request more, after a history
+      -- the collector models one request more, after a history
       pub stands_on : (sent : Bool) (d : Half Answer) → IsAnswerSent sent desk.answers answer halves → keeper.has book next_history rest → (keeper.moment book ≡ keeper.moment desk.book) × ((t : ℕ) (left : List ℕ) → keeper.left_since book t left → keeper.left_since desk.book t left) → (failed ≡ false → sent ≡ true)
           → StandsAfter keeper before answered_desk
       stands_on sent d is_sent book_is still going_on = record {

@@ -25,13 +25,13 @@ use Rattle.dsn_crew.proofs.desk.IntakeLemmas.{AreNumbered, goodbyes-append}
 
 -- ---- the keeper
 
--- what a keeper stands for, once it has kept what it was asked to or refused it, and what a crash
--- leaves at each moment of that
+-- what a keeper models once it has kept requests or refused them, and what a crash leaves at each
+-- moment of that call
 abbrev pub IsTied : {B : Type 0} → Keeper B → B → B → Option NotKept → List Request → Type 0
 IsTied keeper book new_book unkept behind = (t : List Exchange) → keeper.has book t [] → StandsOrRefused keeper unkept behind t new_book × MayCrash keeper book new_book (keeper.rules book) t behind
 
 module _ {B : Type 0} (keeper : Keeper B) (book new_book : B) (behind : List Request) where
-  -- one that was asked nothing
+  -- a keeper that was given no requests
   pub unmoved_tied : LeavesKept keeper → behind ≡ [] → IsTied keeper book book None behind
   unmoved_tied law none = λ t has. subst (λ (q : List Request). keeper.has book t q × MayCrash keeper book book (keeper.rules book) t q) (sym none) (has, none_done keeper book book book (keeper.rules book) t [] law refl has)
 
@@ -68,7 +68,7 @@ failed_desk keeper desk kept = record {
       record { has = then.has; sent = then.sent; answered = λ never. absurd (true≢false never); crash = then.crash };
 }
 
--- a request that was carried out once it was taken and kept, where none was behind
+-- a request that was carried out once it was taken and kept, if none was behind
 pub taken_after : {B : Type 0} (keeper : Keeper B) (before : List Exchange) (old new : Desk B) (behind : List Request) (book : B) (result : Result (Option Letter) DeskFault) → old.behind ≡ [] → IfErr result (λ fault. fault ≢ Requests) → IsRequestTaken keeper before (with_kept old behind book) new result → IsRequestTaken keeper before old new result
 taken_after keeper before old new behind book (Ok letter) idle lost taken = (taken.0, taken.1, taken.2, taken.3, taken.4, taken.5, taken.6, inr idle)
 taken_after keeper before old new behind book (Err Requests) idle lost taken = absurd (lost refl)
@@ -80,7 +80,7 @@ pub left_of : {B : Type 0} (desk : Desk B) (gone heard agents : ℕ) (some : Lis
 left_of desk gone heard agents some counted heard_is all left is =
     let split = goodbyes-append desk.requests.taken some in left (omega (arith, is, split))
 
--- where all agents are gone nothing is behind
+-- if all agents are gone, nothing is behind
 and_right : (a b : Bool) → (a && b) ≡ true → b ≡ true
 and_right true b is = is
 and_right false b is = absurd (true≢false (sym is))
@@ -96,7 +96,7 @@ pub none_behind : {B : Type 0} (keeper : Keeper B) (desk : Desk B) → IsDesk ke
 none_behind keeper desk kept gone = nothing_behind desk desk.behind (none_left desk gone) kept.in_time
 
 module _ {B : Type 0} (keeper : Keeper B) (desk : Desk B) (kept : IsDesk keeper desk) (going : desk.failed ≡ false) where
-  -- what it stands for
+  -- what it models
   pub has_here : (before : List Exchange) → BeginsWith keeper desk.start before → keeper.has desk.book (history keeper before desk) desk.behind
   has_here before begins = subst (λ (u : Option NotKept). StandsOrRefused keeper u desk.behind (history keeper before desk) desk.book) (kept.kept going) (kept.stands before begins).has
 
@@ -157,7 +157,7 @@ module _ {B : Type 0} (keeper : Keeper B) (desk : Desk B) (kept : IsDesk keeper 
     answer_says answer says before begins =
         says _ rest (has_next before begins) ∙ ap (λ r. answer_of (before_request r (history keeper before desk) request) (exchange_under r (history keeper before desk) request)) kept.rules
 
-    -- and so is the letter
+    -- the letter is the one that each history says
     pub letter_says : (letters : List Letter) → ((t : List Exchange) (q : List Request) → keeper.has desk.book t (request ∷ q) → letters ≡ letter_of (before_request (keeper.rules desk.book) t request) (exchange_under (keeper.rules desk.book) t request)) → (before : List Exchange) → BeginsWith keeper desk.start before
         → letters ≡ letter_of (history_before keeper before desk request) (next_exchange keeper before desk request)
     letter_says letters says before begins =

@@ -21,11 +21,10 @@ use Rattle.dsn_crew.specs.declared.desk.desk_fault.DeskFault.{DeskFault}
 use Rattle.dsn_crew.specs.declared.desk.desk_fault.DeskFault.TheVariants.{Requests, Answers, Letters}
 use Rattle.dsn_crew.specs.KeeperHistory.{BeginsWith, StandsOrRefused, AreNextOf}
 
--- the collector: what carried requests out when it began, and what does so now; the half by which it
--- takes requests, with those that it has carried out, and the requests behind these that it took
--- and didn't carry out so far; the halves by which it answers, agent by agent; how many agents it has
--- heard of that never start, whether it failed, and why those behind were not kept, where they
--- weren't
+-- the collector: its keeper when it began, and its keeper now; the half by which it takes requests,
+-- with those that it has carried out, and the requests behind these that it took and didn't carry out
+-- so far; the halves by which it answers, agent by agent; the number of agents that never start, as
+-- far as it knows; whether it failed; and why those behind were not kept, if they weren't
 pub record Desk (B : Type 0) : Type 0 where
   pub start : B
   pub book : B
@@ -147,7 +146,7 @@ HasStopped keeper old new =
     × keeper.refuses old.book new.behind why new.book × (1 ≤ length new.behind)
     × (new ≡ with_unkept old new.behind why new.book))
 
--- a collector that hears of so many agents more that never start, with nothing else changed
+-- a collector that learns that this number of agents more never start, with nothing else changed
 abbrev pub missing : {B : Type 0} → Desk B → ℕ → Desk B
 missing desk agents = record desk { missed = desk.missed + agents }
 
@@ -209,10 +208,10 @@ pub record IsLastRequest {B : Type 0} (keeper : Keeper B) (before : List Exchang
       (before_request (keeper.rules desk.start) (history_with keeper before desk earlier) last)
       (exchange_under (keeper.rules desk.start) (history_with keeper before desk earlier) last)
 
--- what a fault that ends a run says of it. `Requests`: all that was carried out was answered, and
--- agents are left. `Answers`: so it was, but for the last request, which was of this agent and sealed this
--- letter, if any. `Letters`: all was answered, and the last request sealed this letter. A collector
--- that had failed before answers `Requests`
+-- What a fault that ends a run says of it. `Requests`: all that was carried out was answered, and
+-- agents are left. `Answers`: all was answered except the last request, which was of this agent and
+-- sealed this letter, if any. `Letters`: all was answered, and the last request sealed this letter. A
+-- collector that had failed before returns `Requests`
 abbrev pub EndsBy :
     {B : Type 0} → Keeper B → List Exchange → Desk B → List Request → Desk B
     → Result (Unit {0}) DeskFault → Type 0
@@ -229,16 +228,16 @@ EndsBy keeper before old more new (Err (Letters letter)) =
     × IsLastRequest keeper before old more last (letter ∷ [])
     × AreAnswered new.answers (history keeper before new)
 
--- a collector after a run that took nothing: as it was, but failed where there is a fault
+-- a collector after a run that took nothing: unchanged, except that it has failed if there is a fault
 abbrev pub IsUnmoved :
     {B : Type 0} → Keeper B → Desk B → Desk B → Result (Unit {0}) DeskFault → Type 0
 IsUnmoved keeper old new (Ok done) = new ≡ old
 IsUnmoved keeper old new (Err fault) = HasStopped keeper old new
 
--- What a run of the collector comes to: the requests that it carried out, those behind first, each
--- taken while agents were left, and none once it had failed. And the letters that it handed on: those
--- that these requests sealed, in order, but for the one that the fault holds. A run that carried
--- none out leaves the collector as it was, but failed where there is a fault
+-- A run of the collector: the requests that it carried out, those behind first, each taken while
+-- agents were left, and none once it had failed; and the letters that it passed on, which are those
+-- that these requests sealed, in order, except the one that the fault holds. A run that carried none
+-- out leaves the collector unchanged, except that it has failed if there is a fault
 pub record IsRun {B S : Type 0} (keeper : Keeper B) (before : List Exchange)
     (takes : S → Letter → S → Type 0) (old new : Desk B) (sink after : S)
     (result : Result (Unit {0}) DeskFault) : Type 0 where

@@ -43,9 +43,9 @@ pub record IsLine (agent : ℕ) (half : Half Answer) : Type 0 where
 abbrev pub AreLines : List (Half Answer) → Type 0
 AreLines halves = (a : ℕ) (d : Half Answer) → a < length halves → IsLine a (slice_index_or halves a d)
 
--- a crew of so many agents and of what carries their requests out, before the first request: each agent has the lane on which it asks, and
--- the one on which the collector answers it; `requests_waiting` requests wait at most, and 1
--- answer to an agent
+-- a crew of the given number of agents over a keeper, before the first request: each agent has the
+-- lane on which it asks, and the one on which the collector answers it; at most `requests_waiting`
+-- requests wait, and at most 1 answer to an agent
 pub record IsOpened {B : Type 0} (keeper : Keeper B) (start : B) (agents : ℕ) (crew : List Agent)
     (desk : Desk B) : Type 0 where
   pub start_is : desk.start ≡ start
@@ -60,7 +60,7 @@ pub record IsOpened {B : Type 0} (keeper : Keeper B) (start : B) (agents : ℕ) 
   pub begun : desk.failed ≡ false
   pub kept : IsDesk keeper desk
 
--- and so over a book that is empty
+-- such a crew over a book that is empty
 pub record IsOpenedEmpty (limits : Limits) (agents : ℕ) (crew : List Agent)
     (desk : Desk Book) : Type 0 where
   pub limits_are : desk.book.limits ≡ limits

@@ -26,7 +26,7 @@ desk_of start book requests answers missed failed = record {
   unkept = None;
 }
 
--- why requests were not kept, where that is why a collector has failed
+-- why requests were not kept, if a collector has failed for that reason
 abbrev pub unkept_of : Option Breach → Option NotKept
 unkept_of (Some (Unkept why)) = Some why
 unkept_of stop = None
@@ -39,7 +39,7 @@ pub record HasRefused {B : Type 0} (keeper : Keeper B) (desk : Desk B)
   pub refuses : keeper.refuses was desk.behind why desk.book
   pub some : 1 ≤ length desk.behind
 
--- why it has failed: a lane reported that its other side is gone; its sink handed a letter back; it
+-- why it has failed: a lane reported that its other side is gone; its sink returned a letter; it
 -- carried out all that it may; or its keeper refused requests. It fails for nothing else
 abbrev pub IsStopped : {B : Type 0} → Keeper B → Desk B → Breach → Type 0
 IsStopped keeper desk (AgentGone gone) = desk.unkept ≡ None
@@ -57,8 +57,8 @@ HasRoom answers held capacity = (held ≡ []) × (length answers ≤ capacity)
 abbrev pub with_kept : {B : Type 0} → Desk B → List Request → B → Desk B
 with_kept desk behind book = record desk { book = book; behind = behind }
 
--- the half by which requests are taken, with those that were handed on, and those behind, which were
--- taken and not handed on so far
+-- the half by which requests are taken, with those that were given to be carried out, and those
+-- behind, which were taken and not given so far
 pub record Intake : Type 0 where
   pub requests : Out Request
   pub behind : List Request
@@ -90,7 +90,7 @@ pub record MayBeSent {B : Type 0} (keeper : Keeper B) (rules : Rules) (before : 
       ≡ answer_of (before_request rules (history_under rules before earlier) last)
       (exchange_under rules (history_under rules before earlier) last)
 
--- what is seen of a half of which so many requests were handed on
+-- what is seen of a half of which this number of requests were given
 abbrev pub intake_of : ℕ → Out Request → Intake
 intake_of count out = record {
   requests =

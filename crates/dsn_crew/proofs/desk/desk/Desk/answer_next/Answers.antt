@@ -1,4 +1,4 @@
--- An answer that is sent is the one that the history defines, and the collector stands for one request more.
+-- An answer that is sent is the one that the history defines, and the collector models one request more.
 use Rattle.std.proofs.Common.{rules, ◌≡◌, Bool, false, true, inl, length, refl, ap, sym, ◌∙◌, subst, true≢false, arith}
 use Rattle.std.specs.Prelude.{None, is_ok, is_some}
 use Rattle.dsn_crew.specs.lane.Halves.{Half, Out}

@@ -1,4 +1,4 @@
--- A collector that has taken nothing stands for whatever its book stands for.
+-- A collector that has taken nothing models whatever its book models.
 use Rattle.std.proofs.Common.{sym, ap, subst}
 use Rattle.std.specs.Prelude.{None}
 use Rattle.dsn_crew.proofs.OpenLemmas.{new_desk}

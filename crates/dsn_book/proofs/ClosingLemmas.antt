@@ -33,7 +33,7 @@ not_own : (key own : Key) (same : Bool) → same_key key own ≡ same → (k : K
 not_own key own same is k like =
     ap not (ap (same_key own) (sym (same_key-equal key k like)) ∙ same_key_sym own key ∙ is)
 
-any-let_go : (key own : Key) (closed : List Key) (same : Bool) → same_key key own ≡ same → list_any (same_key key) (let_go own closed) ≡ (not same && list_any (same_key key) closed)
+pub any-let_go : (key own : Key) (closed : List Key) (same : Bool) → same_key key own ≡ same → list_any (same_key key) (let_go own closed) ≡ (not same && list_any (same_key key) closed)
 any-let_go key own closed same is =
     any-filter_same (same_key key) (λ other. not (same_key own other)) (not same) (not_own key own same is) closed
 
@@ -96,7 +96,7 @@ unfolding IsDistinct
 distinct-filter_step p d rest true is apart after = rw is (apart-filter (λ y. same_key d y ≡ false) p rest apart, after)
 distinct-filter_step p d rest false is apart after = rw is after
 
-distinct-filter : (p : Key → Bool) (list : List Key) → IsDistinct same_key list → IsDistinct same_key (filter p list)
+pub distinct-filter : (p : Key → Bool) (list : List Key) → IsDistinct same_key list → IsDistinct same_key (filter p list)
 unfolding IsDistinct
 distinct-filter p [] all = tt
 distinct-filter p (d ∷ rest) all = distinct-filter_step p d rest (p d) refl all.0 (distinct-filter p rest all.1)

@@ -3,6 +3,7 @@ pub mod Awaiting
 mod Beginning
 mod Blindness
 mod CarryingOut
+mod ClosingOrder
 mod CompactionExamples
 mod DamageExamples
 mod EarlierRuns
@@ -24,6 +25,8 @@ mod LettersToPost
 mod MakingRoom
 mod OneHistory
 mod OpenOnesLeft
+mod Releasing
+mod ReleasingExamples
 mod ShorterFiles
 mod SnapshotBooks
 mod SnapshotExamples

@@ -13,13 +13,13 @@ use Rattle.dsn_listing.specs.inner.CopiedFolder.{copied_seen, IsOpenedCopy}
 -- ---- an opened copy
 
 pub opened_is : (limits : Limits) (mark : ℕ) (journal copy : List ℕ) (opened : Opened CopiedDisk)
-    → copy ≡ journal → (IsForeign limits copy → ⊥) → (HasMoreBehind 16 copy → ⊥) → opened.ledger.book.limits ≡ limits
+    → copy ≡ journal → (IsForeign limits copy → ⊥) → (HasMoreBehind 16 copy → ⊥) → opened.ledger.book.book.limits ≡ limits
     → recovered (copied_seen opened.ledger.journal.disk) ≡ with_header limits (recovered copy)
     → length (copied_seen opened.ledger.journal.disk) ≡ length copy
     → opened.ledger.journal.used ≡ length (encoded (recovered (copied_seen opened.ledger.journal.disk)))
     → StandsForFile opened.ledger.book opened.ledger.base (recovered (copied_seen opened.ledger.journal.disk))
     → AreToPost limits mark (recovered (copied_seen opened.ledger.journal.disk)) opened.letters.items
-    → opened.ledger.base ≤ mark → mark ≤ opened.ledger.base + opened.ledger.book.sealed
+    → opened.ledger.base ≤ mark → mark ≤ opened.ledger.base + opened.ledger.book.book.sealed
     → ((base other : ℕ) (records : List (List ℕ)) (history another : List Exchange) → SayHistory limits base records history → SayHistory limits other records another → (base ≡ other) × (history ≡ another))
     → IsOpenedCopy limits mark journal opened
 opened_is limits mark journal copy opened copied own whole limits_are same size used file letters posted counted one =
@@ -27,7 +27,7 @@ opened_is limits mark journal copy opened copied own whole limits_are same size 
     let said : SayHistory limits opened.ledger.base records file.history = subst (λ (l : Limits). SayHistory l opened.ledger.base records file.history) limits_are file.said in
     let alike = one letters.base opened.ledger.base records letters.history file.history letters.said said in
     let now : records ≡ with_header limits (recovered journal) = same ∙ ap (λ (f : List ℕ). with_header limits (recovered f)) copied in
-    let sealed : opened.ledger.book.sealed ≡ length (sealed_letters file.history) = file.stands.sealed in
+    let sealed : opened.ledger.book.book.sealed ≡ length (sealed_letters file.history) = file.stands.represents.sealed in
     record {
       history = file.history;
       has = record {
@@ -37,7 +37,7 @@ opened_is limits mark journal copy opened copied own whole limits_are same size 
         reached = posted;
         sealed = omega (arith, counted, sealed);
       };
-      stands = file.stands;
+      stands = file.stands.represents;
       letters_are = letters.sealed ∙ ap (λ (b : ℕ). to_post b mark (sealed_letters letters.history)) alike.0 ∙ ap (λ (h : List Exchange). to_post opened.ledger.base mark (sealed_letters h)) alike.1;
       used_is = used ∙ ap (λ (rs : List (List ℕ)). length (encoded rs)) now;
       size_is = size ∙ ap length copied;

@@ -19,7 +19,7 @@ pub record IsOpenedCopy (limits : Limits) (mark : ℕ) (journal : List ℕ)
     (opened : Opened CopiedDisk) : Type 0 where
   pub history : List Exchange
   pub has : HasHistory limits mark journal opened.ledger.base history
-  pub stands : Represents opened.ledger.book history
+  pub stands : Represents opened.ledger.book.book history
   pub letters_are : opened.letters.items
       ≡ to_post opened.ledger.base mark (sealed_letters history)
   pub used_is : opened.ledger.journal.used

@@ -5,11 +5,13 @@ use Rattle.std.proofs.lemmas.Bool.{false≢true}
 use Rattle.std.proofs.Math.Nat.{min-eq_left}
 use Rattle.std.proofs.lemmas.List.{append-nil}
 use Rattle.dsn_device.specs.declared.drain.Drain.{Ghosts as Drain}
-use Rattle.dsn_outcome.specs.History.{Limits, Exchange, answers_to, history_after, sealed_letters}
+use Rattle.dsn_outcome.specs.History.{Limits, Exchange, answers_to, sealed_letters}
 use Rattle.dsn_outcome.specs.Letter.{Letter}
 use Rattle.dsn_outcome.specs.Request.{Request}
-use Rattle.dsn_book.specs.Book.{Book}
+use Rattle.dsn_book.specs.Book.{ReleasingBook}
 use Rattle.dsn_book.specs.Keeper.{MayCrash}
+use Rattle.dsn_book.specs.Release.{history_under}
+use Rattle.dsn_book.proofs.ReleaseLemmas.{under-none}
 use Rattle.dsn_crew.specs.KeeperHistory.{BeginsWith}
 use Rattle.dsn_ledger.specs.EarlierRuns.{HaveHistoryOfLedger, of_earlier_run}
 use Rattle.dsn_journal.specs.Behind.{HasMoreBehind}
@@ -20,7 +22,7 @@ use Rattle.dsn_journal.specs.Journal.{IsSettled}
 use Rattle.dsn_ledger.specs.KeepError.{settled_once_kept}
 use Rattle.dsn_ledger.specs.KeptBook.{HasKept, ledger_keeper}
 use Rattle.dsn_ledger.specs.Ledger.{AreKept, earlier_agent, records_of}
-use Rattle.dsn_ledger.specs.OpenLedger.{AwaitsInPlaceOf, AwaitsRequests, Ledger}
+use Rattle.dsn_ledger.specs.OpenLedger.{AwaitsInPlaceOf, AwaitsRequests, Ledger, rules_of}
 use Rattle.dsn_journal.specs.MarkedOutbox.{MarkedOutbox}
 use Rattle.dsn_journal.specs.Marks.{IsForeignToMarks, IsTooShortForMarks, LeavesTheMark, SayMark, SayNoMark}
 use Rattle.dsn_ledger.specs.Posting.{AreToPost}
@@ -62,9 +64,9 @@ module _ {D : Type 0} (disk : Disk.Ghosts D) (ledger : Ledger D) (settled : ledg
 
   -- a crash leaves what it stands for
   pub stands_now : IsSettled disk ledger.journal.disk ledger.journal.used → ((left : List ℕ) → disk.left_since ledger.journal.disk (disk.moment ledger.journal.disk) left → disk.may_leave ledger.journal.disk left) → (long : List Exchange) → IsLedgerInPlaceOf ledger.book ledger.base (recovered (disk.seen ledger.journal.disk)) long
-      → LeavesOnly disk ledger.journal.disk ledger.journal.disk (λ left. ReopensTo ledger.book.limits left long)
-  unfolding history_after
-  stands_now durable now long in_place = started disk ledger.journal.disk _ (λ left since. (has durable long in_place).leaves left (now left since))
+      → LeavesOnly disk ledger.journal.disk ledger.journal.disk (λ left. ReopensTo ledger.book.book.limits left long)
+  stands_now durable now long in_place =
+      started disk ledger.journal.disk _ (λ left since. subst (λ (h : List Exchange). ReopensTo ledger.book.book.limits left h) (under-none (rules_of ledger) long) ((has durable long in_place).leaves left (now left since)))
 
   -- its book and its base stand for all of its file
   pub stands_for_all : StandsForFile ledger.book ledger.base (recovered (disk.seen ledger.journal.disk))
@@ -105,11 +107,11 @@ module _ {D : Type 0} (disk : Disk.Ghosts D) (limits : Limits) (journal : D) whe
   while_opened opened opening long starts = weaker disk journal opened _ _ (λ left or. ⊎_elim (λ was. inl was) (λ by. inr (opened_with left long starts by)) or) opening
 
   -- and what it leaves later on
-  pub once_opened : (opened : Ledger D) (last : D) → opened.book.limits ≡ limits
+  pub once_opened : (opened : Ledger D) (last : D) → opened.book.book.limits ≡ limits
       → recovered (disk.seen opened.journal.disk) ≡ with_header limits (recovered (disk.seen journal))
       → ((long : List Exchange) → AreRecordsInPlaceOf limits (recovered (disk.seen opened.journal.disk)) long → IsLedgerInPlaceOf opened.book opened.base (recovered (disk.seen opened.journal.disk)) long)
       → LeavesOnly disk journal opened.journal.disk (λ left. disk.may_leave journal left ⊎ IsLeftByOpening limits (disk.seen journal) left)
-      → ((long : List Exchange) → IsLedgerInPlaceOf opened.book opened.base (recovered (disk.seen opened.journal.disk)) long → LeavesOnly disk opened.journal.disk last (λ left. ReopensTo opened.book.limits left long))
+      → ((long : List Exchange) → IsLedgerInPlaceOf opened.book opened.base (recovered (disk.seen opened.journal.disk)) long → LeavesOnly disk opened.journal.disk last (λ left. ReopensTo opened.book.book.limits left long))
       → LeavesStart disk limits journal last
   once_opened opened last limits_are same in_place opening later long starts =
       joined disk journal opened.journal.disk last _ (while_opened opened.journal.disk opening long starts)
@@ -148,7 +150,7 @@ module _ {D M W : Type 0} (disk : Disk.Ghosts D) (marks_disk : Disk.Ghosts M) (d
   pub start_is : marked.outbox ≡ outbox → SayMark (recovered (marks_disk.seen marks)) marked.marks.mark
       → LeavesMarksOpened marks_disk marks marked.marks.journal.disk → LeavesTheMark marks_disk marked.marks
       → IsMarkOfJournal limits (disk.seen journal) marked.marks.mark
-      → opened.book.limits ≡ limits
+      → opened.book.book.limits ≡ limits
       → recovered (disk.seen opened.journal.disk) ≡ with_header limits (recovered (disk.seen journal))
       → ((long : List Exchange) → AreRecordsInPlaceOf limits (recovered (disk.seen opened.journal.disk)) long → IsLedgerInPlaceOf opened.book opened.base (recovered (disk.seen opened.journal.disk)) long)
       → AreToPost limits marked.marks.mark (recovered (disk.seen opened.journal.disk)) letters
@@ -184,10 +186,10 @@ marks_refused file no_marks_for.ByteLost foreign damaged lost short full = lost 
 marks_refused file no_marks_for.TooShort foreign damaged lost short full = short refl
 
 -- the mark under which a journal was opened is one of it
-pub mark_of_opened : (limits : Limits) (mark : ℕ) (journal : List ℕ) (book : Book) (base : ℕ) (records : List (List ℕ)) → (IsForeign limits journal → ⊥) → (HasMoreBehind 16 journal → ⊥) → book.limits ≡ limits
-    → records ≡ with_header limits (recovered journal) → StandsForFile book base records → base ≤ mark → mark ≤ base + book.sealed → IsMarkOfJournal limits journal mark
+pub mark_of_opened : (limits : Limits) (mark : ℕ) (journal : List ℕ) (book : ReleasingBook) (base : ℕ) (records : List (List ℕ)) → (IsForeign limits journal → ⊥) → (HasMoreBehind 16 journal → ⊥) → book.book.limits ≡ limits
+    → records ≡ with_header limits (recovered journal) → StandsForFile book base records → base ≤ mark → mark ≤ base + book.book.sealed → IsMarkOfJournal limits journal mark
 mark_of_opened limits mark journal book base records own whole limits_are same file reached counted =
-    let sealed : book.sealed ≡ length (sealed_letters file.history) = file.stands.sealed in
+    let sealed : book.book.sealed ≡ length (sealed_letters file.history) = file.stands.represents.sealed in
     record {
       base = base;
       history = file.history;
@@ -206,7 +208,7 @@ only_read disk journal last failed untouched unwritten = ⊎_elim (λ is. inl is
 
 -- why a start over an opened ledger came to nothing is why the start did
 module _ {D M W : Type 0} (disk : Disk.Ghosts D) (marks_disk : Disk.Ghosts M) (drain : Drain W) (host : List ℕ) (limits : Limits) (journal last : D) (marks last_marks : M) (outbox back : W) (opened : Ledger D) (code : ℕ)
-    (limits_are : opened.book.limits ≡ limits) (same : recovered (disk.seen opened.journal.disk) ≡ with_header limits (recovered (disk.seen journal))) (size : length (disk.seen opened.journal.disk) ≡ length (disk.seen journal))
+    (limits_are : opened.book.book.limits ≡ limits) (same : recovered (disk.seen opened.journal.disk) ≡ with_header limits (recovered (disk.seen journal))) (size : length (disk.seen opened.journal.disk) ≡ length (disk.seen journal))
     (file : StandsForFile opened.book opened.base (recovered (disk.seen opened.journal.disk))) where
   stands : StandsForFile opened.book opened.base (with_header limits (recovered (disk.seen journal)))
   stands = subst (StandsForFile opened.book opened.base) same file
@@ -246,10 +248,10 @@ module _ {D M W : Type 0} (disk : Disk.Ghosts D) (marks_disk : Disk.Ghosts M) (d
 -- that let them go
 pub forgot : {D : Type 0} (disk : Disk.Ghosts D) (ledger new : Ledger D) (before : List Exchange) (kept : HasKept disk ledger before []) (requests : List Request)
     → ((left : List ℕ) → disk.left_since ledger.journal.disk (disk.moment ledger.journal.disk) left → disk.may_leave ledger.journal.disk left) → (result : Result (Unit {0}) KeepError)
-    → IsErrOf result Unsettled ⊎ (IsErrOf result (Journal Memory) ⊎ (IsErrOf result (Journal Full) ⊎ AreKept requests))
+    → IsErrOf result Unsettled ⊎ (IsErrOf result (Journal Memory) ⊎ (IsErrOf result (Journal Full) ⊎ AreKept ledger.releases requests))
     → (IsErrOf result Unsettled ⊎ (IsErrOf result (Journal Memory) ⊎ IsErrOf result (Journal Full)) → new ≡ ledger)
-    → LeavesOnly disk ledger.journal.disk new.journal.disk (StandsForSome (recovered (disk.seen ledger.journal.disk)) (records_of requests))
-    → MayCrash (ledger_keeper disk) ledger new ledger.book.limits before requests
+    → LeavesOnly disk ledger.journal.disk new.journal.disk (StandsForSome (recovered (disk.seen ledger.journal.disk)) (records_of ledger.releases requests))
+    → MayCrash (ledger_keeper disk) ledger new (rules_of ledger) before requests
 forgot disk ledger new before kept requests only_now result bodies unchanged run =
     ⊎_elim (λ unsettled. nothing_kept disk ledger before kept requests new only_now (unchanged (inl unsettled)))
     (λ more. ⊎_elim (λ memory. nothing_kept disk ledger before kept requests new only_now (unchanged (inr (inl memory))))
@@ -258,10 +260,10 @@ forgot disk ledger new before kept requests only_now result bodies unchanged run
 -- once all of them are kept and carried out, it stands for the history with them
 pub forgot_all : {D : Type 0} (disk : Disk.Ghosts D) (ledger new : Ledger D) (requests : List Request) (result : Result (Unit {0}) KeepError) → new.settled ≡ settled_once_kept result ledger.settled
     → OnOk result (IsSettled disk new.journal.disk new.journal.used) → OnOk result (AwaitsRequests disk new [])
-    → OnOk result ((long : List Exchange) → IsLedgerInPlaceOf ledger.book ledger.base (recovered (disk.seen ledger.journal.disk)) long → IsLedgerInPlaceOf new.book new.base (recovered (disk.seen new.journal.disk)) (history_after ledger.book.limits long requests))
-    → OnOk result ((before : List Exchange) → HasKept disk ledger before [] → HasKept disk new (history_after ledger.book.limits before requests) [])
+    → OnOk result ((long : List Exchange) → IsLedgerInPlaceOf ledger.book ledger.base (recovered (disk.seen ledger.journal.disk)) long → IsLedgerInPlaceOf new.book new.base (recovered (disk.seen new.journal.disk)) (history_under (rules_of ledger) long requests))
+    → OnOk result ((before : List Exchange) → HasKept disk ledger before [] → HasKept disk new (history_under (rules_of ledger) before requests) [])
 forgot_all disk ledger new requests (Ok value) settled durable awaits in_place = λ before kept.
-    has_kept disk new (history_after ledger.book.limits before requests) []
+    has_kept disk new (history_under (rules_of ledger) before requests) []
     (record {
       many = awaits.many;
       front = recovered (disk.seen new.journal.disk);

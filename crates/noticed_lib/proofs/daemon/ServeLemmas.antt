@@ -14,7 +14,7 @@ use Rattle.dsn_crew.specs.declared.agents.agent_line.AgentLine.{AgentLine}
 use Rattle.dsn_crew.specs.declared.agents.port.Port.{Ghosts as Port}
 use Rattle.dsn_device.specs.declared.drain.Drain.{Ghosts as Drain}
 use Rattle.dsn_journal.specs.MarkedOutbox.{MarkedOutbox}
-use Rattle.dsn_ledger.specs.OpenLedger.{Ledger}
+use Rattle.dsn_ledger.specs.OpenLedger.{Ledger, rules_of}
 use Rattle.dsn_journal.specs.declared.disk.Disk
 use Rattle.dsn_outcome.specs.History.{Limits, Exchange, history_of, sealed_letters}
 use Rattle.dsn_outcome.specs.Letter.{Letter}
@@ -99,7 +99,7 @@ module _ {P S : Type 0} (port : Port P S) (untold : (one : P) → port.conns one
       account = served.account;
       crew = λ from by before with_it.
           let has = served.crew from by before with_it in
-          record { letters = has.letters; sealed = has.sealed; is = account-uses (ledger_keeper disk) (marking_drain drain marks_disk) from ledger.book.limits before has.letters ports served.account fit has.is };
+          record { letters = has.letters; sealed = has.sealed; is = account-uses (ledger_keeper disk) (marking_drain drain marks_disk) from (rules_of ledger) before has.letters ports served.account fit has.is };
       count = rw (length-replicate (length ports)) served.count;
       noted = served.noted;
       crash = served.crash;

@@ -1,9 +1,10 @@
 -- Runs over a journal: what one begins with, and what it comes to.
+use Rattle.dsn_book.specs.Release.{history_under}
 use Rattle.std.specs.Prelude.{◌≡◌, ◌≢◌, ◌⊎◌, ◌↔◌, ℕ, ◌+◌, ◌^◌, ◌<◌, ◌≤◌, Bool, true, false, List, [], IsErrOf, IsPermutation, OnErr, OnOk, Result, length, replicate, Some}
-use Rattle.dsn_book.specs.Book.{Book, Represents}
+use Rattle.dsn_book.specs.Book.{ReleasingBook, Represents}
 use Rattle.dsn_book.specs.Keeper.{MayCrash}
 use Rattle.dsn_device.specs.Failures.{counted}
-use Rattle.dsn_outcome.specs.History.{Limits, Exchange, history_after, sealed_letters}
+use Rattle.dsn_outcome.specs.History.{Limits, Exchange, sealed_letters}
 use Rattle.dsn_crew.specs.Crew.{Account, CrewFault, HasAccount, HasFault, IsPostedBy, MayCrashWithin, PostedBefore, most_ports}
 use Rattle.dsn_crew.specs.declared.crew_cause.CrewCause.TheVariants.{PortCount, Refused}
 use Rattle.dsn_crew.specs.declared.agents.port.Port.{Ghosts as Port}
@@ -23,7 +24,7 @@ use Rattle.dsn_journal.specs.Marks.{IsLeftByOpeningMarks, LeavesTheMark, SayMark
 use Rattle.dsn_journal.specs.MarksError.{is_of_disk, marks_error_code}
 use Rattle.dsn_journal.specs.Moments.{LeavesOnly}
 use Rattle.dsn_ledger.specs.Opening.{IsLeftByOpening}
-use Rattle.dsn_ledger.specs.OpenLedger.{Ledger}
+use Rattle.dsn_ledger.specs.OpenLedger.{Ledger, rules_of}
 use Rattle.dsn_ledger.specs.Posting.{AreToPost}
 use Rattle.dsn_journal.specs.Records.{encoded, recovered}
 use Rattle.dsn_journal.specs.declared.disk.Disk
@@ -113,10 +114,10 @@ pub record SealTooMany (limits : Limits) (records : List (List ℕ)) : Type 0 wh
 
 -- a file that has no room for the shorter records that would take the place of its own
 pub record HasNoRoomForShorter (limits : Limits) (file : List ℕ) : Type 0 where
-  pub book : Book
+  pub book : ReleasingBook
   pub base : ℕ
   pub stands : StandsForFile book base (with_header limits (recovered file))
-  pub limits_are : book.limits ≡ limits
+  pub limits_are : book.book.limits ≡ limits
   pub longer : length file < length (encoded (compacted book base []))
 
 -- at each moment from one disk of a journal to another a crash leaves what it might have left of the
@@ -133,8 +134,8 @@ LeavesStart disk limits journal last =
 pub record IsStartOver {D M W : Type 0} (disk : Disk.Ghosts D) (marks_disk : Disk.Ghosts M)
     (drain : Drain W) (host : List ℕ) (limits : Limits) (journal : D) (marks : M) (outbox : W)
     (ledger : Ledger D) (poster : Outgoing (MarkedOutbox W M)) : Type 0 where
-  pub limits_are : ledger.book.limits ≡ limits
-  pub few : ledger.base + ledger.book.sealed < 2 ^ 63
+  pub limits_are : ledger.book.book.limits ≡ limits
+  pub few : ledger.base + ledger.book.book.sealed < 2 ^ 63
   pub all_sent : poster.unsent ≡ []
   pub begins : (before : List Exchange) × BeginsWith (ledger_keeper disk) ledger before
   pub begins_with : (long : List Exchange) → StartsWith limits (disk.seen journal) long
@@ -190,21 +191,21 @@ pub record IsForgottenIn {D : Type 0} (disk : Disk.Ghosts D) (ledger : Ledger D)
   pub left : Ledger D
   pub last_is : last ≡ left.journal.disk
   pub result : Result (Unit {0}) KeepError
-  pub forgotten : OnOk result (IsPermutation (open_entries ledger.book.entries) left.book.entries)
+  pub forgotten : OnOk result (IsPermutation (open_entries ledger.book.book.entries) left.book.book.entries)
   pub stands : OnOk result ((before : List Exchange) → HasKept disk ledger before []
       → HasKept disk left
-      (history_after ledger.book.limits before (lets_go ledger.book.entries)) [])
+      (history_under (rules_of ledger) before (lets_go ledger.book.book.entries)) [])
   pub held : OnErr result (left.book ≡ ledger.book)
   pub settled : ledger.settled ≡ true → IsErrOf result Unsettled → ⊥
   pub full : IsErrOf result (not_kept_for.Journal Full)
       → (length (disk.seen ledger.journal.disk)
-      < ledger.journal.used + length (encoded (records_of (lets_go ledger.book.entries))))
-      ⊎ (2 ^ 64 ≤ ledger.base + ledger.book.sealed + length (lets_go ledger.book.entries))
+      < ledger.journal.used + length (encoded (records_of ledger.releases (lets_go ledger.book.book.entries))))
+      ⊎ (2 ^ 64 ≤ ledger.base + ledger.book.book.sealed + length (lets_go ledger.book.book.entries))
   pub failures : disk.failures last
       ≡ counted (has_keeping_failed result) (disk.failures ledger.journal.disk)
   pub crash : (before : List Exchange) → HasKept disk ledger before []
-      → MayCrash (ledger_keeper disk) ledger left ledger.book.limits before
-      (lets_go ledger.book.entries)
+      → MayCrash (ledger_keeper disk) ledger left (rules_of ledger) before
+      (lets_go ledger.book.book.entries)
 
 module _ {D M P S W N : Type 0} (disk : Disk.Ghosts D) (marks_disk : Disk.Ghosts M)
     (reached : ℕ → Type 0) (port : Port P S) (drain : Drain W) (notes_device : Drain N)
@@ -219,13 +220,13 @@ module _ {D M P S W N : Type 0} (disk : Disk.Ghosts D) (marks_disk : Disk.Ghosts
         → IsPostedBy (marking_drain drain marks_disk) from poster
         → (before : List Exchange) → BeginsWith (ledger_keeper disk) ledger before
         → HasAccount (keeper_of_ledger disk reached) port (marking_drain drain marks_disk) from
-        ledger.book.limits before
+        (rules_of ledger) before
         ports account
     pub count : (1 ≤ length ports) × (length ports ≤ most_ports)
-    pub noted : (history : List Exchange) → Represents account.book.book history
+    pub noted : (history : List Exchange) → Represents account.book.book.book history
         → WritesAccount notes_device history account account.outbox.outbox notes later end
     pub crash : (before : List Exchange) → BeginsWith (ledger_keeper disk) ledger before
-        → MayCrash (ledger_keeper disk) ledger account.book ledger.book.limits before account.taken
+        → MayCrash (ledger_keeper disk) ledger account.book (rules_of ledger) before account.taken
     pub forgets : IsForgottenIn disk account.book last
     pub last_marks_are : last_marks ≡ account.outbox.marks.journal.disk
 
@@ -237,7 +238,7 @@ module _ {D M P S W N : Type 0} (disk : Disk.Ghosts D) (marks_disk : Disk.Ghosts
         → IsPostedBy (marking_drain drain marks_disk) from poster
         → (before : List Exchange) → BeginsWith (ledger_keeper disk) ledger before
         → HasFault (keeper_of_ledger disk reached) (marking_drain drain marks_disk) from
-        ledger.book.limits before
+        (rules_of ledger) before
         (length ports) fault
     pub counted : (fault.cause ≡ PortCount) ↔ ((length ports ≡ 0) ⊎ (most_ports < length ports))
     pub noted : WritesFault notes_device fault.cause fault.outbox.outbox fault.unsent notes later
@@ -247,7 +248,7 @@ module _ {D M P S W N : Type 0} (disk : Disk.Ghosts D) (marks_disk : Disk.Ghosts
     pub last_is : last ≡ left.journal.disk
     pub last_marks_are : last_marks ≡ fault.outbox.marks.journal.disk
     pub crash : (before : List Exchange) → BeginsWith (ledger_keeper disk) ledger before
-        → MayCrashWithin (keeper_of_ledger disk reached) ledger ledger.book.limits before (length ports)
+        → MayCrashWithin (keeper_of_ledger disk reached) ledger (rules_of ledger) before (length ports)
         fault.taken fault.behind left
 
   abbrev pub IsRunOver : Type 0

@@ -48,8 +48,8 @@ pub record IsStartOverLedger {D M W : Type 0} (disk : Disk.Ghosts D) (marks_disk
     (drain : Drain W) (host : List ℕ) (outbox : MarkedOutbox W M) (letters : List Letter)
     (opened ledger : Ledger D) (poster : Outgoing (MarkedOutbox W M)) : Type 0 where
   pub delivered : Delivered (marking_drain drain marks_disk) host outbox poster letters
-  pub limits_are : ledger.book.limits ≡ opened.book.limits
-  pub few : ledger.base + ledger.book.sealed < 2 ^ 63
+  pub limits_are : ledger.book.book.limits ≡ opened.book.book.limits
+  pub few : ledger.base + ledger.book.book.sealed < 2 ^ 63
   pub all_sent : poster.unsent ≡ []
   pub begins : (before : List Exchange) × BeginsWith (ledger_keeper disk) ledger before
   pub begins_with : (long : List Exchange)
@@ -58,7 +58,7 @@ pub record IsStartOverLedger {D M W : Type 0} (disk : Disk.Ghosts D) (marks_disk
   pub crash : (long : List Exchange)
       → IsLedgerInPlaceOf opened.book opened.base (recovered (disk.seen opened.journal.disk)) long
       → LeavesOnly disk opened.journal.disk ledger.journal.disk
-      (λ left. ReopensTo opened.book.limits left long)
+      (λ left. ReopensTo opened.book.book.limits left long)
 
 -- and so of one whose ledger was opened, with these letters to post, by this poster
 pub data WhyNoStart {D : Type 0} (disk : Disk.Ghosts D) (opened : Ledger D) (failed : Bool)
@@ -70,7 +70,7 @@ pub data WhyNoStart {D : Type 0} (disk : Disk.Ghosts D) (opened : Ledger D) (fai
       < length (encoded (compacted opened.book opened.base [])))
       → WhyNoStart disk opened failed code
   of_letters : failed ≡ false → code ≡ journal_full_code
-      → base_limit ≤ opened.base + opened.book.sealed → WhyNoStart disk opened failed code
+      → base_limit ≤ opened.base + opened.book.book.sealed → WhyNoStart disk opened failed code
 
 pub record IsNoStartOverLedger {D M W : Type 0} (disk : Disk.Ghosts D) (marks_disk : Disk.Ghosts M)
     (drain : Drain W) (host : List ℕ) (outbox : MarkedOutbox W M) (letters : List Letter)
@@ -85,7 +85,7 @@ pub record IsNoStartOverLedger {D M W : Type 0} (disk : Disk.Ghosts D) (marks_di
 pub record MayRunOver {D M W : Type 0} (disk : Disk.Ghosts D) (marks_disk : Disk.Ghosts M)
     (drain : Drain W) (ledger : Ledger D)
     (poster : Outgoing (MarkedOutbox W M)) : Type 0 where
-  pub few : ledger.base + ledger.book.sealed < 2 ^ 63
+  pub few : ledger.base + ledger.book.book.sealed < 2 ^ 63
   pub all_sent : poster.unsent ≡ []
   pub begins : (before : List Exchange) × BeginsWith (ledger_keeper disk) ledger before
   pub from : PostedBefore (MarkedOutbox W M)

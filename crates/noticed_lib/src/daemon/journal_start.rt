@@ -136,10 +136,10 @@ fn start_over_ledger<W: Drain, D: Replaceable + Drop, M: Replaceable + Drop, C: 
     requires awaits { AwaitsRequests D.Disk opened.ledger [] }
     requires settled { opened.ledger.settled ≡ true }
     requires durable { IsSettled D.Disk opened.ledger.journal.disk opened.ledger.journal.used }
-    requires letters { AreToPost opened.ledger.book.limits mark
+    requires letters { AreToPost opened.ledger.book.book.limits mark
         (recovered (D.seen opened.ledger.journal.disk)) opened.letters.items }
     requires posted { opened.ledger.base ≤ mark }
-    requires sealed { mark ≤ opened.ledger.base + opened.ledger.book.sealed }
+    requires sealed { mark ≤ opened.ledger.base + opened.ledger.book.book.sealed }
     ensures start { IfOk result (λ start. IsStartOverLedger D.Disk M.Disk W.Drain site outbox
         opened.letters.items opened.ledger start.keeper start.outgoing) }
     ensures fault { IfErr result (λ not. IsNoStartOverLedger D.Disk M.Disk W.Drain site outbox
@@ -148,7 +148,7 @@ fn start_over_ledger<W: Drain, D: Replaceable + Drop, M: Replaceable + Drop, C: 
         → IsLedgerInPlaceOf opened.ledger.book opened.ledger.base
         (recovered (D.seen opened.ledger.journal.disk)) long
         → LeavesOnly D.Disk opened.ledger.journal.disk not.journal
-        (λ left. ReopensTo opened.ledger.book.limits left long)) }
+        (λ left. ReopensTo opened.ledger.book.book.limits left long)) }
 {
     ledgers_have_one_history();
     let Opened {

@@ -11,4 +11,4 @@ compact-requires-clause-letters g c is =
     let none = c.self.invariant is in
     let records = recovered (g.D.Disk.seen ledger.journal.disk) in
     let stands : StandsForFile ledger.book ledger.base records = subst (StandsForFile ledger.book ledger.base) (sym (none.file ∙ append-nil none.front)) none.stands in
-    record { mark = ledger.base + ledger.book.sealed; to_post = c.ledgers_have_one_history.ensures.all_marked ledger.book ledger.base records stands }
+    record { mark = ledger.base + ledger.book.book.sealed; to_post = c.ledgers_have_one_history.ensures.all_marked ledger.book ledger.base records stands }

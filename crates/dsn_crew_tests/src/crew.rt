@@ -5,5 +5,6 @@ mod hold;
 mod keepers;
 mod outbox;
 mod posting;
+mod releasing;
 mod side_by_side;
 mod whole_crew;

@@ -1,9 +1,9 @@
-//! A keeper that keeps some requests and refuses those after them, for tests.
+//! A keeper that keeps some requests and refuses those after them, for tests. It releases no key.
 
 use dsn_book::{Book, Keeper, Limits, NotKept, Step};
 use dsn_outcome::Request;
 
-/// A book beside something that keeps so many requests more, and refuses those after them.
+/// A book that keeps `left` requests more, and refuses those after them.
 #[derive(Drop)]
 pub(crate) struct Refusing {
     pub(crate) book: Book,
@@ -13,9 +13,10 @@ pub(crate) struct Refusing {
 impl Keeper for Refusing {
     ghost use Rattle.std.specs.Prelude.{◌≡◌};
     ghost use Rattle.dsn_book.specs.Book.{Represents};
+    ghost use Rattle.dsn_book.specs.Release.{releasing_none};
     ghost use Rattle.dsn_book.specs.declared.not_kept.NotKept.TheVariants.{Full};
 
-    ghost limits = { λ keeper. keeper.book.limits };
+    ghost rules = { λ keeper. releasing_none keeper.book.limits };
 
     ghost has = { λ keeper history _. Represents keeper.book history };
 

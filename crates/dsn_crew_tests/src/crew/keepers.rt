@@ -30,11 +30,11 @@ const NO_ROOM: CrewCause = CrewCause::Unkept(NotKept::Full);
 /// Two appends to one log, over one connection.
 const TWO_APPENDS: [(Kind, [u8; 2]); 2] = [(Kind::Append, *b"K1"); 2];
 
-/// Why a run ended with a fault, if it did, and the keeper that it handed back.
-type Ended<B> = (Option<CrewCause>, Option<B>);
+/// Why a run ended with a fault, if it did, and the keeper that it returned.
+pub(super) type Ended<B> = (Option<CrewCause>, Option<B>);
 
 /// Runs a crew over these ports and this keeper.
-fn run_ports<R: Threads + Wait + Sync, B: Keeper + Drop>(
+pub(super) fn run_ports<R: Threads + Wait + Sync, B: Keeper + Drop>(
     rt: &R,
     alloc: Global,
     keeper: B,

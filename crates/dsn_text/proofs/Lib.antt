@@ -1,6 +1,7 @@
 mod Dates
 mod ExtensionExamples
 pub mod ExtensionLemmas
+pub mod FaultWordsLemmas
 pub mod KeyLemmas
 pub mod KeyOrderLemmas
 pub mod StampLemmas

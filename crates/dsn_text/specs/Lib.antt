@@ -1,6 +1,7 @@
 pub mod Action
 pub mod Extension
 pub mod FaultCode
+pub mod FaultWords
 pub mod Key
 pub mod Optional
 pub mod Service

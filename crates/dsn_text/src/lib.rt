@@ -8,6 +8,7 @@ mod clean;
 mod envelope_id;
 mod extension;
 pub mod fault_code;
+mod fault_table;
 mod key;
 mod laws;
 mod mta_name;
@@ -30,6 +31,7 @@ pub use extension::{
     LONGEST_EXTENSION_NAME, LONGEST_EXTENSION_TEXT, LONGEST_EXTENSION_VALUE, MOST_EXTENSIONS,
     first_ended_line, is_extension_text,
 };
+pub use fault_table::{FAULT_WORDS, fault_words};
 pub use key::Key;
 pub use laws::keys_are_ordered;
 pub use mta_name::{LONGEST_MTA_NAME, MtaName};

@@ -1,0 +1,16 @@
+-- The words of the faults' numbers.
+use Rattle.std.specs.Prelude.{◌==◌, ℕ, List, [], ◌∷◌, map, if◌then◌else◌}
+use Rattle.dsn_text.specs.declared.fault_table.TheConstants.{FAULT_WORDS}
+
+-- the maximal number of bytes of a fault's words
+abbrev pub longest_fault_words : ℕ
+longest_fault_words = 90
+
+-- the words of the first entry for this number; none if the table has no entry for it
+abbrev pub words_in : List (ℕ × List ℕ) → ℕ → List ℕ
+words_in [] code = []
+words_in ((number, words) ∷ rest) code = if number == code then words else words_in rest code
+
+-- the words of this number in the table of all faults
+unfoldable pub fault_words : ℕ → List ℕ
+fault_words code = words_in (map (λ entry. (entry.0, entry.1.now)) FAULT_WORDS) code

@@ -96,10 +96,6 @@ closes-room new limits history request key reply stands few own is closes =
 
 -- ---- a release
 
-pub no_items : {X : Type 0} (xs : List X) → length xs ≡ 0 → xs ≡ []
-no_items [] long = refl
-no_items (x ∷ rest) long = absurd (omega arith)
-
 is-first : (key : Key) (rest : List Key) (history : List Exchange) → closed_keys history ≡ key ∷ rest → is_closed key history ≡ true
 is-first key rest history is =
     sym (closed-is key history) ∙ ap (list_any (same_key key)) is ∙ ap (λ b. b || list_any (same_key key) rest) (same_key_refl key)

@@ -22,17 +22,6 @@ use Rattle.dsn_book.specs.inner.Step.{entries_next}
 no_key : (limits : Limits) (history : List Exchange) (body : Body) → key_of body ≡ None → needs_room limits history body ≡ false
 no_key limits history body is = ap (λ own. option_map_or (needs_room_for limits history body) own false) is
 
-pub bye-no_room : (limits : Limits) (history : List Exchange) (body : Body) → key_of body ≡ None → needs_room limits history body ≡ false
-bye-no_room limits history body is = no_key limits history body is
-
-forget-of : (limits : Limits) (history : List Exchange) (body : Body) (own : Option Key) → is_forget body ≡ true → key_of body ≡ own → needs_room limits history body ≡ false
-forget-of limits history body None forget is = no_key limits history body is
-forget-of limits history body (Some key) forget is = rw (is, forget) refl
-
--- a Forget needs no room
-pub forget-no_room : (limits : Limits) (history : List Exchange) (body : Body) → is_forget body ≡ true → needs_room limits history body ≡ false
-forget-no_room limits history body forget = forget-of limits history body (key_of body) forget refl
-
 few-of : (limits : Limits) (history : List Exchange) (body : Body) (own : Option Key) → (length (held_keys history) == limits.logs) ≡ false → key_of body ≡ own → needs_room limits history body ≡ false
 few-of limits history body None few is = no_key limits history body is
 few-of limits history body (Some key) few is =

@@ -15,7 +15,6 @@ ghost use Rattle.dsn_outcome.specs.Request.{Request};
 use crate::book::Book;
 use crate::limits::Limits;
 use crate::not_kept::NotKept;
-use crate::releasing_book::ReleasingBook;
 use crate::step::Step;
 use dsn_outcome::Request;
 
@@ -140,39 +139,5 @@ impl Keeper for Book {
 
     fn apply(&mut self, request: Request) -> Step {
         self.apply(request)
-    }
-}
-
-/// As [`Book`], but the key that was closed longest ago makes room for a new one.
-impl Keeper for ReleasingBook {
-    ghost use Rattle.dsn_book.specs.Book.{RepresentsInOrder};
-    ghost use Rattle.dsn_book.specs.Release.{releasing};
-
-    ghost rules = { λ book. releasing book.book.limits };
-
-    ghost has = { λ book history _. RepresentsInOrder book history };
-
-    ghost sealed = { λ book. book.book.sealed };
-
-    ghost refuses = { λ _ _ _ _. ⊥ };
-
-    ghost moment = { λ _. 0 };
-
-    ghost left_since = { λ _ _ _. ⊥ };
-
-    ghost reopens = { λ _ _ _. ⊥ };
-
-    ghost leaves_kept = { λ _ _ _ _ _ left. absurd left };
-
-    fn limits(&self) -> Limits {
-        self.book().limits()
-    }
-
-    fn keep(&mut self, _requests: &[Request]) -> Result<(), NotKept> {
-        Ok(())
-    }
-
-    fn apply(&mut self, request: Request) -> Step {
-        self.apply(true, request)
     }
 }

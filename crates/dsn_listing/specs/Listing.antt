@@ -20,12 +20,12 @@ use Rattle.dsn_listing.specs.declared.listing_fault.ListingFault.{ListingFault}
 use Rattle.dsn_listing.specs.declared.listing_fault.ListingFault.TheVariants as fault
 
 -- the closed keys after a history, in the order of their first use
-abbrev pub closed_after : List Exchange → List Key
-closed_after history = filter (λ key. is_closed key history) (held_keys history)
+abbrev pub closed_held : List Exchange → List Key
+closed_held history = filter (λ key. is_closed key history) (held_keys history)
 
 -- the closed keys after a history, in key order
 abbrev pub AreClosedKeys : List Exchange → List Key → Type 0
-AreClosedKeys history keys = IsPermutation (closed_after history) keys × IsSorted key_cmp keys
+AreClosedKeys history keys = IsPermutation (closed_held history) keys × IsSorted key_cmp keys
 
 -- the lines of a history's open logs and of its closed keys, each in key order, then those of these letters, and these
 -- last lines

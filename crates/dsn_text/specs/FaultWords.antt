@@ -7,10 +7,10 @@ abbrev pub longest_fault_words : ℕ
 longest_fault_words = 90
 
 -- the words of the first entry for this number; none if the table has no entry for it
-abbrev pub words_in : List (ℕ × List ℕ) → ℕ → List ℕ
-words_in [] code = []
-words_in ((number, words) ∷ rest) code = if number == code then words else words_in rest code
+abbrev pub words_of_code : List (ℕ × List ℕ) → ℕ → List ℕ
+words_of_code [] code = []
+words_of_code ((number, words) ∷ rest) code = if number == code then words else words_of_code rest code
 
 -- the words of this number in the table of all faults
 unfoldable pub fault_words : ℕ → List ℕ
-fault_words code = words_in (map (λ entry. (entry.0, entry.1.now)) FAULT_WORDS) code
+fault_words code = words_of_code (map (λ entry. (entry.0, entry.1.now)) FAULT_WORDS) code

@@ -1,7 +1,7 @@
 //! The words of each number of a fault or a refusal. Each line that names a fault has them, and
 //! `noticed help faults` lists them.
 ghost use Rattle.std.specs.Prelude.{◌≡◌, ◌≤◌, length, map};
-ghost use Rattle.dsn_text.specs.FaultWords.{fault_words, words_in, longest_fault_words};
+ghost use Rattle.dsn_text.specs.FaultWords.{fault_words, words_of_code, longest_fault_words};
 
 use crate::fault_code;
 
@@ -159,12 +159,12 @@ pub fn fault_words(code: u32) -> &'static str
     ensures same { result.now ≡ fault_words code }
     ensures short { length result.now ≤ longest_fault_words }
 {
-    words_in(&FAULT_WORDS, code)
+    words_of_code(&FAULT_WORDS, code)
 }
 
 /// Returns the words of a number in a table; the empty text if the table doesn't have it.
-fn words_in(table: &[(u32, &'static str)], code: u32) -> &'static str
-    ensures { result.now ≡ words_in (map (λ entry. (entry.0, entry.1.now)) table.entry.now) code }
+fn words_of_code(table: &[(u32, &'static str)], code: u32) -> &'static str
+    ensures { result.now ≡ words_of_code (map (λ entry. (entry.0, entry.1.now)) table.entry.now) code }
 {
     let mut rest = table;
     while let [entry, others @ ..] = rest {

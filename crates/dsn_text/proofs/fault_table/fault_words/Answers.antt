@@ -4,8 +4,8 @@ use Rattle.dsn_text.proofs.fault_table.fault_words.Goals as goal
 
 pub returns-clause-same : goal.returns-clause-same
 unfolding fault_words
-returns-clause-same c = c.words_in.ensures
+returns-clause-same c = c.words_of_code.ensures
 
 pub returns-clause-short : goal.returns-clause-short
 unfolding fault_words
-returns-clause-short c = rw (c.words_in.ensures) (fault_words-short c.args.code)
+returns-clause-short c = rw (c.words_of_code.ensures) (fault_words-short c.args.code)

@@ -4,6 +4,7 @@ use Rattle.std.proofs.lemmas.List.{length-replicate}
 use Rattle.std.proofs.lemmas.List.Elements.{All-cons, All-head, All-nil, All-tail}
 use Rattle.std.specs.Prelude.{None}
 use Rattle.dsn_book.specs.Keeper.{book_keeper}
+use Rattle.dsn_book.specs.Release.{Rules, releasing_none}
 use Rattle.dsn_book.specs.declared.keeper.Keeper.{Ghosts as Keeper}
 use Rattle.dsn_crew.specs.agents.Agent.{LaneHalves}
 use Rattle.dsn_crew.specs.agents.Port.{AreOverPort, Given, all_given}
@@ -32,8 +33,8 @@ module _ {P S : Type 0} (port : Port P S) (untold : (one : P) → port.conns one
   abbrev pub Fits : P → Type 0
   Fits one = (given : List Given) → port.may_give one given → IsWithin may_end uses given
 
-  module _ (limits : Limits) (before : List Exchange) (taken : List Request) where
-    agent-uses : (agent : ℕ) (one : P) (line : AgentLine) (ends : LaneHalves) → Fits one → IsAgentAccount (port.conns one) (port.may_give one) limits before taken agent line ends → IsAgentAccount None (IsWithin may_end uses) limits before taken agent line ends
+  module _ (rules : Rules) (before : List Exchange) (taken : List Request) where
+    agent-uses : (agent : ℕ) (one : P) (line : AgentLine) (ends : LaneHalves) → Fits one → IsAgentAccount (port.conns one) (port.may_give one) rules before taken agent line ends → IsAgentAccount None (IsWithin may_end uses) rules before taken agent line ends
     agent-uses agent one line ends fits is = record {
       number = is.number;
       taken_all = is.taken_all;
@@ -52,7 +53,7 @@ module _ {P S : Type 0} (port : Port P S) (untold : (one : P) → port.conns one
     }
 
     agents-uses : (agent : ℕ) (ports : List P) (lines : List AgentLine) (crew : List LaneHalves) → All Fits ports
-        → AreAgentAccounts port limits before taken agent ports lines crew → AreAgentAccounts (socket_port may_end) limits before taken agent (replicate (length ports) uses) lines crew
+        → AreAgentAccounts port rules before taken agent ports lines crew → AreAgentAccounts (socket_port may_end) rules before taken agent (replicate (length ports) uses) lines crew
     agents-uses agent [] [] [] fit are = are
     agents-uses agent [] [] (ends ∷ crew) fit are = absurd are
     agents-uses agent [] (line ∷ lines) crew fit are = absurd are
@@ -63,13 +64,13 @@ module _ {P S : Type 0} (port : Port P S) (untold : (one : P) → port.conns one
       agents-uses (suc agent) ports lines crew (All-tail Fits one ports fit) are.1,
     )
 
-  -- so it is of a run that ended well, over whatever keeps its requests
-  account-uses : {B W : Type 0} (keeper : Keeper B) (drain : Drain W) (from : PostedBefore W) (limits : Limits) (before : List Exchange) (letters : List Letter) (ports : List P) (account : Account W B) → All Fits ports
-      → IsAccountAfter keeper port drain from limits before letters ports account → IsAccountAfter keeper (socket_port may_end) drain from limits before letters (replicate (length ports) uses) account
-  account-uses keeper drain from limits before letters ports account fit is = record {
-    agents = agents-uses limits before account.taken 0 ports account.agents account.halves fit is.agents;
+  -- the account of a run that ended well, over any keeper
+  account-uses : {B W : Type 0} (keeper : Keeper B) (drain : Drain W) (from : PostedBefore W) (rules : Rules) (before : List Exchange) (letters : List Letter) (ports : List P) (account : Account W B) → All Fits ports
+      → IsAccountAfter keeper port drain from rules before letters ports account → IsAccountAfter keeper (socket_port may_end) drain from rules before letters (replicate (length ports) uses) account
+  account-uses keeper drain from rules before letters ports account fit is = record {
+    agents = agents-uses rules before account.taken 0 ports account.agents account.halves fit is.agents;
     only = rw (length-replicate (length ports)) is.only;
-    book_limits = is.book_limits;
+    book_rules = is.book_rules;
     book = is.book;
     count = is.count;
     outbox = is.outbox;
@@ -79,7 +80,7 @@ module _ {P S : Type 0} (port : Port P S) (untold : (one : P) → port.conns one
     pub serve-uses : IsServe port drain notes_device host limits ports start notes later end → IsServe (socket_port may_end) drain notes_device host limits (replicate (length ports) uses) start notes later end
     serve-uses (inl served) = inl (record {
       account = served.account;
-      crew = account-uses book_keeper drain (none_posted host start) limits [] (sealed_letters (history_of limits served.account.taken)) ports served.account fit served.crew;
+      crew = account-uses book_keeper drain (none_posted host start) (releasing_none limits) [] (sealed_letters (history_of limits served.account.taken)) ports served.account fit served.crew;
       count = rw (length-replicate (length ports)) served.count;
       noted = served.noted;
     })

@@ -3,6 +3,7 @@ unusual correct ones, the help and the version."""
 
 import re
 
+from tests.support.faults import fault_line
 from tests.support.running import EXAMPLES, ROOT, Checks, Ran, empty_outbox, run
 
 FAULT_CODES = ROOT / "crates/dsn_text/src/fault_code.rt"
@@ -340,12 +341,12 @@ def main():
     why = "No such file or directory (os error 2)"
     for what, words in RIGHT.items():
         path = SOCKET if SOCKET in words else words[-1]
-        checks.equal(what, run(words, given), Ran(b"", f"fault 61\n{path}: {why}\n".encode(), 1))
+        checks.equal(what, run(words, given), Ran(b"", fault_line(61) + f"{path}: {why}\n".encode(), 1))
     for what, words in RIGHT_OF_POSTFIX.items():
         checks.equal(
             f"postfix with {what}",
             run(["postfix", *words], given),
-            Ran(b"", f"fault 61\n{QUEUE}/private: {why}\n".encode(), 1),
+            Ran(b"", fault_line(61) + f"{QUEUE}/private: {why}\n".encode(), 1),
         )
     for host in ODD_HOSTS:
         checks.equal(f"batch {host[:20]}", run(["batch", host]), Ran(empty_outbox(host), b"", 0))

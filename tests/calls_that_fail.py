@@ -8,6 +8,7 @@ from pathlib import Path
 from typing import Optional
 
 from tests.support.daemon_and_clients import Daemon, conversation, flush, line, socket_fault
+from tests.support.faults import fault_line
 from tests.support.formats import sessions
 from tests.support.formats.logs import REFUSED, Limits, Logs
 from tests.support.formats.notices import crlf, mail, outbox
@@ -63,7 +64,7 @@ def after_outbox(written: bytes, given: bytes) -> Ran:
     ends = [sum(map(len, parts[: at + 1])) for at in range(len(parts) - 1)]
     unsent = [b"unsent B K%d\n" % (at + 1) for at, end in enumerate(ends) if end > len(written)]
     answers, is_open, rest = whole.notes.partition(b"open ")
-    return Ran(written, answers + b"fault 31\n" + b"".join(unsent) + is_open + rest, 1)
+    return Ran(written, answers + fault_line(31) + b"".join(unsent) + is_open + rest, 1)
 
 
 def check_outbox(checks: Checks, library: Path):

@@ -7,6 +7,7 @@ import subprocess
 import tempfile
 
 from tests.support.daemon_and_clients import FRAMES, NOTES, PATIENCE, Daemon, answer, asked, until
+from tests.support.faults import fault_line
 from tests.support.running import HOST, Checks, program
 
 STREAMS = (0, 1, 2)
@@ -58,11 +59,11 @@ def sends(checks: Checks):
         daemon.listens()
         words = ["send", daemon.path]
         asked_nothing = subprocess.run(without([0], words), capture_output=True, timeout=PATIENCE, check=False)
-        checks.equal("without its input", (asked_nothing.returncode, asked_nothing.stderr), (1, b"fault 14\n"))
+        checks.equal("without its input", (asked_nothing.returncode, asked_nothing.stderr), (1, fault_line(14)))
         told_nothing = subprocess.run(
             without([1], words), input=FRAMES, stderr=subprocess.PIPE, timeout=PATIENCE, check=False
         )
-        checks.equal("without its output", (told_nothing.returncode, told_nothing.stderr), (1, b"fault 33\n"))
+        checks.equal("without its output", (told_nothing.returncode, told_nothing.stderr), (1, fault_line(33)))
         whole = subprocess.run(without([2], words), input=FRAMES, stdout=subprocess.PIPE, timeout=PATIENCE, check=False)
         checks.equal(
             "without standard error", (whole.returncode, len(whole.stdout.splitlines())), (0, len(NOTES.splitlines()))

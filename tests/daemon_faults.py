@@ -21,6 +21,7 @@ from tests.support.daemon_and_clients import (
     socket_fault,
 )
 from tests.support.preloading import built, compare_ends, each_refused, preloading
+from tests.support.faults import fault_line
 from tests.support.running import HOST, Checks, Ran, empty_outbox, run
 
 MOST = 500  # growths of a run; more than this and the sweep is broken
@@ -29,8 +30,8 @@ NOT_THERE = "No such file or directory (os error 2)"
 NO_FOLDER = "Not a directory (os error 20)"
 TOO_MANY = "Too many open files (os error 24)"
 TOO_LONG = Ran(b"", b"the path of the socket must have 1 to 107 bytes\n", 2)
-UNBEGUN = Ran(b"", b"fault 9\n", 1)
-REFUSED = Ran(b"", b"fault 42\n", 1)
+UNBEGUN = Ran(b"", fault_line(9), 1)
+REFUSED = Ran(b"", fault_line(42), 1)
 
 
 def unbound(path: str, why: str) -> Ran:
@@ -82,12 +83,14 @@ def bad_outboxes(checks: Checks):
             with Daemon(1, 1, stdout=outbox) as daemon:
                 checks.equal(f"{what} standard output, the client", daemon.send(), Ran(NOTES, b"", 0))
                 checks.equal(
-                    f"{what} standard output", daemon.end(), Ran(b"", line(0, 2) + b"fault 31\nunsent B A1B2C3\n", 1)
+                    f"{what} standard output",
+                    daemon.end(),
+                    Ran(b"", line(0, 2) + fault_line(31) + b"unsent B A1B2C3\n", 1),
                 )
             with Daemon(1, 1, stdout=outbox) as daemon:
                 daemon.send(FRAMES[:FIRST_FRAME])
                 checks.equal(
-                    f"{what}, no letter", daemon.end(), Ran(b"", line(0, 1) + b"fault 31\nopen B A1B2C3 1\n", 1)
+                    f"{what}, no letter", daemon.end(), Ran(b"", line(0, 1) + fault_line(31) + b"open B A1B2C3 1\n", 1)
                 )
         finally:
             os.close(outbox)
@@ -114,7 +117,7 @@ def breaking_outbox(checks: Checks):
             rest = append(2, b"K2") + flush(3, b"K2") + append(4, b"K3") + flush(5, b"K3")
             wanted = answer(1, 2) + answer(7, 3, 1) + answer(1, 4) + answer(7, 5, 1)
             checks.equal("later letters are sealed", asked(client, rest, 4), wanted)
-        notes = line(0, 6) + b"fault 31\nunsent B K2\nunsent B K3\n"
+        notes = line(0, 6) + fault_line(31) + b"unsent B K2\nunsent B K3\n"
         checks.equal("a pipe that breaks", daemon.end(), Ran(b"", notes, 1))
 
 
@@ -174,7 +177,7 @@ def growths(checks: Checks, library: Path):
     before_a_frame = {
         "before the run": UNBEGUN,
         "for the crew, or for the poster's thread": REFUSED,
-        "for the agent's thread": Ran(empty_outbox(), b"fault 42\n", 1),
+        "for the agent's thread": Ran(empty_outbox(), fault_line(42), 1),
         "for the first frame": Ran(empty_outbox(), line(0, 0, 1, 1), 0),
     }
     # an append that is refused isn't a request; the flush after it is, of a log with nothing in it
@@ -197,7 +200,7 @@ def growths(checks: Checks, library: Path):
         {
             **before_a_frame,
             "for the append": Ran(empty_outbox(), line(0, 0), 0),
-            "for the list of open logs": Ran(empty_outbox(), line(0, 1) + b"fault 9\n", 1),
+            "for the list of open logs": Ran(empty_outbox(), line(0, 1) + fault_line(9), 1),
             "none": Ran(empty_outbox(), line(0, 1) + is_open, 0),
         },
     )
@@ -216,7 +219,7 @@ def threads(checks: Checks, library: Path):
             if number == 1:
                 checks.equal(about, ended, REFUSED)
             elif number <= agents + 1:
-                checks.equal(about, ended, Ran(OUTBOX if served else empty_outbox(), b"fault 42\n", 1))
+                checks.equal(about, ended, Ran(OUTBOX if served else empty_outbox(), fault_line(42), 1))
             else:
                 checks.equal(f"{about}: none", (ended.outbox, ended.status), (OUTBOX, 0))
 

@@ -9,11 +9,12 @@ import tempfile
 from pathlib import Path
 
 from tests.support.preloading import built, compare_ends, each_refused, preloading
+from tests.support.faults import fault_line
 from tests.support.running import EXAMPLES, ROOT, Checks, Ran, batch, empty_outbox
 
 PROBE = os.environ.get("PROBE") or str(ROOT / "crates/probe/out/probe")
 MOST = 500  # growths of a run; more than this and the sweep is broken
-UNBEGUN = Ran(b"", b"fault 9\n", 1)  # nothing is read or written
+UNBEGUN = Ran(b"", fault_line(9), 1)  # nothing is read or written
 FIRST_FRAME = 52  # bytes of the example's append
 
 
@@ -33,8 +34,8 @@ def longer_and_longer(checks: Checks, library: Path):
     given = b"".join(size.to_bytes(4, "big") + b"\xff" * size for size in range(1, 1001))
     ends = sweep(library, given)
     checks.true("frames that are each longer: the last run is whole", ends[-1] == batch(given))
-    refused = [it.notes.splitlines() for it in ends[:-1] if it != UNBEGUN]
-    checks.equal("each growth that is refused ends it", {it[-1] for it in refused}, {b"fault 9"})
+    refused = [it.notes.splitlines(keepends=True) for it in ends[:-1] if it != UNBEGUN]
+    checks.equal("each growth that is refused ends it", {it[-1] for it in refused}, {fault_line(9)})
     answered = sorted({len(it) - 1 for it in refused})
     checks.equal("growths for frames, after so many", answered, [0, 1, 6, 16, 36, 76, 156, 316, 636])
 
@@ -124,9 +125,9 @@ def main():
             sweep(library, given),
             {
                 "before the run": UNBEGUN,
-                "for the book, or for the first frame": ended(b"fault 9\n", 1),
+                "for the book, or for the first frame": ended(fault_line(9), 1),
                 "for the append": ended(b"0 refused 9\n1 nothing\n", 0),
-                "for the second frame": ended(b"0 logged 0\nfault 9\nopen B A1B2C3 1\n", 1),
+                "for the second frame": ended(b"0 logged 0\n" + fault_line(9) + b"open B A1B2C3 1\n", 1),
                 "for the flush": ended(b"0 logged 0\n1 refused 9\nopen B A1B2C3 1\n", 0),
                 "none": Ran(outbox, notes, 0),
             },
@@ -137,9 +138,9 @@ def main():
             sweep(library, given[:FIRST_FRAME]),
             {
                 "before the run": UNBEGUN,
-                "for the book, or for the frame": ended(b"fault 9\n", 1),
+                "for the book, or for the frame": ended(fault_line(9), 1),
                 "for the append": ended(b"0 refused 9\n", 0),
-                "for the list of open logs": ended(b"0 logged 0\nfault 9\n", 1),
+                "for the list of open logs": ended(b"0 logged 0\n" + fault_line(9), 1),
                 "none": ended(b"0 logged 0\nopen B A1B2C3 1\n", 0),
             },
         )

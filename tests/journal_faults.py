@@ -15,6 +15,7 @@ import tempfile
 from pathlib import Path
 
 from tests.support.daemon_and_clients import Daemon, answer, append, asked, flush, line
+from tests.support.faults import fault_line
 from tests.support.formats import journal
 from tests.support.formats.logs import Limits
 from tests.support.preloading import built, preloading
@@ -90,7 +91,7 @@ def check_still_there(checks: Checks, about: str, place: Place, count: int = 1):
 
 def not_opened(place: Path, words: str, code: int = 72) -> Ran:
     """The end of a daemon that couldn't have a file: its path, and what the system said."""
-    return Ran(b"", f"fault {code}\n{place}: {words}\n".encode(), 1)
+    return Ran(b"", fault_line(code) + f"{place}: {words}\n".encode(), 1)
 
 
 def folders(checks: Checks, room: Path):
@@ -182,7 +183,7 @@ def files(checks: Checks, room: Path):
         (place.folder / "marks").write_bytes(marks if number != 71 else bytes(MARKS))
         (place.folder / name).write_bytes(has)
         before = {it: place.file(it) for it in ("journal", "marks")}
-        checks.equal(about, place.run(), Ran(b"", b"fault %d\n" % number, 1))
+        checks.equal(about, place.run(), Ran(b"", fault_line(number), 1))
         checks.equal(f"{about}: the files stay", {it: place.file(it) for it in before}, before)
     # zeros behind it make a journal longer, and nothing else
     (place.folder / "journal").write_bytes(later + bytes(SIZE))
@@ -208,7 +209,7 @@ def short_marks(checks: Checks, room: Path):
         (place.folder / "marks").write_bytes(has)
         for start in (1, 2):
             about = f"marks of {len(has)} bytes, start {start}"
-            checks.equal(about, place.run(), Ran(b"", b"fault 71\n", 1))
+            checks.equal(about, place.run(), Ran(b"", fault_line(71), 1))
             checks.equal(f"{about}: the outbox", place.outbox.read_bytes(), b"")
             files = (place.file("journal"), place.file("marks"))
             checks.equal(f"{about}: the files stay", files, (begun, has))
@@ -276,7 +277,7 @@ def nothing_asked(checks: Checks, room: Path):
         checks.equal(f"{about} full of its header: the file", place.file("journal"), file)
     with place.daemon() as it:
         checks.equal("a full journal, asked something", exchange(it, append(0), 1), b"")
-        checks.equal("a full journal, asked something: the end", it.end(), Ran(b"", b"fault 45\n", 1))
+        checks.equal("a full journal, asked something: the end", it.end(), Ran(b"", fault_line(45), 1))
 
 
 def begun(room: Path, name: str) -> Place:
@@ -315,7 +316,7 @@ def lost_bytes(checks: Checks, room: Path):
     checks.true(f"most lost bytes are reported: {reported} of 400", reported > 250)
     (place.folder / "journal").write_bytes(whole[:100] + b"\0" + whole[101:])
     before = place.file("journal")
-    checks.equal("a start over a lost byte", place.run(), Ran(b"", b"fault 75\n", 1))
+    checks.equal("a start over a lost byte", place.run(), Ran(b"", fault_line(75), 1))
     checks.equal("a start over a lost byte: the file stays", place.file("journal"), before)
     (place.folder / "journal").write_bytes(whole)
     marks = [journal.mark(number) for number in (255, 256, 257)]
@@ -364,9 +365,11 @@ def outboxes(checks: Checks, room: Path):
             answer(1) + answer(7, 1, 1) + answer(1, 2),
         )
         checks.equal(
-            "a full device: the notes", it.end(), Ran(b"", line(0, 3) + b"fault 31\nunsent B K1\nopen B K2 1\n", 1)
+            "a full device: the notes",
+            it.end(),
+            Ran(b"", line(0, 3) + fault_line(31) + b"unsent B K1\nopen B K2 1\n", 1),
         )
-    checks.equal("a full device, first letters", place.run(outbox="/dev/full"), Ran(b"", b"fault 31\n", 1))
+    checks.equal("a full device, first letters", place.run(outbox="/dev/full"), Ran(b"", fault_line(31), 1))
     (room / "some.outbox").write_bytes(b"EHLO mx.example.net\r\nMAIL FR")
     checks.equal(
         "an outbox that has something",

@@ -4,6 +4,7 @@ which logs are open."""
 from itertools import chain
 
 from tests.support.daemon_and_clients import flush, frames
+from tests.support.faults import fault_line
 from tests.support.running import HOST, Checks, batch, empty_outbox
 
 LOGS, ENTRIES, FRAMES = 4096, 1000, 1_000_000
@@ -65,11 +66,11 @@ def requests(checks: Checks):
     checks.true(f"{FRAMES:,} frames: notes", ran.notes == wanted)
     checks.equal("status", ran.status, 0)
     ran = batch(given + discards[FRAMES])
-    checks.true(f"{FRAMES + 1:,} frames: notes", ran.notes == wanted + b"fault 47\n")
+    checks.true(f"{FRAMES + 1:,} frames: notes", ran.notes == wanted + fault_line(47))
     checks.equal("status", ran.status, 1)
     checks.equal("outbox", ran.outbox, empty_outbox())
     ran = batch(given + b"\0\0\0")
-    checks.true(f"{FRAMES:,} frames and a part of one: notes", ran.notes == wanted + b"fault 13\n")
+    checks.true(f"{FRAMES:,} frames and a part of one: notes", ran.notes == wanted + fault_line(13))
     checks.equal("status", ran.status, 1)
 
 

@@ -5,9 +5,10 @@ import time
 
 from tests.support.daemon_and_clients import OUTBOX, Daemon, answer, append, asked, flush, is_ended, line
 from tests.support.running import HOST, Checks, example_module, run
+from tests.support.faults import fault_line
 
 LOG = ("--log",)
-FULL = b"fault 31: No space left on device (os error 28)\n"
+FULL = fault_line(31, "No space left on device (os error 28)")
 
 frames = example_module("frames")
 
@@ -116,7 +117,7 @@ def full_outbox(checks: Checks):
         checks.equal(
             "the notes tell it too",
             (ended.notes, ended.status),
-            (begun + FULL + line(0, 4) + b"fault 31\nunsent B Q1\nunsent B K2\n", 1),
+            (begun + FULL + line(0, 4) + fault_line(31) + b"unsent B Q1\nunsent B K2\n", 1),
         )
 
 
@@ -129,7 +130,9 @@ def ends_on_a_fault(checks: Checks):
             checks.true("a silent one too", is_ended(silent))
         ended = daemon.end()
         checks.true("the end is told", b"\nending: the outbox could not be written\n" in ended.notes)
-        checks.true("what is unsent is named", ended.notes.endswith(b"fault 31\nunsent B Q1\n") and ended.status == 1)
+        checks.true(
+            "what is unsent is named", ended.notes.endswith(fault_line(31) + b"unsent B Q1\n") and ended.status == 1
+        )
         checks.true("the socket's file stays", os.path.exists(daemon.path))
     with Daemon(1, 1, options=("--end-on-fault",)) as daemon:
         daemon.send()

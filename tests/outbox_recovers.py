@@ -7,6 +7,7 @@ import os
 import subprocess
 
 from tests.support.daemon_and_clients import Daemon, answer, append, asked, flush, line
+from tests.support.faults import fault_line
 from tests.support.running import HOST, LIMIT, Checks, program
 
 ON_THE_WAY = 18  # letters that a daemon may not have tried to write though their flushes are answered
@@ -54,7 +55,7 @@ def check_batch(checks: Checks, what: str, header: bytes):
     with os.fdopen(reading, "rb") as outbox:
         checks.equal(f"{what}: the outbox after its failure", outbox.read(), b"")
     answers = b"0 logged 0\n1 sealed 1\n2 logged 0\n3 sealed 1\n4 logged 0\n5 sealed 1\n"
-    checks.equal(f"{what}: notes", notes, answers + b"fault 31\nunsent B K1\nunsent B K2\nunsent B K3\n")
+    checks.equal(f"{what}: notes", notes, answers + fault_line(31) + b"unsent B K1\nunsent B K2\nunsent B K3\n")
     checks.equal(f"{what}: status", ran.wait(timeout=LIMIT), 1)
 
 
@@ -77,7 +78,7 @@ def check_daemon(checks: Checks, what: str, header: bytes):
     with os.fdopen(reading, "rb") as outbox:
         checks.equal(f"{what}: the outbox after its failure", outbox.read(), b"")
     unsent = b"".join(b"unsent B K%d\n" % at for at in range(before + after))
-    checks.equal(f"{what}: notes", ended.notes, line(0, 2 * (before + after)) + b"fault 31\n" + unsent)
+    checks.equal(f"{what}: notes", ended.notes, line(0, 2 * (before + after)) + fault_line(31) + unsent)
     checks.equal(f"{what}: status", ended.status, 1)
 
 

@@ -18,6 +18,7 @@ from tests.support.daemon_and_clients import (
     socket_fault,
 )
 from tests.support.preloading import built, each_refused
+from tests.support.faults import fault_line
 from tests.support.running import Checks, Ran, run
 
 MOST = 500  # growths of a run; more than this and the sweep is broken
@@ -69,7 +70,7 @@ class Answering:
 
 def fault(number: int, lines: bytes = b"") -> Ran:
     """A run that ended with a fault, after these lines."""
-    return Ran(lines, b"fault %d\n" % number, 1)
+    return Ran(lines, fault_line(number), 1)
 
 
 def answers(checks: Checks):

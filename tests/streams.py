@@ -3,6 +3,7 @@ import os
 import subprocess
 import time
 
+from tests.support.faults import fault_line
 from tests.support.running import EXAMPLES, HOST, LIMIT, Checks, Ran, batch, empty_outbox, program
 
 PAUSE = 0.0005  # seconds between two pieces, so that the program reads them one by one
@@ -43,7 +44,7 @@ def check_pieces(checks: Checks):
 
 def check_cuts(checks: Checks, given: bytes, whole: bytes):
     """The first n bytes of one append (52 bytes) and one flush (56 bytes), for each n."""
-    logged, is_open, cut = b"0 logged 0\n", b"open B A1B2C3 1\n", b"fault 13\n"
+    logged, is_open, cut = b"0 logged 0\n", b"open B A1B2C3 1\n", fault_line(13)
     for n in range(len(given) + 1):
         if n == 0:
             wanted = Ran(empty_outbox(), b"", 0)
@@ -63,12 +64,12 @@ def check_lengths(checks: Checks, given: bytes):
     largest = bytes.fromhex("00010000") + bytes(65536)
     checks.equal("a body of 65,536 zero bytes", batch(largest), Ran(empty_outbox(), b"0 refused 21\n", 0))
     checks.equal("the same twice", batch(largest * 2), Ran(empty_outbox(), b"0 refused 21\n1 refused 21\n", 0))
-    checks.equal("the same cut by a byte", batch(largest[:-1]), Ran(empty_outbox(), b"fault 13\n", 1))
+    checks.equal("the same cut by a byte", batch(largest[:-1]), Ran(empty_outbox(), fault_line(13), 1))
     checks.equal("a body of one byte", batch(bytes.fromhex("0000000101")), Ran(empty_outbox(), b"0 refused 23\n", 0))
     longer = bytes.fromhex("00000031") + given[4:52] + b"\0"
     checks.equal("a byte after the body", batch(longer), Ran(empty_outbox(), b"0 refused 24\n", 0))
     for length, fault in (("00000000", 12), ("00010001", 11), ("7fffffff", 11), ("80000000", 11), ("ffffffff", 11)):
-        wanted = Ran(empty_outbox(), b"fault %d\n" % fault, 1)
+        wanted = Ran(empty_outbox(), fault_line(fault), 1)
         checks.equal(f"length {length}, bytes after it", batch(bytes.fromhex(length) + given), wanted)
 
 
@@ -76,7 +77,7 @@ def check_broken_input(checks: Checks):
     """A folder can be opened for reading, but no read of it succeeds."""
     folder = os.open("/", os.O_RDONLY)
     try:
-        checks.equal("input that can't be read", batch(stdin=folder), Ran(empty_outbox(), b"fault 14\n", 1))
+        checks.equal("input that can't be read", batch(stdin=folder), Ran(empty_outbox(), fault_line(14), 1))
     finally:
         os.close(folder)
 
@@ -87,10 +88,10 @@ def check_broken_outbox(checks: Checks, given: bytes):
     for what, opened in (("closed", closed_pipe), ("full", lambda: os.open("/dev/full", os.O_WRONLY))):
         outbox = opened()
         try:
-            unsent = Ran(b"", answers + b"fault 31\nunsent B A1B2C3\n", 1)
+            unsent = Ran(b"", answers + fault_line(31) + b"unsent B A1B2C3\n", 1)
             checks.equal(f"{what} standard output", batch(given, stdout=outbox), unsent)
-            checks.equal(f"{what} standard output, no input", batch(stdout=outbox), Ran(b"", b"fault 31\n", 1))
-            both = Ran(b"", b"fault 12\nfault 31\n", 1)
+            checks.equal(f"{what} standard output, no input", batch(stdout=outbox), Ran(b"", fault_line(31), 1))
+            both = Ran(b"", fault_line(12) + fault_line(31), 1)
             checks.equal(f"{what} standard output, bad length", batch(bytes(4), stdout=outbox), both)
         finally:
             os.close(outbox)

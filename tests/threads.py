@@ -11,6 +11,7 @@ from typing import Optional
 
 from tests.support.daemon_and_clients import Daemon, answer, append, asked
 from tests.support.preloading import built, compare_ends, each_refused, preloading
+from tests.support.faults import fault_line
 from tests.support.running import EXAMPLES, HOST, ROOT, Checks, Ran, empty_outbox
 
 PROBE = os.environ.get("PROBE") or str(ROOT / "crates/probe/out/probe")
@@ -97,7 +98,7 @@ def logged(checks: Checks, library: Path):
                 for _ in range(2):
                     with daemon.connect() as client:
                         checks.equal(f"{about}: an answer", len(asked(client, append(0))), len(answer(0)))
-                checks.equal(f"{about}: the end", daemon.end(), Ran(empty_outbox(), said + b"fault 42\n", 1))
+                checks.equal(f"{about}: the end", daemon.end(), Ran(empty_outbox(), said + fault_line(42), 1))
 
 
 def main():

@@ -9,6 +9,7 @@ import tempfile
 import time
 from pathlib import Path
 
+from tests.support.faults import fault_line
 from tests.support.running import EXAMPLES, HOST, Ran, example_module, program, run
 
 PATIENCE = 60  # seconds that a daemon or a client may take for one step, on a slow and busy machine; more is a hang
@@ -62,7 +63,7 @@ def is_listened_on(path) -> bool:
 
 def socket_fault(path: str, why: str) -> bytes:
     """What standard error has where a socket can't be had: the fault, the path, and what the system said."""
-    return f"fault 61\n{path}: {why}\n".encode()
+    return fault_line(61) + f"{path}: {why}\n".encode()
 
 
 class Daemon:

@@ -14,6 +14,7 @@ import time
 from pathlib import Path
 
 from tests.support.daemon_and_clients import Daemon, flush, heard
+from tests.support.faults import fault_line
 from tests.support.formats import journal
 from tests.support.formats.bodies import APPEND, DISCARD, FLUSH, Request, decoded
 from tests.support.formats.logs import CLOSED, FORGOTTEN, NOT_CLOSED, Letter, Limits, Logs
@@ -512,7 +513,7 @@ class Load:
 
     def is_ended_by(self, ran: Ran, status: int) -> bool:
         """Whether a run was ended by this status, or by a journal that was full: counts these."""
-        is_full = ran.status == 1 and ran.notes.startswith(b"fault 45\n")
+        is_full = ran.status == 1 and ran.notes.startswith(fault_line(45))
         self.full += is_full
         return is_full or ran.status == status
 

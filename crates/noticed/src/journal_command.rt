@@ -1,5 +1,6 @@
 //! The command `journal`: prints what a journal's folder holds.
 use crate::buffer::{ROOM, let_go};
+use crate::fault_note::print_fault_line;
 use crate::journal_files::{open_as_it_is, print_journal_fault};
 use crate::start_error::StartError;
 use dsn_outcome::Plain;
@@ -36,7 +37,7 @@ pub(crate) fn run_journal(rt: &HostRuntime, folder: &str) -> Result<u8, StartErr
 /// Prints why a folder wasn't listed, with its path if the fault is about its files. Returns the
 /// status.
 fn print_listing_fault(rt: &impl Eprint, folder: &str, fault: ListingFault) -> u8 {
-    let _ = eprintln!(rt; "fault {}", fault.code());
+    print_fault_line(rt, fault.code());
     if fault != ListingFault::NotWritten {
         let _ = eprintln!(rt; "{folder}: {fault}");
     }

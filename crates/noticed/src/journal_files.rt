@@ -1,4 +1,5 @@
 //! The files of a journal's folder, and that of an outbox.
+use crate::fault_note::print_fault_line;
 use dsn_journal::{FileDisk, create_file, sync_folder};
 use dsn_text::fault_code;
 use noticed_lib::JournalFolder;
@@ -128,7 +129,7 @@ pub(crate) fn print_outbox_fault(rt: &impl Eprint, path: &str, error: &io::Error
 
 /// Prints a fault of a path.
 fn print_fault(rt: &impl Eprint, code: u32, path: &str, error: &io::Error) -> u8 {
-    let _ = eprintln!(rt; "fault {code}");
+    print_fault_line(rt, code);
     let _ = eprintln!(rt; "{path}: {error}");
     FAULT
 }

@@ -6,6 +6,7 @@ mod batch_command;
 mod buffer;
 mod command_line;
 mod fault_list;
+mod fault_note;
 mod journal_command;
 mod journal_files;
 mod outbox_writer;
@@ -25,6 +26,7 @@ use dsn_text::fault_code;
 use fault_list::fault_list;
 use journal_command::run_journal;
 use postfix_command::run_postfix;
+use fault_note::print_fault_line;
 use send_command::run_send;
 use serve_command::run_serve;
 use standard_streams::take_closed_streams;
@@ -90,7 +92,7 @@ fn print_start_error(rt: &HostRuntime, start_error: &StartError) -> u8 {
             return 2;
         }
         StartError::NoMemory => {
-            let _ = eprintln!(rt; "fault {}", fault_code::NO_MEMORY);
+            print_fault_line(rt, fault_code::NO_MEMORY);
             return 1;
         }
         StartError::NoStream(error) => {

@@ -1,6 +1,7 @@
 //! The command `postfix`.
 //! It ends only by a signal, and has nothing to finish: Postfix repeats a request that isn't
 //! answered. So it needs no `stop`, and its sockets stay.
+use crate::fault_note::print_fault_line;
 use crate::postfix_serving::PostfixServing;
 use crate::start_error::StartError;
 use dsn_postfix_queue::PostfixSetup;
@@ -31,7 +32,7 @@ pub(crate) fn run_postfix<R: Threads + Wait + Clock + Copy + Send + Sync + Drop 
     if served.is_err() {
         return Err(StartError::NoMemory);
     }
-    let _ = eprintln!(rt; "fault {}", fault_code::CREW_REFUSED);
+    print_fault_line(rt, fault_code::CREW_REFUSED);
     Ok(FAULT)
 }
 
@@ -51,7 +52,7 @@ fn listen(
 
 /// Prints why the Postfix isn't served. Returns the status.
 fn print_fault(rt: &HostRuntime, folder: &str, fault: &StartFault) -> u8 {
-    let _ = eprintln!(rt; "fault {}", fault_code::SOCKET);
+    print_fault_line(rt, fault_code::SOCKET);
     let _ = eprintln!(rt; "{folder}/{fault}");
     FAULT
 }

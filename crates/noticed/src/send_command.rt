@@ -1,6 +1,7 @@
 //! The command `send`: sends the frames of standard input to a daemon's socket, and prints its
 //! answers to standard output.
 use crate::buffer::ROOM;
+use crate::fault_note::print_fault_line;
 use crate::socket_fault::print_socket_fault;
 use crate::start_error::StartError;
 use dsn_outcome::Plain;
@@ -29,7 +30,7 @@ pub(crate) fn run_send(
     let mut lines = Plain::new(rt.stdout());
     let end = send(waiting, rt.alloc(), &mut input, &mut stream, &mut lines);
     if let Some(code) = end.fault {
-        let _ = eprintln!(rt; "fault {code}");
+        print_fault_line(rt, code);
     }
     Ok(end.status)
 }

@@ -2,6 +2,7 @@
 import struct
 from typing import Optional
 
+from tests.support.faults import fault_line
 from tests.support.running import Ran
 
 from .bodies import Refused, decoded
@@ -134,6 +135,6 @@ def batch(
             if notes.lost:
                 break
     except Fault as fault:
-        faults = [b"fault %d\n" % fault.number]
+        faults = [fault_line(fault.number)]
     notes.write(faults + open_lines(logs))
     return Ran(outbox(host, letters), b"".join(notes.lines), 1 if faults or notes.lost else 0)

@@ -2,7 +2,7 @@
 //! The kit handles no signal, and a request that stops a daemon could be asked by whoever may log
 //! an outcome. Who may remove the file owns its folder, and once it is gone no new client comes.
 use crate::daemon::watch::{TICK, Watch};
-use dsn_text::fault_code;
+use dsn_text::{fault_code, fault_words};
 use std::fs::{Files, Metadata};
 use std::io::{Eprint, ErrorKind};
 use std::net::Shutdown;
@@ -213,7 +213,8 @@ impl<R: Files + Eprint + Clock> Watch for SocketWatch<'_, R> {
 
     fn outbox_failed(&self, error: &io::Error) {
         if self.options.logs {
-            let _ = eprintln!(self.rt; "fault {}: {error}", fault_code::OUTBOX_WRITE);
+            let code = fault_code::OUTBOX_WRITE;
+            let _ = eprintln!(self.rt; "fault {code}: {}: {error}", fault_words(code));
         }
         if self.options.ends_on_fault {
             self.end("ending: the outbox could not be written");

@@ -11,7 +11,7 @@ FAULT_CODES = ROOT / "crates/dsn_text/src/fault_code.rt"
 USAGE = (
     b"usage: noticed batch HOST"
     b" | serve [[--journal FOLDER] --outbox PATH] [--idle SECONDS] [--end-on-fault] [--log] SOCKET HOST AGENTS MAX-USE"
-    b" | stop SOCKET | send SOCKET | journal FOLDER"
+    b" | stop SOCKET | send SOCKET | discard SOCKET SERVICE ID | forget SOCKET SERVICE ID | journal FOLDER"
     b" | postfix [--lifetime SECONDS] [--bounce-size-limit BYTES] [--double-bounce ADDRESS]"
     b" [--hash-queue-names NAMES]"
     b" [--hash-queue-depth DEPTH] [--inherited] QUEUE-FOLDER HOST HAND-IN\n"
@@ -125,6 +125,17 @@ WRONG = {
     "send with a word too many": ["send", SOCKET, HOST],
     "send with an empty word too many": ["send", SOCKET, ""],
     "send with a socket that is no UTF-8": ["send", b"/\xff"],
+    "discard with nothing": ["discard"],
+    "discard without a queue id": ["discard", SOCKET, "bounce"],
+    "discard with a word too many": ["discard", SOCKET, "bounce", "K1", "K2"],
+    "discard with a service in capitals": ["discard", SOCKET, "BOUNCE", "K1"],
+    "discard with a letter as service": ["discard", SOCKET, "B", "K1"],
+    "discard with an empty queue id": ["discard", SOCKET, "bounce", ""],
+    "discard with a queue id of 33 letters": ["discard", SOCKET, "bounce", "K" * 33],
+    "forget with nothing": ["forget"],
+    "forget with an unknown service": ["forget", SOCKET, "verify", "K1"],
+    "forget with a queue id with a dot": ["forget", SOCKET, "defer", "K.1"],
+    "forget with a queue id that is no UTF-8": ["forget", SOCKET, "trace", b"K\xff"],
     "journal with nothing": ["journal"],
     "journal with an empty folder": ["journal", ""],
     "journal with a word too many": ["journal", "/nonexistent", HOST],
@@ -282,6 +293,8 @@ READ = {
         b"\nUsage: noticed serve [OPTIONS] <SOCKET> <HOST> <AGENTS> <MAX-USE>\n",
     ),
     "noticed postfix --help": (["postfix", "--help"], b"Serves a Postfix", b"[default: 432000]"),
+    "noticed help discard": (["help", "discard"], b"Closes one log without a notice", b"its outcomes are lost"),
+    "noticed help forget": (["help", "forget"], b"Releases the key", b"a second notice"),
     "noticed batch --help": (["batch", "--help"], b"Answers the request frames", b"<HOST>"),
     "noticed --version": (["--version"], b"noticed ", b"."),
     "noticed help faults": (

@@ -1,6 +1,7 @@
 //! The arguments: which command they name, and what it is given.
 use crate::command_line::command_line;
 use crate::fault_list::fault_list;
+use crate::log_command::{LogArguments, LogRequest};
 use crate::postfix_serving::PostfixServing;
 use crate::postfix_values::postfix_serving;
 use crate::start_error::StartError;
@@ -44,6 +45,8 @@ pub(crate) enum Command {
         /// The path of the socket.
         socket: String,
     },
+    /// `discard SOCKET SERVICE ID` and `forget SOCKET SERVICE ID`.
+    Log(LogArguments),
     /// `journal FOLDER`.
     Journal {
         /// The folder of the journal.
@@ -116,6 +119,8 @@ fn command_given(alloc: Global, name: &str, given: &ArgMatches<'_>) -> Result<Co
         "send" => Ok(Command::Send {
             socket: socket_of(alloc, given)?,
         }),
+        "discard" => Ok(Command::Log(LogArguments::of(alloc, LogRequest::Discard, given)?)),
+        "forget" => Ok(Command::Log(LogArguments::of(alloc, LogRequest::Forget, given)?)),
         "journal" => Ok(Command::Journal {
             folder: owned(alloc, text_of(given, "FOLDER"))?,
         }),
@@ -198,7 +203,7 @@ pub(crate) fn site_of(alloc: Global, host: &str) -> Result<Site, StartError> {
 }
 
 /// The path of the socket. An empty one would be bound to a name that every account gets to.
-fn socket_of(alloc: Global, given: &ArgMatches<'_>) -> Result<String, StartError> {
+pub(crate) fn socket_of(alloc: Global, given: &ArgMatches<'_>) -> Result<String, StartError> {
     let path = text_of(given, "SOCKET");
     if path.is_empty() || path.len() > LONGEST_PATH {
         return Err(StartError::SocketPath);

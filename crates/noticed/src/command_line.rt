@@ -17,6 +17,8 @@ pub(crate) fn command_line<'a>(alloc: Global, faults: &'a str) -> Result<Command
         .subcommand(serve(alloc)?)?
         .subcommand(stop(alloc)?)?
         .subcommand(send(alloc)?)?
+        .subcommand(discard(alloc)?)?
+        .subcommand(forget(alloc)?)?
         .subcommand(journal(alloc)?)?
         .subcommand(postfix(alloc)?)?
         .subcommand(
@@ -64,6 +66,26 @@ fn send<'a>(alloc: Global) -> Result<Command<'a>, AllocError> {
     Command::new(alloc, "send")
         .about("Sends the request frames of standard input to a daemon, and prints its answers")
         .arg(socket(alloc))
+}
+
+fn discard<'a>(alloc: Global) -> Result<Command<'a>, AllocError> {
+    Command::new(alloc, "discard")
+        .about(
+            "Closes one log without a notice: its outcomes are lost, and no sender hears of them",
+        )
+        .arg(socket(alloc))?
+        .arg(service(alloc))?
+        .arg(queue_id(alloc))
+}
+
+fn forget<'a>(alloc: Global) -> Result<Command<'a>, AllocError> {
+    Command::new(alloc, "forget")
+        .about(
+            "Releases the key of a closed log: a late request about it begins a new log, and its sender may get a second notice",
+        )
+        .arg(socket(alloc))?
+        .arg(service(alloc))?
+        .arg(queue_id(alloc))
 }
 
 fn journal<'a>(alloc: Global) -> Result<Command<'a>, AllocError> {
@@ -117,6 +139,16 @@ fn socket<'a>(alloc: Global) -> Arg<'a> {
     argument(alloc, "SOCKET")
         .value_parser(ValueParser::String)
         .help("The path of the daemon's socket")
+}
+
+/// The argument SERVICE.
+fn service<'a>(alloc: Global) -> Arg<'a> {
+    argument(alloc, "SERVICE").help("The log's service: bounce, defer or trace")
+}
+
+/// The argument ID.
+fn queue_id<'a>(alloc: Global) -> Arg<'a> {
+    argument(alloc, "ID").help("The log's queue id")
 }
 
 /// An argument that has to be there.

@@ -10,6 +10,7 @@ mod fault_note;
 mod journal_command;
 mod journal_files;
 mod outbox_writer;
+mod log_command;
 mod postfix_command;
 mod postfix_serving;
 mod postfix_values;
@@ -27,6 +28,7 @@ use fault_list::fault_list;
 use journal_command::run_journal;
 use postfix_command::run_postfix;
 use fault_note::print_fault_line;
+use log_command::run_log_request;
 use send_command::run_send;
 use serve_command::run_serve;
 use standard_streams::take_closed_streams;
@@ -36,7 +38,7 @@ use stop_command::run_stop;
 
 /// The line that wrong arguments print on standard error.
 const USAGE: &str =
-    "usage: noticed batch HOST | serve [[--journal FOLDER] --outbox PATH] [--idle SECONDS] [--end-on-fault] [--log] SOCKET HOST AGENTS MAX-USE | stop SOCKET | send SOCKET | journal FOLDER | postfix [--lifetime SECONDS] [--bounce-size-limit BYTES] [--double-bounce ADDRESS] [--hash-queue-names NAMES] [--hash-queue-depth DEPTH] [--inherited] QUEUE-FOLDER HOST HAND-IN";
+    "usage: noticed batch HOST | serve [[--journal FOLDER] --outbox PATH] [--idle SECONDS] [--end-on-fault] [--log] SOCKET HOST AGENTS MAX-USE | stop SOCKET | send SOCKET | discard SOCKET SERVICE ID | forget SOCKET SERVICE ID | journal FOLDER | postfix [--lifetime SECONDS] [--bounce-size-limit BYTES] [--double-bounce ADDRESS] [--hash-queue-names NAMES] [--hash-queue-depth DEPTH] [--inherited] QUEUE-FOLDER HOST HAND-IN";
 
 fn main(rt: HostRuntime) -> ExitCode {
     let done = match begin(&rt) {
@@ -45,6 +47,7 @@ fn main(rt: HostRuntime) -> ExitCode {
         Ok(Command::Stop { socket }) => run_stop(&rt, rt.alloc(), &socket),
         Ok(Command::Send { socket }) => run_send(&rt, &rt, &socket),
         Ok(Command::Journal { folder }) => run_journal(&rt, &folder),
+        Ok(Command::Log(arguments)) => run_log_request(&rt, &rt, arguments),
         Ok(Command::Postfix(serving)) => run_postfix(&rt, &rt, serving),
         Ok(Command::Faults) => print_faults(&rt),
         Err(start_error) => Err(start_error),

@@ -8,4 +8,5 @@ mod send_frames;
 
 pub use laws::sends_are_sessions_of_a_client;
 pub use send_end::SendEnd;
-pub use send_frames::send;
+pub use send_fault::SendFault;
+pub use send_frames::{send, send_request};

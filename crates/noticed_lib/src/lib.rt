@@ -8,11 +8,12 @@ mod client;
 mod daemon;
 
 pub use batch_run::{BatchEnd, MemoryRun, batch, batch_bytes};
-pub use client::{SendEnd, send, sends_are_sessions_of_a_client};
+pub use client::{SendEnd, SendFault, send, send_request, sends_are_sessions_of_a_client};
 pub use daemon::{
     JournalFolder, JournaledEnd, ServeEnd, Serving, SocketWatch, Watch, WatchOptions,
     WatchedOutbox, serve, serve_journaled, serve_watched,
 };
 pub use dsn_book::Limits;
+pub use dsn_frame::Spoken;
 pub use dsn_listing::{ListingFault, list_journal};
 pub use dsn_report::Site;

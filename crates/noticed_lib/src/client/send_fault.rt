@@ -8,8 +8,8 @@ use thiserror::Error;
 
 /// Why a send ended before its input was answered to its end.
 #[derive(Clone, Copy, Debug, PartialEq, Eq, Error)]
-pub(crate) enum SendFault {
-    /// The next frame of the input could not be read.
+pub enum SendFault {
+    /// The next frame of the input could not be read, or there was no memory to write it.
     #[error("no frame could be read: {0}")]
     Input(FrameFault),
     /// The input has one frame more than may be sent.
@@ -37,7 +37,7 @@ pub(crate) enum SendFault {
 
 impl SendFault {
     /// The number of the fault: that of the fault inside, 33, 35, 46, 47 or 48.
-    pub(crate) fn code(&self) -> u32
+    pub fn code(&self) -> u32
         ensures { result ≡ send_fault_code self.now }
     {
         match self {

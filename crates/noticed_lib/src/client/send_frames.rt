@@ -1,6 +1,9 @@
 //! The client's loop: a frame is sent, its answer is read, and its line is written, before the next
 //! frame is read.
-ghost use Rattle.std.specs.Prelude.{◌≡◌, ◌<◌, Ok, Err};
+ghost use Rattle.std.specs.Prelude.{◌≡◌, ◌≢◌, ◌<◌, ℕ, List, Ok, Err};
+ghost use Rattle.dsn_frame.specs.bodies.FrameBody.{frame};
+ghost use Rattle.dsn_frame.specs.bodies.Request.{request_body};
+ghost use Rattle.dsn_outcome.specs.Body.{body_lent};
 ghost use Rattle.std.specs.Result.{result_err};
 ghost use Rattle.noticed_lib.specs.client.Ask.{IsAsked};
 ghost use Rattle.dsn_device.specs.Counts.{Counts};
@@ -10,8 +13,9 @@ ghost use Rattle.noticed_lib.specs.client.SendFault.{is_connection_failed};
 use crate::client::send_end::SendEnd;
 use crate::client::send_fault::SendFault;
 use dsn_device::{Drain, Source, Stream};
-use dsn_frame::{FrameBuffer, FrameRef, Spoken, decode_answer};
+use dsn_frame::{FrameBuffer, FrameFault, FrameRef, Spoken, decode_answer, encode_lent};
 use dsn_notes::answer_line;
+use dsn_outcome::BodyRef;
 use std::alloc::Global;
 use std::sync::Wait;
 
@@ -83,6 +87,29 @@ fn hand_over<R: Source, S: Stream, N: Drain>(
     }
 }
 
+/// Sends one request as the first frame of a connection, and returns its answer.
+///
+/// Returns `Input(NoMemory)`, with nothing sent, if there is no memory for the frame. Returns the
+/// other faults of [`send`] for its frame and its answer.
+pub fn send_request<S: Stream>(
+    _rt: &impl Wait,
+    alloc: Global,
+    stream: &mut S,
+    request: BodyRef<'_>,
+) -> Result<Spoken, SendFault>
+    ensures asked { result ≢ Err (SendFault.Input FrameFault.NoMemory)
+        → IsAsked 0 (request_body 0 (body_lent request.entry)) (S.contents stream.old)
+        (S.contents stream.new) (S.remaining stream.old) (S.remaining stream.new) result }
+    ensures unsent { result ≡ Err (SendFault.Input FrameFault.NoMemory) → stream.new ≡ stream.old }
+    ensures counts { Counts (S.Source.failures) (S.Source.flushes) (S.Source.steady)
+        (is_connection_failed (result_err result)) stream.old stream.new }
+{
+    let Ok(frame) = encode_lent(alloc, 0, request) else {
+        return Err(SendFault::Input(FrameFault::NoMemory));
+    };
+    ask_bytes(&mut FrameBuffer::new(alloc), stream, 0, &frame)
+}
+
 /// Sends the frame at this position, and reads its answer into a buffer for answers.
 fn ask<S: Stream>(
     answers: &mut FrameBuffer,
@@ -95,7 +122,23 @@ fn ask<S: Stream>(
     ensures counts { Counts (S.Source.failures) (S.Source.flushes) (S.Source.steady)
         (is_connection_failed (result_err result)) stream.old stream.new }
 {
-    if dsn_device::send(stream, frame.bytes()).is_err() {
+    ask_bytes(answers, stream, position, frame.bytes())
+}
+
+/// The same of the bytes of a frame.
+fn ask_bytes<S: Stream>(
+    answers: &mut FrameBuffer,
+    stream: &mut S,
+    position: u32,
+    bytes: &[u8],
+) -> Result<Spoken, SendFault>
+    ensures asked { (body : List ℕ) → bytes.now ≡ frame body
+        → IsAsked position body (S.contents stream.old) (S.contents stream.new)
+        (S.remaining stream.old) (S.remaining stream.new) result }
+    ensures counts { Counts (S.Source.failures) (S.Source.flushes) (S.Source.steady)
+        (is_connection_failed (result_err result)) stream.old stream.new }
+{
+    if dsn_device::send(stream, bytes).is_err() {
         return Err(SendFault::NotSent);
     }
     if let Err(fault) = answers.read_next(stream) {

@@ -1,7 +1,7 @@
 """Runs `noticed journal` on folders that daemons left, after a kill and after an end in order, and on random ones: it
 prints what a plain reading of docs/FORMATS.md has of them, and no byte, name, mode or time of a folder is changed.
-Where a daemon has the folder, a file isn't there or is none of a journal, a line can't be written, or memory is
-refused, it has its number and status. It lists the backups of a folder on which a daemon is at work, too."""
+Where a file isn't there or is none of a journal, a line can't be written, or memory is
+refused, it has its number and status. It lists a folder on which a daemon is at work, and its backups, too."""
 import os
 import random
 import subprocess
@@ -24,6 +24,7 @@ from tests.support.system import deploy_block
 SIZE, MARKS = 16_384, 4_096  # bytes of a journal and of marks here
 FOLDERS = 60  # random ones
 CLIENTS, BACKUPS, ROOMY = 4, 20, 8 << 20  # and bytes of a journal that doesn't get full while it is copied
+LISTINGS, SMALL = 20, 1 << 18  # and bytes of a journal that is made shorter again and again
 MOST = 500  # growths of a listing; more than this and the sweep is broken
 
 
@@ -89,8 +90,8 @@ def has_mark(folder: Path, mark: int) -> bool:
 
 
 def killed(checks: Checks, room: Path):
-    """A daemon is killed once it has sealed and posted K1, discarded K3, and logged two outcomes of K2. While it is
-    there the folder is its own. The next daemon goes on from what was listed."""
+    """A daemon is killed once it has sealed and posted K1, discarded K3, and logged two outcomes of K2. Its
+    folder is listed while it is there, and after. The next daemon goes on from what was listed."""
     folder = made(room, "killed")
     with daemon(folder, room / "killed.outbox", 2) as it:
         with it.connect() as client:
@@ -103,10 +104,10 @@ def killed(checks: Checks, room: Path):
                 answer(1) + answer(7, 1, 1) + answer(1, 2) + answer(1, 3, 1) + answer(8, 4),
             )
         checks.true("its notice is marked", until(lambda: has_mark(folder, 1)))
-        check_fault(checks, "a folder that a daemon has", folder, 72, "operation would block")
+        lines = b"open B K2 2\nclosed B K1\nclosed B K3\nmarked 1\nsealed 1\nbytes %d %d\n" % (used(folder), SIZE)
+        check_told(checks, "a folder that a daemon has", folder, lines)
         it.running.kill()
         it.end()
-    lines = b"open B K2 2\nclosed B K1\nclosed B K3\nmarked 1\nsealed 1\nbytes %d %d\n" % (used(folder), SIZE)
     check_told(checks, "after a kill", folder, lines)
     check_told(checks, "and once more", folder, lines)
     with daemon(folder, room / "killed.outbox.2") as it:
@@ -176,6 +177,29 @@ def backed_up(checks: Checks, room: Path):
         checks.equal("a daemon that is copied ends in order", it.end().status, 0)
     checks.equal("each backup can be opened", ends, [(0, b"")] * BACKUPS)
     checks.true(f"while notices were sealed: {sealed}", sealed == sorted(sealed) and sealed[0] < sealed[-1])
+
+
+def beside(checks: Checks, room: Path, about: str, size: int):
+    """The folder of a daemon that is at work is listed again and again, and the daemon isn't held up."""
+    folder, outbox = made(room, about.replace(" ", "-"), size), room / f"{size}.outbox"
+    with Daemon(CLIENTS, 1, options=("--journal", folder, "--outbox", outbox)) as it:
+        it.listens()
+        over = threading.Event()
+        busy = [threading.Thread(target=keep_busy, args=(it, place, over)) for place in range(CLIENTS)]
+        for thread in busy:
+            thread.start()
+        listings = [run(["journal", str(folder)]) for _ in range(LISTINGS)]
+        over.set()
+        for thread in busy:
+            thread.join()
+        checks.equal(f"{about}: the daemon ends in order", it.end().status, 0)
+    checks.equal(f"{about}: each is listed", [(ran.notes, ran.status) for ran in listings], [(b"", 0)] * LISTINGS)
+    counts = [dict(it.split()[:2] for it in ran.outbox.splitlines()[-3:]) for ran in listings]
+    sealed, marked = ([int(it.get(word, -1)) for it in counts] for word in (b"sealed", b"marked"))
+    checks.true(f"{about}: while notices were sealed: {sealed}", sealed == sorted(sealed) and sealed[0] < sealed[-1])
+    checks.true(f"{about}: and marked: {marked}", marked == sorted(marked) and 0 <= marked[0])
+    made_by_then = outbox.read_bytes().count(b"\nMessage-ID: <")
+    print(f"  {about}: {LISTINGS} listings while {made_by_then} notices were made")
 
 
 def random_folder(dice: random.Random, folder: Path):
@@ -330,6 +354,8 @@ def main():
         room = Path(name)
         for check in (killed, unposted, backed_up, folders, files, lost_lines):
             check(checks, room)
+        beside(checks, room, "a roomy journal", ROOMY)
+        beside(checks, room, "a journal that is made shorter", SMALL)
         random_folders(checks, room, seed)
         without_memory(checks, room, built(room, "refuse"))
     checks.done()

@@ -10,5 +10,6 @@ mod listing_fault;
 mod listing_lines;
 mod listing_texts;
 
+pub use copied_disk::CopiedDisk;
 pub use journal_listing::list_journal;
 pub use listing_fault::ListingFault;

@@ -33,17 +33,6 @@ pub(crate) fn open_folder<'a>(
     open_both(rt, journal.as_str(), marks.as_str())
 }
 
-/// Opens the journal and the marks of a folder as they are, for this process alone. Makes neither,
-/// and changes no byte of either.
-pub(crate) fn open_as_it_is<'a>(
-    rt: &'a HostRuntime,
-    folder: &str,
-) -> io::Result<JournalFolder<FileDisk<'a>, FileDisk<'a>>> {
-    let journal = path_in(rt, folder, "journal")?;
-    let marks = path_in(rt, folder, "marks")?;
-    open_both(rt, journal.as_str(), marks.as_str())
-}
-
 /// Opens the files of a journal and of its marks.
 fn open_both<'a>(
     rt: &'a HostRuntime,
@@ -95,7 +84,7 @@ fn not_found(words: &str) -> io::Error {
 }
 
 /// The path of the file of this name.
-fn path_in(rt: &HostRuntime, folder: &str, name: &str) -> io::Result<String> {
+pub(crate) fn path_in(rt: &HostRuntime, folder: &str, name: &str) -> io::Result<String> {
     Ok(format!(in rt.alloc(); "{folder}/{name}")?)
 }
 

@@ -8,9 +8,10 @@ mod command_line;
 mod fault_list;
 mod fault_note;
 mod journal_command;
+mod journal_copies;
 mod journal_files;
-mod outbox_writer;
 mod log_command;
+mod outbox_writer;
 mod postfix_command;
 mod postfix_serving;
 mod postfix_values;
@@ -25,10 +26,10 @@ use arguments::{Command, command_of};
 use batch_command::run_batch;
 use dsn_text::fault_code;
 use fault_list::fault_list;
-use journal_command::run_journal;
-use postfix_command::run_postfix;
 use fault_note::print_fault_line;
+use journal_command::run_journal;
 use log_command::run_log_request;
+use postfix_command::run_postfix;
 use send_command::run_send;
 use serve_command::run_serve;
 use standard_streams::take_closed_streams;
@@ -46,8 +47,8 @@ fn main(rt: HostRuntime) -> ExitCode {
         Ok(Command::Serve(arguments)) => run_serve(&rt, &rt, arguments),
         Ok(Command::Stop { socket }) => run_stop(&rt, rt.alloc(), &socket),
         Ok(Command::Send { socket }) => run_send(&rt, &rt, &socket),
-        Ok(Command::Journal { folder }) => run_journal(&rt, &folder),
         Ok(Command::Log(arguments)) => run_log_request(&rt, &rt, arguments),
+        Ok(Command::Journal { folder }) => run_journal(&rt, &folder),
         Ok(Command::Postfix(serving)) => run_postfix(&rt, &rt, serving),
         Ok(Command::Faults) => print_faults(&rt),
         Err(start_error) => Err(start_error),

@@ -1,14 +1,17 @@
 """Checks `serve --log`: a line on standard error for what happens, when it happens, before the notes; and
 `serve --end-on-fault`: a daemon whose outbox can't be written ends at once, in order. Without them neither."""
 import os
+import tempfile
 import time
 
 from tests.support.daemon_and_clients import OUTBOX, Daemon, answer, append, asked, flush, is_ended, line
-from tests.support.running import HOST, Checks, example_module, run
 from tests.support.faults import fault_line
+from tests.support.running import HOST, Checks, example_module, run
 
 LOG = ("--log",)
 FULL = fault_line(31, "No space left on device (os error 28)")
+
+CUT_OFF = b"client cut off: silent for 1 s\n"
 
 frames = example_module("frames")
 
@@ -84,6 +87,28 @@ def stops(checks: Checks):
         checks.true("the stop is told", b"\nending: the socket's file is gone\n" in told)
 
 
+def severities(checks: Checks):
+    """Each line begins with its severity where standard error is the stream that JOURNAL_STREAM names, and else none
+    does."""
+    for about, is_stream in (("the journal's stream", True), ("another stream", False)):
+        with open(os.devnull, "wb") if not is_stream else tempfile.TemporaryFile() as stream:
+            of, options = os.fstat(stream.fileno()), (*LOG, "--idle", "1", "--outbox", "/dev/full")
+            variables = {**os.environ, "JOURNAL_STREAM": f"{of.st_dev}:{of.st_ino}"}
+            streams = {"stderr": stream} if is_stream else {}
+            with Daemon(1, 10, options=options, env=variables, **streams) as daemon:
+                with daemon.connect() as client:
+                    asked(client, append(0) + flush(1), 2)
+                    checks.true(f"{about}: a silent client", is_ended(client))
+                run(["stop", daemon.path])
+                told = daemon.end().notes
+                if is_stream:
+                    stream.seek(0)
+                    told = stream.read()
+        for severity, text in ((b"<3>", FULL), (b"<4>", CUT_OFF), (b"<6>", b"ending: the socket's file is gone\n")):
+            wanted = b"\n" + (severity if is_stream else b"") + text
+            checks.true(f"{about}: {wanted} in {told}", wanted in told)
+
+
 def busy(checks: Checks):
     """That all agents have been busy for long has one line, and a client that goes away begins the time anew."""
     with Daemon(2, 10, options=LOG) as daemon:
@@ -144,7 +169,7 @@ def ends_on_a_fault(checks: Checks):
 
 def main():
     checks = Checks("log: a line for what happens, when it happens; an end at once where the outbox can't be written")
-    for check in (notices, each_notice, other_hosts, stops, busy, full_outbox, ends_on_a_fault):
+    for check in (notices, each_notice, other_hosts, stops, severities, busy, full_outbox, ends_on_a_fault):
         check(checks)
     checks.done()
 

@@ -11,6 +11,7 @@ mod serve_over_journal;
 mod serve_over_ports;
 mod serve_over_sockets;
 mod serving;
+mod severity;
 mod socket_port;
 mod socket_watch;
 mod watch;

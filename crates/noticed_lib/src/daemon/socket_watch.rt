@@ -1,14 +1,17 @@
 //! The watch of the program: over the socket's file, a limit of idle time, and a log.
 //! The kit handles no signal, and a request that stops a daemon could be asked by whoever may log
 //! an outcome. Who may remove the file owns its folder, and once it is gone no new client comes.
+use crate::daemon::severity::{Severity, is_journal_stream};
 use crate::daemon::watch::{TICK, Watch};
 use dsn_text::{fault_code, fault_words};
+use std::alloc::AllocGlobal;
 use std::fs::{Files, Metadata};
 use std::io::{Eprint, ErrorKind};
 use std::net::Shutdown;
 use std::os::fd::OwnedFd;
 use std::os::unix::fs::MetadataExt;
 use std::os::unix::net::{UnixListener, UnixStream};
+use std::rt::Env;
 use std::sync::atomic::{AtomicBool, AtomicI32, AtomicU32, AtomicU64, Ordering};
 use std::time::{Clock, Duration, Instant};
 use std::{fs, io};
@@ -42,6 +45,8 @@ pub struct SocketWatch<'a, R> {
     rt: &'a R,
     path: &'a str,
     options: WatchOptions,
+    /// Whether each line of the event log begins with its severity.
+    has_severities: bool,
     /// The device and the inode of the socket's file.
     file: (u64, u64),
     /// The listening socket once more: shut down, it wakes the agents that accept.
@@ -57,7 +62,7 @@ pub struct SocketWatch<'a, R> {
     accept_error: AtomicI32,
 }
 
-impl<'a, R: Files + Eprint + Clock> SocketWatch<'a, R> {
+impl<'a, R: Files + Eprint + Clock + Env + AllocGlobal> SocketWatch<'a, R> {
     /// The watch over the socket that was just bound to this path, whose accepts it gives a time
     /// limit. If its file is gone already the run ends at once. Returns an error if the system
     /// doesn't answer for the file, has no descriptor left, or has no clock.
@@ -78,6 +83,7 @@ impl<'a, R: Files + Eprint + Clock> SocketWatch<'a, R> {
             rt,
             path,
             options,
+            has_severities: options.logs && is_journal_stream(rt),
             file,
             listening,
             began: Instant::now(rt)?,
@@ -87,7 +93,9 @@ impl<'a, R: Files + Eprint + Clock> SocketWatch<'a, R> {
             accept_error: AtomicI32::new(0),
         })
     }
+}
 
+impl<R: Files + Eprint + Clock> SocketWatch<'_, R> {
     /// The first error of an accept, if one failed.
     pub fn accept_error(&self) -> Option<io::Error> {
         match self.accept_error.load(Ordering::SeqCst) {
@@ -114,7 +122,26 @@ impl<'a, R: Files + Eprint + Clock> SocketWatch<'a, R> {
             .all_busy_since
             .compare_exchange(since, NEVER, Ordering::SeqCst, Ordering::SeqCst);
         if logged.is_ok() {
-            self.log("all agents have been busy for 30 s: clients wait");
+            self.note(
+                Severity::Warning,
+                "all agents have been busy for 30 s: clients wait",
+            );
+        }
+    }
+
+    /// Writes a line, if lines are wanted.
+    fn note(&self, severity: Severity, line: &str) {
+        if self.options.logs {
+            let _ = eprintln!(self.rt; "{}{line}", self.prefix(severity));
+        }
+    }
+
+    /// What a line of this severity begins with.
+    fn prefix(&self, severity: Severity) -> &'static str {
+        if self.has_severities {
+            severity.prefix()
+        } else {
+            ""
         }
     }
 
@@ -168,9 +195,7 @@ impl<R: Files + Eprint + Clock> Watch for SocketWatch<'_, R> {
     }
 
     fn log(&self, line: &str) {
-        if self.options.logs {
-            let _ = eprintln!(self.rt; "{line}");
-        }
+        self.note(Severity::Info, line);
     }
 
     fn connected(&self) {
@@ -187,7 +212,10 @@ impl<R: Files + Eprint + Clock> Watch for SocketWatch<'_, R> {
     }
 
     fn start_refused(&self) {
-        self.log("a thread was refused: an agent does not serve");
+        self.note(
+            Severity::Warning,
+            "a thread was refused: an agent does not serve",
+        );
     }
 
     fn accept_failed(&self, error: &io::Error) {
@@ -196,7 +224,8 @@ impl<R: Files + Eprint + Clock> Watch for SocketWatch<'_, R> {
             .accept_error
             .compare_exchange(0, number, Ordering::SeqCst, Ordering::SeqCst);
         if self.options.logs {
-            let _ = eprintln!(self.rt; "accept failed: {error}");
+            let prefix = self.prefix(Severity::Error);
+            let _ = eprintln!(self.rt; "{prefix}accept failed: {error}");
         }
     }
 
@@ -207,14 +236,16 @@ impl<R: Files + Eprint + Clock> Watch for SocketWatch<'_, R> {
     fn client_cut_off(&self, seconds: u32, in_frame: bool) {
         if self.options.logs {
             let why = if in_frame { "no whole frame" } else { "silent" };
-            let _ = eprintln!(self.rt; "client cut off: {why} for {seconds} s");
+            let prefix = self.prefix(Severity::Warning);
+            let _ = eprintln!(self.rt; "{prefix}client cut off: {why} for {seconds} s");
         }
     }
 
     fn outbox_failed(&self, error: &io::Error) {
         if self.options.logs {
             let code = fault_code::OUTBOX_WRITE;
-            let _ = eprintln!(self.rt; "fault {code}: {}: {error}", fault_words(code));
+            let (prefix, words) = (self.prefix(Severity::Error), fault_words(code));
+            let _ = eprintln!(self.rt; "{prefix}fault {code}: {words}: {error}");
         }
         if self.options.ends_on_fault {
             self.end("ending: the outbox could not be written");

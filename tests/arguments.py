@@ -10,7 +10,7 @@ FAULT_CODES = ROOT / "crates/dsn_text/src/fault_code.rt"
 
 USAGE = (
     b"usage: noticed batch HOST"
-    b" | serve [[--journal FOLDER] --outbox PATH] [--idle SECONDS] [--end-on-fault] [--log] SOCKET HOST AGENTS MAX-USE"
+    b" | serve [--config FILE] [--inherited] [[--journal FOLDER] --outbox PATH] [--idle SECONDS] [--end-on-fault] [--log] SOCKET HOST AGENTS MAX-USE"
     b" | stop SOCKET | send SOCKET | discard SOCKET SERVICE ID | forget SOCKET SERVICE ID | journal FOLDER"
     b" | postfix [--lifetime SECONDS] [--bounce-size-limit BYTES] [--double-bounce ADDRESS]"
     b" [--hash-queue-names NAMES]"
@@ -290,7 +290,7 @@ READ = {
     "noticed help serve": (
         ["help", "serve"],
         b"Answers clients",
-        b"\nUsage: noticed serve [OPTIONS] <SOCKET> <HOST> <AGENTS> <MAX-USE>\n",
+        b"\nUsage: noticed serve [OPTIONS] [SOCKET] [HOST] [AGENTS] [MAX-USE]\n",
     ),
     "noticed postfix --help": (["postfix", "--help"], b"Serves a Postfix", b"[default: 432000]"),
     "noticed help discard": (["help", "discard"], b"Closes one log without a notice", b"its outcomes are lost"),

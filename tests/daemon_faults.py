@@ -25,7 +25,8 @@ from tests.support.faults import fault_line
 from tests.support.running import HOST, Checks, Ran, empty_outbox, run
 
 MOST = 500  # growths of a run; more than this and the sweep is broken
-IN_USE = "Address already in use (os error 98)"
+IN_USE = "another daemon has this socket"
+NO_SOCKET = "is no socket, and is left alone"
 NOT_THERE = "No such file or directory (os error 2)"
 NO_FOLDER = "Not a directory (os error 20)"
 TOO_MANY = "Too many open files (os error 24)"
@@ -46,9 +47,9 @@ def sockets(checks: Checks):
         taken.write_bytes(b"kept")
         longest = room + "/" + "s" * (107 - len(room) - 1)
         paths = {
-            "a file that exists": (str(taken), IN_USE),
+            "a file that exists": (str(taken), NO_SOCKET),
             "a folder that isn't there": (f"{room}/none/socket", NOT_THERE),
-            "a folder": (room, IN_USE),
+            "a folder": (room, NO_SOCKET),
             "a folder under a file": (f"{taken}/socket", NO_FOLDER),
         }
         for what, (path, why) in paths.items():
@@ -58,21 +59,16 @@ def sockets(checks: Checks):
             checks.equal(f"a path of {length} bytes", run(["serve", path, HOST, "2", "1"], timeout=PATIENCE), TOO_LONG)
         checks.equal("the file is as it was", taken.read_bytes(), b"kept")
         with Daemon(1, 1, longest) as daemon:
-            checks.equal("a path of 107 bytes", daemon.send(), Ran(NOTES, b"", 0))
+            daemon.listens()
             checks.equal(
                 "a second daemon on it",
                 run(["serve", longest, HOST, "1", "1"], timeout=PATIENCE),
                 unbound(longest, IN_USE),
             )
+            checks.equal("a path of 107 bytes", daemon.send(), Ran(NOTES, b"", 0))
             checks.equal("its daemon", daemon.end(), Ran(OUTBOX, line(0, 2), 0))
-        checks.equal(
-            "a daemon where one has ended",
-            run(["serve", longest, HOST, "1", "1"], timeout=PATIENCE),
-            unbound(longest, IN_USE),
-        )
-        os.unlink(longest)
         with Daemon(1, 1, longest) as daemon:
-            checks.equal("once its file is removed", daemon.send(), Ran(NOTES, b"", 0))
+            checks.equal("a daemon where one has ended", daemon.send(), Ran(NOTES, b"", 0))
 
 
 def bad_outboxes(checks: Checks):
@@ -139,14 +135,14 @@ def descriptors(count: int):
 
 
 def few_descriptors(checks: Checks):
-    """One for the socket alone, which takes two; none for a connection beside these; and one for two agents. The ports
-    that failed are told once."""
-    with Daemon(2, 1, preexec_fn=descriptors(4)) as daemon:
-        checks.equal("one for the socket", daemon.end(), unbound(daemon.path, TOO_MANY))
+    """One beside the run's file for the socket, which takes two; none for a connection beside these; and one for two
+    agents. The ports that failed are told once."""
     with Daemon(2, 1, preexec_fn=descriptors(5)) as daemon:
+        checks.equal("one for the socket", daemon.end(), unbound(daemon.path, TOO_MANY))
+    with Daemon(2, 1, preexec_fn=descriptors(6)) as daemon:
         notes = line(0, 0, 0) + line(1, 0, 0) + socket_fault(daemon.path, TOO_MANY)
         checks.equal("none for a connection", daemon.end(), Ran(empty_outbox(), notes, 1))
-    with Daemon(2, 1, options=["--log"], preexec_fn=descriptors(6)) as daemon:
+    with Daemon(2, 1, options=["--log"], preexec_fn=descriptors(7)) as daemon:
         begun = f"listening on {daemon.path} for {HOST}: 2 agents, 1 connections each\n"
         begun += f"the host's name {HOST} is one for examples\n"
         said = f"{begun}accept failed: {TOO_MANY}\n".encode()

@@ -84,7 +84,7 @@ def stops(checks: Checks):
         run(["stop", daemon.path])
         told = daemon.end().notes
         checks.true("it is told as cut off", b"\nclient cut off: silent for 1 s\n" in told)
-        checks.true("the stop is told", b"\nending: the socket's file is gone\n" in told)
+        checks.true("the stop is told", b"\nending: the run was stopped\n" in told)
 
 
 def severities(checks: Checks):

@@ -286,66 +286,56 @@ def two_stops(checks: Checks):
             checks.true(f"two stops of {agents} agents: no fault", b"fault 61" not in ended.notes)
 
 
-def sleeps(process: subprocess.Popen, sockets: int) -> bool:
-    """Whether a process waits for something, and has so many sockets."""
-    try:
-        room = Path(f"/proc/{process.pid}")
-        links = [os.readlink(it) for it in (room / "fd").iterdir()]
-        return (
-            sum(it.startswith("socket:") for it in links) == sockets
-            and (room / "stat").read_text().rpartition(")")[2].split()[0] == "S"
-        )
-    except FileNotFoundError:
-        return False
-
-
-@contextlib.contextmanager
-def held_stop(checks: Checks, path: str):
-    """A `noticed stop` that waits in its third connect: a listener of this script's own accepted the first, and has
-    room for one more. Once the listener is closed the stop goes on, and the system looks the path up anew."""
-    with socket.socket(socket.AF_UNIX) as listener:
-        listener.settimeout(PATIENCE)
-        listener.bind(path)
-        listener.listen(0)
-        with stopping(path) as stop_:
-            with listener.accept()[0]:
-                checks.true("a stop waits to connect", until(lambda: sleeps(stop_, 3)))
-                yield stop_, listener
-            if stop_.poll() is None:
-                stop_.kill()
+def is_blocked(process: subprocess.Popen) -> bool:
+    """Whether a process waits for a lock."""
+    with open("/proc/locks", encoding="ascii") as locks:
+        return any("->" in it and f" {process.pid} " in it for it in locks)
 
 
 def another_daemon(checks: Checks):
-    """Where another daemon has the path by the time that a stop gets to its removal, the stop ends well, and that
-    daemon goes on. (Before a stop looked whose file it was, it removed that daemon's.)"""
+    """A stop ends the run whose file it found, and not a later one on the same path: it waits for that run alone."""
     with tempfile.TemporaryDirectory() as room:
         path = f"{room}/socket"
-        with held_stop(checks, path) as (stop_, listener):
-            os.unlink(path)
-            with Daemon(1, 1000, path) as daemon:
-                daemon.listens()
-                its = os.stat(path).st_ino
-                listener.close()
-                checks.equal("another daemon: the stop", ran(stop_), STOPPED)
-                checks.true("another daemon: its file stays", os.path.exists(path) and os.stat(path).st_ino == its)
-                with daemon.connect() as client:
-                    checks.equal("another daemon goes on", asked(client, append(0)), answer(1))
-                checks.equal("another daemon: a stop of its own", stop(daemon), STOPPED)
-                checks.equal("another daemon: its end", daemon.end().status, 0)
+        with open(f"{path}.run", "wb") as held:
+            fcntl.flock(held, fcntl.LOCK_EX)
+            with stopping(path) as stop_:
+                checks.true("a stop waits for its run", until(lambda: is_blocked(stop_)))
+                checks.true("the run's file is gone", not os.path.exists(f"{path}.run"))
+                with Daemon(1, 1000, path) as daemon:
+                    daemon.listens()
+                    its = os.stat(path).st_ino
+                    fcntl.flock(held, fcntl.LOCK_UN)
+                    checks.equal("another daemon: the stop", ran(stop_), STOPPED)
+                    checks.equal("another daemon goes on", asked(daemon.connect(), append(0)), answer(1))
+                    checks.equal("another daemon: its socket stays", os.stat(path).st_ino, its)
 
 
-def ends_by_itself(checks: Checks):
-    """A daemon that ends while a stop connects to it is what the stop wants: with its file there, or gone. (Before, the
-    file that is gone was a fault.)"""
+def killed(checks: Checks):
+    """The socket of a run that was killed is replaced. That of a run that goes on isn't, nor one on which somebody else
+    listens, nor another file."""
     with tempfile.TemporaryDirectory() as room:
-        for gone in (False, True):
-            path = f"{room}/{gone}"
-            with held_stop(checks, path) as (stop_, listener):
-                if gone:
-                    os.unlink(path)
-                listener.close()
-                checks.equal(f"a daemon that has just ended, its file gone: {gone}", ran(stop_), STOPPED)
-            checks.true(f"the file is removed ({gone})", not os.path.exists(path))
+        path = f"{room}/socket"
+        with Daemon(1, 1000, path) as first:
+            first.listens()
+            first.running.kill()
+            first.running.wait()
+        with Daemon(1, 1000, path) as second:
+            checks.equal("after a killed run", asked(second.connect(), append(0)), answer(1))
+            taken = Ran(b"", socket_fault(path, "another daemon has this socket"), 1)
+            with Daemon(1, 1000, path) as third:
+                checks.equal("beside a daemon", third.end(), taken)
+            checks.equal("it goes on", stop(second), STOPPED)
+        with socket.socket(socket.AF_UNIX) as other:
+            other.bind(path)
+            other.listen()
+            with Daemon(1, 1000, path) as daemon:
+                checks.equal("beside another program", daemon.end().notes, socket_fault(path, "somebody listens there"))
+        os.unlink(path)
+        Path(path).write_text("mine")
+        with Daemon(1, 1000, path) as daemon:
+            wanted = Ran(b"", socket_fault(path, "is no socket, and is left alone"), 1)
+            checks.equal("a file in its place", daemon.end(), wanted)
+        checks.equal("and is left as it is", Path(path).read_text(), "mine")
 
 
 def removed_file(checks: Checks):
@@ -464,7 +454,7 @@ def main():
             not_allowed,
             no_daemon,
         ),
-        *(two_stops, another_daemon, ends_by_itself, removed_file, removed_from_idle, interrupted, interrupted_answers),
+        *(two_stops, another_daemon, killed, removed_file, removed_from_idle, interrupted, interrupted_answers),
     ):
         check(checks)
     checks.done()

@@ -4,6 +4,7 @@ use crate::fault_list::fault_list;
 use crate::log_command::{LogArguments, LogRequest};
 use crate::postfix_serving::PostfixServing;
 use crate::postfix_values::postfix_serving;
+use crate::serve_values::serve_arguments;
 use crate::start_error::StartError;
 use clap::ArgMatches;
 use dsn_report::{Site, SiteFault};
@@ -14,13 +15,13 @@ use std::io::ErrorKind;
 use std::rt::Env;
 
 /// The most agents.
-const MOST_AGENTS: u32 = 16;
+pub(crate) const MOST_AGENTS: u32 = 16;
 
 /// The most connections of an agent.
-const MOST_USE: u32 = 1_000_000;
+pub(crate) const MOST_USE: u32 = 1_000_000;
 
 /// The longest idle limit, in seconds.
-const MOST_IDLE: u32 = 86_400;
+pub(crate) const MOST_IDLE: u32 = 86_400;
 
 /// The longest path of a socket that the system takes, in bytes.
 const LONGEST_PATH: usize = 107;
@@ -90,7 +91,7 @@ pub(crate) fn command_of(rt: &HostRuntime) -> Result<Command, StartError> {
     let line = command_line(alloc, faults.as_str())?;
     let given = line.try_get_matches_from(words.as_slice())?;
     match given.subcommand() {
-        Some((name, given)) => command_given(alloc, name, given),
+        Some((name, given)) => command_given(rt, name, given),
         // The parser requires a command.
         None => Err(StartError::wrong(alloc, "COMMAND", "one of the program's", "")),
     }
@@ -107,12 +108,17 @@ fn words_of(rt: &HostRuntime) -> Result<Vec<String>, StartError> {
 }
 
 /// The command of this name, with what it is given.
-fn command_given(alloc: Global, name: &str, given: &ArgMatches<'_>) -> Result<Command, StartError> {
+fn command_given(
+    rt: &HostRuntime,
+    name: &str,
+    given: &ArgMatches<'_>,
+) -> Result<Command, StartError> {
+    let alloc = rt.alloc();
     match name {
         "batch" => Ok(Command::Batch {
             site: site_of(alloc, text_of(given, "HOST"))?,
         }),
-        "serve" => Ok(Command::Serve(serving_of(alloc, given)?)),
+        "serve" => Ok(Command::Serve(serve_arguments(rt, given)?)),
         "stop" => Ok(Command::Stop {
             socket: socket_of(alloc, given)?,
         }),
@@ -129,39 +135,6 @@ fn command_given(alloc: Global, name: &str, given: &ArgMatches<'_>) -> Result<Co
     }
 }
 
-/// What `serve` is given.
-fn serving_of(alloc: Global, given: &ArgMatches<'_>) -> Result<ServeArguments, StartError> {
-    let host = text_of(given, "HOST");
-    let agents = number_of(alloc, given, "AGENTS", MOST_AGENTS)?;
-    Ok(ServeArguments {
-        serving: Serving {
-            agents,
-            max_use: number_of(alloc, given, "MAX-USE", MOST_USE)?,
-            site: site_of(alloc, host)?,
-        },
-        socket: socket_of(alloc, given)?,
-        host: owned(alloc, host)?,
-        options: ServeOptions {
-            journal: owned_if(alloc, given.get_str("journal"))?,
-            outbox: owned_if(alloc, given.get_str("outbox"))?,
-            watch: WatchOptions {
-                idle_limit: idle_limit(alloc, given)?,
-                ends_on_fault: given.get_flag("end-on-fault"),
-                logs: given.get_flag("log"),
-                agents,
-            },
-        },
-    })
-}
-
-/// For how many seconds a client may be silent, if the option says so.
-fn idle_limit(alloc: Global, given: &ArgMatches<'_>) -> Result<Option<u32>, StartError> {
-    if !given.contains_id("idle") {
-        return Ok(None);
-    }
-    Ok(Some(number_of(alloc, given, "idle", MOST_IDLE)?))
-}
-
 /// The text of an argument; the empty text if it isn't given.
 pub(crate) fn text_of<'a>(given: &ArgMatches<'a>, name: &str) -> &'a str {
     given.get_str(name).unwrap_or("")
@@ -174,7 +147,17 @@ pub(crate) fn number_of(
     name: &str,
     most: u32,
 ) -> Result<u32, StartError> {
-    let word = text_of(given, name);
+    number_in(alloc, name, text_of(given, name), most)
+}
+
+/// The number that a word says: 1 to `most` in decimal, without leading zeros. Returns an error that
+/// has the name of the argument otherwise.
+pub(crate) fn number_in(
+    alloc: Global,
+    name: &str,
+    word: &str,
+    most: u32,
+) -> Result<u32, StartError> {
     if matches!(word.as_bytes().first(), Some(b'1'..=b'9')) {
         if let Ok(number) = word.parse::<u32>() {
             if number <= most {
@@ -202,9 +185,13 @@ pub(crate) fn site_of(alloc: Global, host: &str) -> Result<Site, StartError> {
     }
 }
 
-/// The path of the socket. An empty one would be bound to a name that every account gets to.
+/// The path of the socket.
 pub(crate) fn socket_of(alloc: Global, given: &ArgMatches<'_>) -> Result<String, StartError> {
-    let path = text_of(given, "SOCKET");
+    socket_in(alloc, text_of(given, "SOCKET"))
+}
+
+/// The path of a socket. An empty one would be bound to a name that every account gets to.
+pub(crate) fn socket_in(alloc: Global, path: &str) -> Result<String, StartError> {
     if path.is_empty() || path.len() > LONGEST_PATH {
         return Err(StartError::SocketPath);
     }
@@ -214,12 +201,4 @@ pub(crate) fn socket_of(alloc: Global, given: &ArgMatches<'_>) -> Result<String,
 /// A text of its own.
 pub(crate) fn owned(alloc: Global, text: &str) -> Result<String, StartError> {
     Ok(format!(in alloc; "{text}")?)
-}
-
-/// A text of its own, if there is one.
-fn owned_if(alloc: Global, text: Option<&str>) -> Result<Option<String>, StartError> {
-    match text {
-        Some(text) => Ok(Some(owned(alloc, text)?)),
-        None => Ok(None),
-    }
 }

@@ -39,21 +39,32 @@ fn batch<'a>(alloc: Global) -> Result<Command<'a>, AllocError> {
 fn serve<'a>(alloc: Global) -> Result<Command<'a>, AllocError> {
     Command::new(alloc, "serve")
         .about("Answers clients that connect to a Unix socket, and writes the outbox")
-        .arg(
-            option(alloc, "journal", "FOLDER")
-                .help("Keeps each request in FOLDER before it is answered")
-                .requires_arg("outbox")?,
-        )?
+        .arg(option(alloc, "config", "FILE").help(
+            "Takes what is not given here from FILE, whose lines are 'key = value'",
+        ))?
+        .arg(flag(alloc, "inherited").help("Takes over the socket that the caller listens on"))?
+        .arg(option(alloc, "journal", "FOLDER").help(
+            "Keeps each request in FOLDER before it is answered",
+        ))?
         .arg(option(alloc, "outbox", "PATH").help("Writes the outbox to PATH, synced"))?
         .arg(option(alloc, "idle", "SECONDS").help(
             "Cuts off a client that is silent, or takes for a frame, SECONDS, 1 to 86400",
         ))?
         .arg(flag(alloc, "end-on-fault").help("Ends the run once the outbox could not be written"))?
         .arg(flag(alloc, "log").help("Logs events on standard error"))?
-        .arg(socket(alloc))?
-        .arg(host(alloc))?
-        .arg(argument(alloc, "AGENTS").help("How many clients are served at once, 1 to 16"))?
-        .arg(argument(alloc, "MAX-USE").help("How many connections each agent takes, 1 to 1000000"))
+        .arg(configurable(socket(alloc))?)?
+        .arg(configurable(host(alloc))?)?
+        .arg(configurable(argument(alloc, "AGENTS").help(
+            "How many clients are served at once, 1 to 16",
+        ))?)?
+        .arg(configurable(argument(alloc, "MAX-USE").help(
+            "How many connections each agent takes, 1 to 1000000",
+        ))?)
+}
+
+/// An argument that may be in the configuration file instead.
+fn configurable<'a>(argument: Arg<'a>) -> Result<Arg<'a>, AllocError> {
+    argument.required(false).required_unless_present("config")
 }
 
 fn stop<'a>(alloc: Global) -> Result<Command<'a>, AllocError> {

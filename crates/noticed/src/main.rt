@@ -5,18 +5,23 @@ mod arguments;
 mod batch_command;
 mod buffer;
 mod command_line;
+mod config_file;
 mod fault_list;
 mod fault_note;
 mod journal_command;
 mod journal_copies;
 mod journal_files;
+mod listening;
 mod log_command;
 mod outbox_writer;
 mod postfix_command;
 mod postfix_serving;
 mod postfix_values;
+mod run_file;
 mod send_command;
 mod serve_command;
+mod serve_values;
+mod service_socket;
 mod socket_fault;
 mod standard_streams;
 mod start_error;
@@ -39,13 +44,13 @@ use stop_command::run_stop;
 
 /// The line that wrong arguments print on standard error.
 const USAGE: &str =
-    "usage: noticed batch HOST | serve [[--journal FOLDER] --outbox PATH] [--idle SECONDS] [--end-on-fault] [--log] SOCKET HOST AGENTS MAX-USE | stop SOCKET | send SOCKET | discard SOCKET SERVICE ID | forget SOCKET SERVICE ID | journal FOLDER | postfix [--lifetime SECONDS] [--bounce-size-limit BYTES] [--double-bounce ADDRESS] [--hash-queue-names NAMES] [--hash-queue-depth DEPTH] [--inherited] QUEUE-FOLDER HOST HAND-IN";
+    "usage: noticed batch HOST | serve [--config FILE] [--inherited] [[--journal FOLDER] --outbox PATH] [--idle SECONDS] [--end-on-fault] [--log] SOCKET HOST AGENTS MAX-USE | stop SOCKET | send SOCKET | discard SOCKET SERVICE ID | forget SOCKET SERVICE ID | journal FOLDER] --outbox PATH] [--idle SECONDS] [--end-on-fault] [--log] SOCKET HOST AGENTS MAX-USE | stop SOCKET | send SOCKET | journal FOLDER | postfix [--lifetime SECONDS] [--bounce-size-limit BYTES] [--double-bounce ADDRESS] [--hash-queue-names NAMES] [--hash-queue-depth DEPTH] [--inherited] QUEUE-FOLDER HOST HAND-IN";
 
 fn main(rt: HostRuntime) -> ExitCode {
     let done = match begin(&rt) {
         Ok(Command::Batch { site }) => run_batch(&rt, site),
         Ok(Command::Serve(arguments)) => run_serve(&rt, &rt, arguments),
-        Ok(Command::Stop { socket }) => run_stop(&rt, rt.alloc(), &socket),
+        Ok(Command::Stop { socket }) => run_stop(&rt, &socket),
         Ok(Command::Send { socket }) => run_send(&rt, &rt, &socket),
         Ok(Command::Log(arguments)) => run_log_request(&rt, &rt, arguments),
         Ok(Command::Journal { folder }) => run_journal(&rt, &folder),

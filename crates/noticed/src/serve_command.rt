@@ -2,14 +2,17 @@
 use crate::arguments::{ServeArguments, ServeOptions};
 use crate::buffer::{ROOM, let_go};
 use crate::journal_files::{open_folder, open_outbox, print_journal_fault, print_outbox_fault};
+use crate::listening::{check_place, inherit_socket, make_socket};
 use crate::outbox_writer::OutboxWriter;
+use crate::run_file::RunFile;
+use crate::service_socket::service_manager;
 use crate::socket_fault::{print_socket_error, print_socket_fault};
 use crate::start_error::StartError;
 use dsn_journal::FileDisk;
 use dsn_outcome::Plain;
 use noticed_lib::{
     JournalFolder, JournaledEnd, ServeEnd, Serving, SocketWatch, Watch, WatchOptions,
-    WatchedOutbox, serve_journaled, serve_watched,
+    WatchedOutbox, WatchedPaths, serve_journaled, serve_watched,
 };
 use std::io;
 use std::io::BufWriter;
@@ -18,8 +21,8 @@ use std::sync::Wait;
 use std::thread::Threads;
 use std::time::Clock;
 
-/// Runs `serve` over a socket that it makes, and returns its status. Only in `main` may the runtime
-/// start threads and wait, so `waiting` passes it again with these rights.
+/// Runs `serve` over a socket that it makes or inherits, and returns its status. Only in `main` may
+/// the runtime start threads and wait, so `waiting` passes it again with these rights.
 pub(crate) fn run_serve<R: Threads + Wait + Clock + Sync>(
     rt: &HostRuntime,
     waiting: &R,
@@ -36,6 +39,11 @@ pub(crate) fn run_serve<R: Threads + Wait + Clock + Sync>(
         outbox,
         watch: options,
     } = options;
+    // First of all: a file that is opened here could get the descriptor of one that isn't inherited.
+    let inherited = match inherited_at(&socket, options.inherits) {
+        Ok(inherited) => inherited,
+        Err(error) => return Ok(print_socket_fault(rt, &socket, &error)),
+    };
     let outbox = match outbox_at(rt, outbox) {
         Ok(outbox) => outbox,
         Err(status) => return Ok(status),
@@ -49,33 +57,66 @@ pub(crate) fn run_serve<R: Threads + Wait + Clock + Sync>(
     };
     // The journal is locked before the socket is made: so a second daemon on the same folder takes
     // no client from the first.
-    let (listener, watch) = match listen(rt, &socket, options) {
+    let run_file = match run_file_at(rt, &socket, options.inherits) {
+        Ok(file) => file,
+        Err(error) => return Ok(print_socket_fault(rt, &socket, &error)),
+    };
+    let paths = WatchedPaths {
+        socket: &socket,
+        run_file: run_file.path(),
+    };
+    let (listener, watch) = match listen(rt, inherited, paths, options) {
         Ok(listening) => listening,
         Err(error) => return Ok(print_socket_fault(rt, &socket, &error)),
     };
     print_start(rt, &watch, &socket, &host, &serving);
-    let outbox = Plain::new(WatchedOutbox::new(writer, &watch));
+    let outbox = WatchedOutbox::new(writer, &watch);
+    let status = serve_clients(rt, waiting, &listener, &watch, serving, outbox, folder);
+    if let Some(error) = watch.accept_error() {
+        print_socket_error(rt, &socket, &error);
+    }
+    Ok(status)
+}
+
+/// Serves the clients of a socket, over the disks of a journal if there are some. Returns the status.
+fn serve_clients<R: Threads + Wait + Clock + Sync>(
+    rt: &HostRuntime,
+    waiting: &R,
+    listener: &UnixListener,
+    watch: &SocketWatch<'_, HostRuntime>,
+    serving: Serving,
+    outbox: WatchedOutbox<'_, BufWriter<OutboxWriter>, SocketWatch<'_, HostRuntime>>,
+    folder: Option<JournalFolder<FileDisk<'_>, FileDisk<'_>>>,
+) -> u8 {
+    let outbox = Plain::new(outbox);
     let notes = &mut Plain::new(rt.stderr());
     let alloc = rt.alloc();
     let end = match folder {
-        None => serve_watched(waiting, alloc, &listener, &watch, serving, outbox, notes),
+        None => serve_watched(waiting, alloc, listener, watch, serving, outbox, notes),
         Some(folder) => {
             let JournaledEnd {
                 end,
                 journal: _,
                 marks: _,
             } = serve_journaled(
-                waiting, alloc, &listener, &watch, serving, outbox, folder, notes,
+                waiting, alloc, listener, watch, serving, outbox, folder, notes,
             );
             end
         }
     };
     let ServeEnd { outbox, status } = end;
     let_go(outbox.into_inner().into_inner());
-    if let Some(error) = watch.accept_error() {
-        print_socket_error(rt, &socket, &error);
+    status
+}
+
+/// The inherited socket, which has to be at this path, if one is inherited.
+fn inherited_at(path: &str, inherits: bool) -> io::Result<Option<UnixListener>> {
+    if !inherits {
+        return Ok(None);
     }
-    Ok(status)
+    // Nothing else has the descriptor: no file that the process opened so far is still open, and
+    // only this thread runs.
+    Ok(Some(unsafe { inherit_socket(path) }?))
 }
 
 /// The outbox at this path, or standard output without a path. If it can't be opened, prints why
@@ -105,16 +146,26 @@ fn folder_at<'a>(
     }
 }
 
-/// The socket at this path, and the watch over it. Returns an error if the path exists.
+/// The locked file of a run at this socket. Nothing is made beside a file that is no socket.
+fn run_file_at(rt: &HostRuntime, socket: &str, inherits: bool) -> io::Result<RunFile> {
+    if !inherits {
+        check_place(rt, socket)?;
+    }
+    RunFile::take(rt, socket)
+}
+
+/// The inherited socket, or one that is made at its path, and the watch over it.
 fn listen<'a>(
     rt: &'a HostRuntime,
-    path: &'a str,
+    inherited: Option<UnixListener>,
+    paths: WatchedPaths<'a>,
     options: WatchOptions,
 ) -> io::Result<(UnixListener, SocketWatch<'a, HostRuntime>)> {
-    // Nothing is removed at the end: only `stop`, or whoever owns the folder, removes the socket's
-    // file.
-    let listener = UnixListener::bind(rt, path)?;
-    let watch = SocketWatch::new(rt, &listener, path, options)?;
+    let listener = match inherited {
+        Some(listener) => listener,
+        None => make_socket(rt, paths.socket)?,
+    };
+    let watch = SocketWatch::new(rt, &listener, paths, options, service_manager(rt))?;
     Ok((listener, watch))
 }
 

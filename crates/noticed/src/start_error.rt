@@ -29,6 +29,30 @@ impl StartError {
             Err(_) => StartError::NoMemory,
         }
     }
+
+    /// That something is wrong for this reason.
+    pub(crate) fn reason(alloc: Global, reason: &str) -> StartError {
+        match format!(in alloc; "{reason}") {
+            Ok(line) => StartError::Wrong(line),
+            Err(_) => StartError::NoMemory,
+        }
+    }
+
+    /// That a file can't be read.
+    pub(crate) fn at_file(alloc: Global, path: &str, error: &io::Error) -> StartError {
+        match format!(in alloc; "{path}: {error}") {
+            Ok(line) => StartError::Wrong(line),
+            Err(_) => StartError::NoMemory,
+        }
+    }
+
+    /// That a line of a file is wrong for this reason.
+    pub(crate) fn at_line(alloc: Global, path: &str, line: usize, reason: &str) -> StartError {
+        match format!(in alloc; "{path}:{line}: {reason}") {
+            Ok(line) => StartError::Wrong(line),
+            Err(_) => StartError::NoMemory,
+        }
+    }
 }
 
 impl From<AllocError> for StartError {

@@ -10,8 +10,8 @@ mod daemon;
 pub use batch_run::{BatchEnd, MemoryRun, batch, batch_bytes};
 pub use client::{SendEnd, SendFault, send, send_request, sends_are_sessions_of_a_client};
 pub use daemon::{
-    JournalFolder, JournaledEnd, ServeEnd, Serving, SocketWatch, Watch, WatchOptions,
-    WatchedOutbox, serve, serve_journaled, serve_watched,
+    JournalFolder, JournaledEnd, ServeEnd, ServiceManager, Serving, SocketWatch, Watch,
+    WatchOptions, WatchedOutbox, WatchedPaths, serve, serve_journaled, serve_watched,
 };
 pub use dsn_book::Limits;
 pub use dsn_frame::Spoken;

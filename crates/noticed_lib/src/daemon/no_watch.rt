@@ -14,6 +14,10 @@ impl Watch for NoWatch {
         false
     }
 
+    fn is_inherited(&self) -> bool {
+        false
+    }
+
     fn idle_limit(&self) -> Option<u32> {
         None
     }
@@ -37,6 +41,8 @@ impl Watch for NoWatch {
     fn connected(&self) {}
 
     fn disconnected(&self) {}
+
+    fn frame_began(&self) {}
 
     fn start_refused(&self) {}
 

@@ -43,11 +43,12 @@ impl<'a, H: Watch> SocketPort<'a, H> {
     }
 
     /// What the port answers to a connection that was accepted. In a run that is ending it is let
-    /// go, and its client goes to the next daemon.
+    /// go, and its client goes to the next daemon. One of an inherited socket is served: its client
+    /// sees no difference between two runs.
     fn answer(&self, stream: UnixStream) -> Next<Plain<WatchedConnection<'a, H>>>
         ensures { given_of result ≡ done → H.may_end self.now.watch.now }
     {
-        if self.is_over() {
+        if self.is_over() && !self.watch.is_inherited() {
             self.watch.connection_refused();
             return Next::Done;
         }

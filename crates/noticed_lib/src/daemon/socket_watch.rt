@@ -1,11 +1,12 @@
-//! The watch of the program: over the socket's file, a limit of idle time, and a log.
+//! The watch of the program: over the run's files, a limit of idle time, and a log.
 //! The kit handles no signal, and a request that stops a daemon could be asked by whoever may log
-//! an outcome. Who may remove the file owns its folder, and once it is gone no new client comes.
+//! an outcome. Who may remove a file owns its folder.
+use crate::daemon::service_manager::ServiceManager;
 use crate::daemon::severity::{Severity, is_journal_stream};
 use crate::daemon::watch::{TICK, Watch};
 use dsn_text::{fault_code, fault_words};
 use std::alloc::AllocGlobal;
-use std::fs::{Files, Metadata};
+use std::fs::Files;
 use std::io::{Eprint, ErrorKind};
 use std::net::Shutdown;
 use std::os::fd::OwnedFd;
@@ -18,6 +19,10 @@ use std::{fs, io};
 
 /// After how many seconds in which all agents have connections that is logged.
 const LONG_BUSY: u64 = 30;
+
+/// After how many frames a run on an inherited socket ends. An agent that has had 1,000,000 requests
+/// refuses the next; the next run's agents don't. The rest is for the run's last ten seconds.
+const MOST_FRAMES: u64 = 900_000;
 
 /// The moment at which all agents got busy, if some aren't.
 const NEVER: u64 = u64::MAX;
@@ -36,59 +41,78 @@ pub struct WatchOptions {
     pub logs: bool,
     /// How many agents the run has.
     pub agents: u32,
+    /// Whether the run inherits the listening socket, which then outlives it.
+    pub inherits: bool,
 }
 
-/// A watch over the socket's file: once it is gone, or another has its path, the run is to end.
-/// So whoever may remove the file may end the run, and [`noticed stop`] does so.
+/// The paths of the files by which a run is ended.
+#[derive(Clone, Copy)]
+pub struct WatchedPaths<'a> {
+    /// The path of the socket.
+    pub socket: &'a str,
+    /// The path of the file that the run keeps locked.
+    pub run_file: &'a str,
+}
+
+/// A watch over the run's own file: once it is gone, or another has its path, the run is to end.
+/// So whoever may remove the file may end the run, and `noticed stop` does so. A socket that the
+/// run made is watched in the same way; an inherited one is not.
 #[derive(Drop)]
 pub struct SocketWatch<'a, R> {
     rt: &'a R,
-    path: &'a str,
+    paths: WatchedPaths<'a>,
     options: WatchOptions,
     /// Whether each line of the event log begins with its severity.
     has_severities: bool,
     /// The device and the inode of the socket's file.
-    file: (u64, u64),
+    socket_file: (u64, u64),
+    /// The device and the inode of the run's file.
+    run_file: (u64, u64),
     /// The listening socket once more: shut down, it wakes the agents that accept.
     listening: UnixStream,
+    /// The service manager, if one wants to be notified.
+    manager: Option<ServiceManager>,
     /// When the watch was made.
     began: Instant,
     /// How many agents have a connection.
     busy: AtomicU32,
     /// After how many seconds all of them got one; [`NEVER`] if some have none, or once it is logged.
     all_busy_since: AtomicU64,
+    /// How many frames have begun.
+    frames: AtomicU64,
     ending: AtomicBool,
     /// The system's number of the first error of an accept; 0 for none.
     accept_error: AtomicI32,
 }
 
 impl<'a, R: Files + Eprint + Clock + Env + AllocGlobal> SocketWatch<'a, R> {
-    /// The watch over the socket that was just bound to this path, whose accepts it gives a time
-    /// limit. If its file is gone already the run ends at once. Returns an error if the system
-    /// doesn't answer for the file, has no descriptor left, or has no clock.
+    /// The watch over the socket and the run's file at these paths; it gives the socket's accepts a
+    /// time limit. If a file is gone already the run ends at once. Returns an error if the system
+    /// doesn't answer for a file, has no descriptor left, or has no clock.
     pub fn new(
         rt: &'a R,
         listener: &UnixListener,
-        path: &'a str,
+        paths: WatchedPaths<'a>,
         options: WatchOptions,
+        manager: Option<ServiceManager>,
     ) -> io::Result<SocketWatch<'a, R>> {
-        let file = match fs::symlink_metadata(rt, path) {
-            Ok(file) => identity(&file),
-            Err(error) if error.kind() == ErrorKind::NotFound => NO_FILE,
-            Err(error) => return Err(error),
-        };
+        let socket_file = identity_at(rt, paths.socket)?;
+        let run_file = identity_at(rt, paths.run_file)?;
         let listening = UnixStream::from(OwnedFd::from(listener.try_clone()?));
         listening.set_read_timeout(Some(Duration::from_secs(TICK)))?;
         Ok(SocketWatch {
             rt,
-            path,
+            paths,
             options,
             has_severities: options.logs && is_journal_stream(rt),
-            file,
+            socket_file,
+            run_file,
             listening,
+            manager,
             began: Instant::now(rt)?,
             busy: AtomicU32::new(0),
             all_busy_since: AtomicU64::new(NEVER),
+            frames: AtomicU64::new(0),
             ending: AtomicBool::new(false),
             accept_error: AtomicI32::new(0),
         })
@@ -104,11 +128,29 @@ impl<R: Files + Eprint + Clock> SocketWatch<'_, R> {
         }
     }
 
-    /// Whether the path is that of the socket's file.
-    fn has_its_file(&self) -> bool {
-        match fs::symlink_metadata(self.rt, self.path) {
-            Ok(file) => identity(&file) == self.file,
-            Err(error) => error.kind() != ErrorKind::NotFound,
+    /// Whether a path is that of the file with this device and inode.
+    fn has_file(&self, path: &str, file: (u64, u64)) -> bool {
+        match identity_at(self.rt, path) {
+            Ok(found) => found != NO_FILE && found == file,
+            Err(_) => true,
+        }
+    }
+
+    /// Whether the socket's path is that of its file.
+    fn has_its_socket(&self) -> bool {
+        self.has_file(self.paths.socket, self.socket_file)
+    }
+
+    /// Ends the run if one of its files is gone.
+    fn look_at_files(&self) {
+        if !self.has_file(self.paths.run_file, self.run_file) {
+            // A client that comes now is refused at once, and not at the end of the run.
+            if !self.options.inherits && self.has_its_socket() {
+                let _ = fs::remove_file(self.rt, self.paths.socket);
+            }
+            self.end("ending: the run was stopped");
+        } else if !self.options.inherits && !self.has_its_socket() {
+            self.end("ending: the socket's file is gone");
         }
     }
 
@@ -151,13 +193,23 @@ impl<R: Files + Eprint + Clock> SocketWatch<'_, R> {
             return;
         }
         self.log(why);
-        let _ = self.listening.shutdown(Shutdown::Both);
+        if let Some(manager) = &self.manager {
+            manager.report_end();
+        }
+        // An inherited socket would stay shut down for the next run: its agents look up each second.
+        if !self.options.inherits {
+            let _ = self.listening.shutdown(Shutdown::Both);
+        }
     }
 }
 
-/// The device and the inode of a file.
-fn identity(file: &Metadata) -> (u64, u64) {
-    (file.dev(), file.ino())
+/// The device and the inode of the file at this path; those of no file if there is none.
+fn identity_at<R: Files>(rt: &R, path: &str) -> io::Result<(u64, u64)> {
+    match fs::symlink_metadata(rt, path) {
+        Ok(file) => Ok((file.dev(), file.ino())),
+        Err(error) if error.kind() == ErrorKind::NotFound => Ok(NO_FILE),
+        Err(error) => Err(error),
+    }
 }
 
 impl<R: Files + Eprint + Clock> Watch for SocketWatch<'_, R> {
@@ -165,6 +217,10 @@ impl<R: Files + Eprint + Clock> Watch for SocketWatch<'_, R> {
 
     fn looks_up(&self) -> bool {
         true
+    }
+
+    fn is_inherited(&self) -> bool {
+        self.options.inherits
     }
 
     fn idle_limit(&self) -> Option<u32> {
@@ -180,8 +236,11 @@ impl<R: Files + Eprint + Clock> Watch for SocketWatch<'_, R> {
     }
 
     fn look(&self) {
-        if !self.is_ending() && !self.has_its_file() {
-            self.end("ending: the socket's file is gone");
+        if !self.is_ending() {
+            self.look_at_files();
+        }
+        if let Some(manager) = &self.manager {
+            manager.report_work(self.elapsed());
         }
         self.look_at_agents();
     }
@@ -209,6 +268,13 @@ impl<R: Files + Eprint + Clock> Watch for SocketWatch<'_, R> {
     fn disconnected(&self) {
         self.busy.fetch_sub(1, Ordering::SeqCst);
         self.all_busy_since.store(NEVER, Ordering::SeqCst);
+    }
+
+    fn frame_began(&self) {
+        let before = self.frames.fetch_add(1, Ordering::SeqCst);
+        if self.options.inherits && before.saturating_add(1) == MOST_FRAMES {
+            self.end("ending: the run has had 900000 requests");
+        }
     }
 
     fn start_refused(&self) {

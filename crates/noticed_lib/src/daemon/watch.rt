@@ -18,6 +18,10 @@ pub trait Watch {
     /// as its client takes.
     fn looks_up(&self) -> bool;
 
+    /// Whether the listening socket is the next run's too. Then it is never shut down, and a client
+    /// that was accepted is served until it pauses, also in a run that is ending.
+    fn is_inherited(&self) -> bool;
+
     /// How many seconds a client may be silent, and may take for one frame, if there is a limit.
     fn idle_limit(&self) -> Option<u32>;
 
@@ -43,6 +47,9 @@ pub trait Watch {
 
     /// Reports that the connection of an agent has ended.
     fn disconnected(&self);
+
+    /// Reports that a frame of a client has begun.
+    fn frame_began(&self);
 
     /// Reports that the thread of an agent could not be started.
     fn start_refused(&self);

@@ -7,6 +7,7 @@ use crate::daemon::watch::{TICK, Watch};
 use dsn_device::OpaqueStream;
 use std::io;
 use std::io::{ErrorKind, Read, Write};
+use std::net::Shutdown;
 use std::os::unix::net::UnixStream;
 use std::time::Duration;
 
@@ -27,7 +28,8 @@ enum Stage {
 /// A connection to a client. If its watch looks up, it does so each second that it waits. A client
 /// that says nothing or reads nothing for too long, or that takes too long for one frame, is cut off
 /// by an error. Once the run is ending, the input ends before the next frame, and a client in the
-/// middle of one has little time left for it.
+/// middle of one has little time left for it. On an inherited socket it ends once the client has
+/// been silent for a second, or after ten; each frame that was sent before is answered.
 #[derive(Drop)]
 pub(crate) struct WatchedConnection<'a, H> {
     stream: UnixStream,
@@ -36,8 +38,8 @@ pub(crate) struct WatchedConnection<'a, H> {
     /// a frame, a write, or when the run was found to be ending.
     since: Duration,
     stage: Stage,
-    /// Whether the run was found to be ending.
-    is_ending: bool,
+    /// When the run was found to be ending, by the watch.
+    ending_since: Option<Duration>,
 }
 
 impl<'a, H: Watch> WatchedConnection<'a, H> {
@@ -54,17 +56,22 @@ impl<'a, H: Watch> WatchedConnection<'a, H> {
             watch,
             since: watch.elapsed(),
             stage: Stage::BetweenFrames,
-            is_ending: false,
+            ending_since: None,
         })
     }
 
     /// Finds out whether the run is ending. The client's time begins anew then.
     fn look(&mut self) {
         self.watch.look();
-        if !self.is_ending && self.watch.is_ending() {
-            self.is_ending = true;
+        if !self.is_ending() && self.watch.is_ending() {
+            self.ending_since = Some(self.watch.elapsed());
             self.restart();
         }
+    }
+
+    /// Whether the run was found to be ending.
+    fn is_ending(&self) -> bool {
+        self.ending_since.is_some()
     }
 
     /// Begins to wait for something else, and so the client's time anew.
@@ -87,13 +94,26 @@ impl<'a, H: Watch> WatchedConnection<'a, H> {
             return false;
         }
         self.look();
-        self.is_ending
+        let Some(since) = self.ending_since else {
+            return false;
+        };
+        if !self.watch.is_inherited() {
+            return true;
+        }
+        let taken = self.watch.elapsed().saturating_sub(since);
+        taken >= Duration::from_secs(u64::from(LAST_PATIENCE)) && !self.takes_the_rest()
+    }
+
+    /// Lets the client send no more: what it sent before is still read, and a later send fails. So
+    /// the client knows of each frame whether it was taken. Returns whether the system does that.
+    fn takes_the_rest(&self) -> bool {
+        self.stream.shutdown(Shutdown::Read).is_ok()
     }
 
     /// How many seconds the client may take, if there is a limit.
     fn patience(&self) -> Option<u32> {
         let limit = self.watch.idle_limit();
-        if self.is_ending {
+        if self.is_ending() {
             return Some(limit.unwrap_or(LAST_PATIENCE).min(LAST_PATIENCE));
         }
         limit
@@ -130,9 +150,20 @@ impl<'a, H: Watch> WatchedConnection<'a, H> {
             }
             ErrorKind::WouldBlock if self.watch.looks_up() => {
                 self.look();
-                (self.is_ending && self.stage == Stage::BetweenFrames) || !self.is_out_of_time()
+                if !self.is_ending() || self.stage != Stage::BetweenFrames {
+                    return !self.is_out_of_time();
+                }
+                !self.watch.is_inherited() || self.takes_the_rest()
             }
             _ => false,
+        }
+    }
+
+    /// Begins a frame by what was read, which may be the end of the input instead.
+    fn begin_frame(&mut self, read: &io::Result<usize>) {
+        self.enter(Stage::InFrame);
+        if matches!(read, Ok(count) if *count > 0) {
+            self.watch.frame_began();
         }
     }
 
@@ -159,7 +190,7 @@ impl<H: Watch> Read for WatchedConnection<'_, H> {
                 continue;
             }
             if self.stage == Stage::BetweenFrames {
-                self.enter(Stage::InFrame);
+                self.begin_frame(&read);
             }
             if is_short(&read, buffer.len()) && self.is_too_slow() {
                 return Err(io::Error::from(ErrorKind::TimedOut));

@@ -1,0 +1,197 @@
+//! The values of `serve`, of its command line and its configuration file. The command line wins.
+use crate::arguments::{
+    MOST_AGENTS, MOST_IDLE, MOST_USE, ServeArguments, ServeOptions, number_in, owned, site_of,
+    socket_in,
+};
+use crate::config_file::ConfigFile;
+use crate::start_error::StartError;
+use clap::ArgMatches;
+use noticed_lib::{Serving, WatchOptions};
+use std::alloc::Global;
+
+/// Where the values of `serve` come from.
+#[derive(Drop)]
+struct ServeValues<'g, 'w> {
+    alloc: Global,
+    given: &'g ArgMatches<'w>,
+    file: Option<ConfigFile>,
+}
+
+/// A value, and the line of the configuration file that has it, if the command line doesn't.
+#[derive(Clone, Copy)]
+struct ServeValue<'a> {
+    text: &'a str,
+    line: Option<usize>,
+}
+
+/// What `serve` is given. A wrong value of the configuration file is named with its line.
+pub(crate) fn serve_arguments(
+    rt: &HostRuntime,
+    given: &ArgMatches<'_>,
+) -> Result<ServeArguments, StartError> {
+    let file = match given.get_str("config") {
+        Some(path) => Some(ConfigFile::read(rt, path)?),
+        None => None,
+    };
+    let values = ServeValues {
+        alloc: rt.alloc(),
+        given,
+        file,
+    };
+    values.arguments()
+}
+
+impl ServeValues<'_, '_> {
+    /// All values.
+    fn arguments(&self) -> Result<ServeArguments, StartError> {
+        let (socket, host) = (self.required("SOCKET")?, self.required("HOST")?);
+        let agents = self.number("AGENTS", MOST_AGENTS)?;
+        Ok(ServeArguments {
+            serving: Serving {
+                agents,
+                max_use: self.number("MAX-USE", MOST_USE)?,
+                site: self.placed(host, site_of(self.alloc, host.text))?,
+            },
+            socket: self.placed(socket, socket_in(self.alloc, socket.text))?,
+            host: owned(self.alloc, host.text)?,
+            options: self.options(agents)?,
+        })
+    }
+
+    /// The values of the options.
+    fn options(&self, agents: u32) -> Result<ServeOptions, StartError> {
+        let (journal, outbox) = (self.text("journal")?, self.text("outbox")?);
+        if journal.is_some() && outbox.is_none() {
+            // A mark in a journal says that a notice is on the disk, and standard output isn't synced.
+            return Err(StartError::reason(
+                self.alloc,
+                "a journal requires an outbox: --outbox PATH",
+            ));
+        }
+        Ok(ServeOptions {
+            journal,
+            outbox,
+            watch: WatchOptions {
+                idle_limit: self.idle_limit()?,
+                ends_on_fault: self.flag("end-on-fault")?,
+                logs: self.flag("log")?,
+                agents,
+                inherits: self.flag("inherited")?,
+            },
+        })
+    }
+
+    /// The value of an option or an argument, if there is one.
+    fn value(&self, name: &str) -> Option<ServeValue<'_>> {
+        if let Some(text) = self.given.get_str(name) {
+            return Some(ServeValue { text, line: None });
+        }
+        let setting = self.file.as_ref()?.setting(key_of(name))?;
+        Some(ServeValue {
+            text: setting.value.as_str(),
+            line: Some(setting.line),
+        })
+    }
+
+    /// The value of an argument, which has to be there.
+    fn required(&self, name: &str) -> Result<ServeValue<'_>, StartError> {
+        if let Some(value) = self.value(name) {
+            return Ok(value);
+        }
+        let path = match &self.file {
+            Some(file) => file.path(),
+            // The parser of the command line requires it.
+            None => "",
+        };
+        match format!(in self.alloc; "{path}: {} is not set", key_of(name)) {
+            Ok(reason) => Err(StartError::Wrong(reason)),
+            Err(_) => Err(StartError::NoMemory),
+        }
+    }
+
+    /// The text of an option, if it is set.
+    fn text(&self, name: &str) -> Result<Option<String>, StartError> {
+        match self.value(name) {
+            Some(value) => Ok(Some(owned(self.alloc, value.text)?)),
+            None => Ok(None),
+        }
+    }
+
+    /// The number that an argument says, from 1 to `most`.
+    fn number(&self, name: &str, most: u32) -> Result<u32, StartError> {
+        let value = self.required(name)?;
+        self.placed(value, number_in(self.alloc, name, value.text, most))
+    }
+
+    /// For how many seconds a client may be silent, if the option says so.
+    fn idle_limit(&self) -> Result<Option<u32>, StartError> {
+        match self.value("idle") {
+            Some(_) => Ok(Some(self.number("idle", MOST_IDLE)?)),
+            None => Ok(None),
+        }
+    }
+
+    /// Whether an option without a value is given. The configuration file says `yes` or `no`.
+    fn flag(&self, name: &str) -> Result<bool, StartError> {
+        if self.given.get_flag(name) {
+            return Ok(true);
+        }
+        let Some(file) = &self.file else {
+            return Ok(false);
+        };
+        let Some(setting) = file.setting(name) else {
+            return Ok(false);
+        };
+        match setting.value.as_str() {
+            "yes" => Ok(true),
+            "no" => Ok(false),
+            word => {
+                let value = ServeValue {
+                    text: word,
+                    line: Some(setting.line),
+                };
+                self.placed(
+                    value,
+                    Err(StartError::wrong(self.alloc, name, "yes or no", word)),
+                )
+            }
+        }
+    }
+
+    /// What was read from a value. If it was wrong, the error begins with the value's line.
+    fn placed<T>(
+        &self,
+        value: ServeValue<'_>,
+        read: Result<T, StartError>,
+    ) -> Result<T, StartError> {
+        let (Some(file), Some(line)) = (&self.file, value.line) else {
+            return read;
+        };
+        match read {
+            Err(StartError::Wrong(reason)) => Err(StartError::at_line(
+                self.alloc,
+                file.path(),
+                line,
+                reason.as_str(),
+            )),
+            Err(StartError::SocketPath) => Err(StartError::at_line(
+                self.alloc,
+                file.path(),
+                line,
+                "socket must have 1 to 107 bytes",
+            )),
+            read => read,
+        }
+    }
+}
+
+/// The key of an option or an argument in a configuration file.
+fn key_of<'a>(name: &'a str) -> &'a str {
+    match name {
+        "SOCKET" => "socket",
+        "HOST" => "host",
+        "AGENTS" => "agents",
+        "MAX-USE" => "max-use",
+        _ => name,
+    }
+}

@@ -1,0 +1,98 @@
+"""Checks the configuration file of `noticed serve`: each key, the command line above it, and what is wrong with a line,
+which is named with the file. And examples/noticed.conf, which the unit uses."""
+import tempfile
+from pathlib import Path
+
+from tests.support.daemon_and_clients import FRAMES, OUTBOX, Daemon, socket_fault
+from tests.support.running import EXAMPLES, HOST, Checks, run
+
+ALL = {
+    "socket": "/nonexistent/noticed.socket",
+    "host": HOST,
+    "agents": "2",
+    "max-use": "1",
+    "journal": "/nonexistent/journal",
+    "outbox": "/dev/null",
+    "idle": "300",
+    "end-on-fault": "yes",
+    "log": "no",
+    "inherited": "no",
+}
+# a wrong line, and what is said of it
+WRONG = {
+    "agents": "is not of the form 'key = value': 'agents'",
+    "agent = 2": "has an unknown key: 'agent'",
+    "Host = x": "has an unknown key: 'Host'",
+    "idle =": "has no value: 'idle'",
+    "agents = 17": "AGENTS must be 1 to 16, not '17'",
+    "max-use = 01": "MAX-USE must be 1 to 1000000, not '01'",
+    "idle = 5m": "idle must be 1 to 86400, not '5m'",
+    "host = a_b": "HOST must be 1 to 255 letters, digits, dots and hyphens, not 'a_b'",
+    "log = true": "log must be yes or no, not 'true'",
+    "socket = " + "s" * 108: "socket must have 1 to 107 bytes",
+}
+
+
+def text_of(values: dict) -> str:
+    """A file with these values."""
+    return "".join(f"{key} = {value}\n" for key, value in values.items())
+
+
+def reason_of(words: list) -> tuple:
+    """The reason that is given for wrong arguments, without the hint and the usage line, and the status."""
+    ran = run(words)
+    return ran.notes.decode().partition("\ntry 'noticed help'\n")[0], ran.status
+
+
+def wrong(checks: Checks, file: Path):
+    """Wrong lines are named with their file."""
+    words = ["serve", "--config", str(file)]
+    for line, why in WRONG.items():
+        key = line.split()[0]
+        file.write_text("# a comment\n\n" + line + "\n" + text_of({it: ALL[it] for it in ALL if it != key}))
+        checks.equal(line[:40], reason_of(words), (f"error: {file}:3: {why}", 2))
+    file.write_text(text_of(ALL) + "host = other\n")
+    checks.equal("a key twice", reason_of(words), (f"error: {file}:11: has a key that was set before: 'host'", 2))
+    for key in ("socket", "host", "agents", "max-use"):
+        file.write_text(text_of({it: ALL[it] for it in ALL if it != key}))
+        checks.equal(f"no {key}", reason_of(words), (f"error: {file}: {key} is not set", 2))
+    file.write_text(text_of({it: ALL[it] for it in ALL if it != "outbox"}))
+    checks.equal("no outbox", reason_of(words), ("error: a journal requires an outbox: --outbox PATH", 2))
+    file.unlink()
+    checks.equal("no file", reason_of(words), (f"error: {file}: No such file or directory (os error 2)", 2))
+    file.write_bytes(b"host = \xff\n")
+    checks.equal("no text", reason_of(words)[1], 2)
+
+
+def right(checks: Checks, file: Path):
+    """The file alone, and the command line above it."""
+    file.write_text("\t" + text_of(ALL).replace("journal = ", "# ").replace(" = ", "=", 1))
+    words = ["serve", "--config", str(file)]
+    why = "No such file or directory (os error 2)"
+    checks.equal("each key", run(words).notes, socket_fault(ALL["socket"], why))
+    checks.equal("another socket", run([*words, "/nonexistent/s"]).notes, socket_fault("/nonexistent/s", why))
+    checks.equal("wrong agents", reason_of([*words, "/s", HOST, "17"])[0], "error: AGENTS must be 1 to 16, not '17'")
+    checks.equal("a wrong option", reason_of([*words, "--idle", "0"])[0], "error: idle must be 1 to 86400, not '0'")
+    file.write_text(text_of({"agents": "1", "max-use": "1", "log": "yes"}))
+    with tempfile.TemporaryDirectory() as room:
+        path = f"{room}/socket"
+        with Daemon(1, 1, path, options=("--config", str(file))) as daemon:
+            daemon.send(FRAMES)
+            ended = daemon.end()
+            checks.equal("a daemon", (ended.outbox, ended.status), (OUTBOX, 0))
+            checks.true("its log is the file's", b"listening on " in ended.notes)
+
+
+def main():
+    checks = Checks("config: the values of `serve` in a file")
+    with tempfile.TemporaryDirectory() as room:
+        wrong(checks, Path(room) / "noticed.conf")
+        right(checks, Path(room) / "noticed.conf")
+    words = ["serve", "--config", str(EXAMPLES / "noticed.conf"), "--journal", "/nonexistent", "--outbox", "/dev/null"]
+    fault = b"fault 72\n/nonexistent: No such file or directory (os error 2)\n"
+    checks.equal("the example", run([*words, "/nonexistent/socket"]).notes, fault)
+    checks.done()
+
+
+if __name__ == "__main__":
+    main()

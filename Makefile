@@ -115,16 +115,23 @@ bench: $(BUILT) $(PROBES)
 planted: $(BUILT)
 	@python3 -m tests.support.planted
 
+# The units name the folders of PREFIX. A configuration file that is there stays.
 install: $(BUILT)
-	@install -D -m 755 $(BUILT) "$(DESTDIR)$(PREFIX)/bin/noticed"
-	install -D -m 644 docs/noticed.8 "$(DESTDIR)$(PREFIX)/share/man/man8/noticed.8"
-	for it in docs/FORMATS.md docs/DEPLOY.md docs/FEEDER.md docs/REFUSALS.md examples/noticed.service \
-	    examples/noticed-postfix.socket examples/noticed-postfix.service examples/noticed-feed.service \
-	    examples/noticed-run.sh examples/feed.py examples/feed_mailers.py examples/feed_outbox.py examples/feed_state.py \
-	    examples/frames.py examples/client.py examples/agent.c examples/one-bounce.frames; do
-	    install -D -m 644 "$$it" "$(DESTDIR)$(PREFIX)/share/doc/noticed/$${it##*/}"
+	@to() { install -D -m "$$1" "$$2" "$(DESTDIR)$$3"; }
+	to 755 $(BUILT) "$(PREFIX)/bin/noticed"
+	to 644 docs/noticed.8 "$(PREFIX)/share/man/man8/noticed.8"
+	for it in examples/noticed*.service examples/noticed*.socket; do
+	    to 644 "$$it" "$(PREFIX)/lib/systemd/system/$${it##*/}"
+	    sed -i "s|/usr/local|$(PREFIX)|g" "$(DESTDIR)$(PREFIX)/lib/systemd/system/$${it##*/}"
 	done
-	echo "installed $(DESTDIR)$(PREFIX)/bin/noticed, its manual page and $(DESTDIR)$(PREFIX)/share/doc/noticed"
+	for it in sysusers tmpfiles; do to 644 "examples/noticed.$$it" "$(PREFIX)/lib/$$it.d/noticed.conf"; done
+	[ -e "$(DESTDIR)/etc/noticed/noticed.conf" ] || to 644 examples/noticed.conf /etc/noticed/noticed.conf
+	for it in feed feed_mailers feed_outbox feed_state frames; do to 644 "examples/$$it.py" "$(PREFIX)/libexec/noticed/$$it.py"; done
+	for it in docs/FORMATS.md docs/DEPLOY.md docs/FEEDER.md docs/REFUSALS.md examples/noticed.conf examples/frames.py \
+	    examples/client.py examples/agent.c examples/one-bounce.frames; do
+	    to 644 "$$it" "$(PREFIX)/share/doc/noticed/$${it##*/}"
+	done
+	echo "installed $(DESTDIR)$(PREFIX)/bin/noticed, its manual page, units and $(DESTDIR)$(PREFIX)/share/doc/noticed"
 
 # Removes what was built and what the prover kept: the next build proves everything again.
 clean:

@@ -17,16 +17,16 @@ import sys
 import time
 from pathlib import Path
 
-from tests.support.daemon_and_clients import FIRST_FRAME, FRAMES, NOTES, OUTBOX
-from tests.support.running import ROOT, Checks, empty_outbox, program
+from tests.support.daemon_and_clients import FRAMES, NOTES, OUTBOX, append, flush, frames
+from tests.support.running import ROOT, Checks, program
 from tests.support.system import Container, base_system, deploy_block, lacking, until
 
 TOOLS = {"systemd-nspawn": "systemd-container", "debootstrap": "debootstrap", "nsenter": "util-linux", "make": "make"}
 PATIENCE = 60  # seconds that one step in the container may take
-CONNECTIONS = 4000  # what the unit's daemon serves
-INSTALLED = "/usr/local/share/doc/noticed"
+CONNECTIONS = 10_000  # clients that ask nothing
+INSTALLED = "/usr/local/libexec/noticed"
 SOCKET, OUTBOXES = "/run/noticed/socket", "/var/lib/noticed"
-MODES = [f"{mode} noticed noticed" for mode in ("drwxr-x---", "srwxrwx---", "drwx------", "-rw-------")]
+MODES = [f"{mode} noticed noticed" for mode in ("drwxr-x---", "srw-rw----", "drwx------", "-rw-------")]
 # A submission program that goes on with a delivery of its own after it has ended, as exim does.
 SENDMAIL = """#!/bin/sh
 cat > /var/lib/noticed/handed-in.part && mv /var/lib/noticed/handed-in.part /var/lib/noticed/handed-in
@@ -47,6 +47,16 @@ for _ in range({CONNECTIONS}):
     except OSError:
         break
 """
+
+
+def renamed(queue_id: bytes) -> bytes:
+    """The example's frames, for a message of another queue id."""
+    return append(0, queue_id) + flush(1, queue_id)
+
+
+def open_log(number: int) -> bytes:
+    """An outcome for a log of its own, which nobody flushes."""
+    return frames.append(0, 2, b"OPEN%d" % number, b"x@y", 2, b"4.4.1")
 
 
 class Machine(Container):
@@ -94,10 +104,9 @@ def install(it: Machine):
     subprocess.run(words, cwd=ROOT, stdout=subprocess.DEVNULL, check=True)
     for name in ("agent", "stranger"):
         it.run("useradd", "--system", name).check_returncode()
-    steps = deploy_block("groupadd ").replace("AGENT", "agent") + deploy_block(
-        "cd /usr/local/share/doc/noticed\ncp noticed.service"
-    ).replace("editor ", "test -w ")
-    it.run("sh", "-c", f"set -e\n{steps.partition(' && systemctl enable')[0]}").check_returncode()
+    steps = deploy_block("systemd-sysusers ").replace("AGENT", "agent") + deploy_block("editor /etc/noticed")
+    steps = steps.replace("editor ", "test -w ").partition(" && systemctl enable")[0]
+    it.run("sh", "-c", f"set -e\n{steps}").check_returncode()
     for name in DELIVERED[:2]:
         it.run("mkdir", "--mode=777", os.path.dirname(name)).check_returncode()
     it.file("/usr/sbin/sendmail").write_text(SENDMAIL)
@@ -106,9 +115,8 @@ def install(it: Machine):
 
 def check_first_start(checks: Checks, it: Machine):
     """The unit comes up where nothing is there, and an agent's account has a notice made that it can't read."""
-    checks.equal("systemctl start", it.run("systemctl", "start", "noticed").stderr, b"")
-    checks.equal("the start was over once the socket was there", it.run("test", "-S", SOCKET).returncode, 0)
-    checks.true("a socket is listened on", it.listens())
+    checks.equal("systemctl start", it.run("systemctl", "start", "noticed.socket", "noticed").stderr, b"")
+    checks.equal("the start was over once it served", it.sent(b""), b"")
     checks.equal("systemctl is-active", it.said("systemctl", "is-active", "noticed"), "active")
     checks.equal("modes and owners", it.modes(), MODES)
     checks.equal("an agent's answers", it.sent(FRAMES), NOTES)
@@ -123,15 +131,15 @@ def check_first_start(checks: Checks, it: Machine):
 
 
 def check_next_run(checks: Checks, it: Machine):
-    """After its last connection a daemon is followed by another at once, which has an outbox of its own."""
-    before = len(it.outboxes())
-    checks.equal("connections to the last", it.run("runuser", "-u", "agent", "--", "python3", "-c", USE_UP).stderr, b"")
-    began = time.monotonic()
-    checks.true("the next run has begun", until(lambda: len(it.outboxes()) > before, 10) and it.listens())
-    # (a unit that failed waits for 5 seconds)
-    checks.true("it began at once", time.monotonic() - began < 4)
+    """Clients that ask nothing end no run, and an open log stands, also over a restart at which a client waits."""
+    checks.equal("an outcome", it.sent(open_log(0)), b"0 logged 0\n")
+    checks.equal("empty connections", it.run("runuser", "-u", "agent", "--", "python3", "-c", USE_UP).stderr, b"")
+    checks.equal("the log stands", it.sent(open_log(0)), b"0 logged 1\n")
     checks.equal("the unit wasn't started anew", it.shows("NRestarts"), "0")
-    checks.equal("an agent's answers of the next run", it.sent(FRAMES), NOTES)
+    before = len(it.outboxes())
+    it.run("systemctl", "restart", "--no-block", "noticed")
+    checks.equal("an agent's answer over a restart", it.sent(open_log(0)), b"0 logged 2\n")
+    checks.true("the next run has an outbox of its own", until(lambda: len(it.outboxes()) > before, 10))
 
 
 def check_by_hand(checks: Checks, it: Machine):
@@ -146,79 +154,82 @@ def check_by_hand(checks: Checks, it: Machine):
         )
     before = len(it.outboxes())
     checks.equal("noticed stop", it.run("runuser", "-u", "noticed", "--", "noticed", "stop", SOCKET).returncode, 0)
-    checks.true("the next run begins at once", until(lambda: len(it.outboxes()) > before, 2) and it.listens())
-    checks.equal("the unit is still the same", it.shows("NRestarts"), "0")
+    checks.true("the next run begins at once", until(lambda: len(it.outboxes()) > before, 5) and it.listens())
 
 
 def check_run_file(checks: Checks, it: Machine):
     """The `run` file of docs/DEPLOY.md, without systemd: a first start where nothing is there, and an orderly stop."""
-    it.run("systemctl", "stop", "noticed", "noticed-feed")
+    it.run("systemctl", "stop", "noticed.socket", "noticed", "noticed-feed")
     it.run("rm", "-rf", "/run/noticed", OUTBOXES)
     it.file("/root/run").write_text(deploy_block("#!/bin/sh\nexec 2>&1\ninstall "))
     words = ["nsenter", f"--target={it.leader()}", "--all", "--", "sh", "-c", "echo $$ > /root/pid; exec sh /root/run"]
     with subprocess.Popen(words, stdin=subprocess.DEVNULL, stdout=subprocess.PIPE) as running:
         try:
             checks.true("the run file: it listens", it.listens())
-            checks.equal("the run file: modes and owners", it.modes(), MODES)
+            checks.equal(
+                "the run file: modes and owners", it.modes(), [MODES[0], "srwxrwx--- noticed noticed", *MODES[2:]]
+            )
             checks.equal("the run file: an agent's answers", it.sent(FRAMES), NOTES)
         finally:
-            it.run("sh", "-c", "kill -TERM $(cat /root/pid)")
+            it.run("noticed", "stop", SOCKET)
         notes = running.communicate(timeout=PATIENCE)[0]
     checks.equal("the run file: an orderly stop", (running.returncode, it.outbox()), (0, OUTBOX))
     checks.true("the run file: its notes", b"notice B.A1B2C3.0 to " in notes)
 
 
 def check_killed(checks: Checks, it: Machine):
-    """A daemon that was killed is started anew after seconds, with an outbox of its own."""
-    checks.equal("an agent's answers before the daemon is killed", it.sent(FRAMES), NOTES)
+    """A daemon that was killed is started anew, with an outbox of its own, and nothing that was answered is lost."""
+    checks.equal("an agent's answers before the daemon is killed", it.sent(renamed(b"KILLED")), NOTES)
+    checks.equal("an outcome that nobody flushes", it.sent(open_log(1)), b"0 logged 0\n")
     checks.true("the outbox has something", until(it.outbox, 10))
-    before, began = len(it.outboxes()), time.monotonic()
+    before = len(it.outboxes())
     it.run("systemctl", "kill", "--signal=KILL", "noticed")
-    checks.true("the daemon is back", until(lambda: len(it.outboxes()) > before, 30) and it.listens())
-    checks.true("after seconds", 2 < time.monotonic() - began < 20)
-    checks.equal("the unit was started anew", it.shows("NRestarts"), "1")
+    checks.equal("the log is kept", it.sent(open_log(1)), b"0 logged 1\n")
+    checks.true("the outbox is a new one", until(lambda: len(it.outboxes()) > before, 30))
 
 
 def check_stop(checks: Checks, it: Machine):
-    """`systemctl stop` is orderly: the outbox has its QUIT, what is open is named, and no socket is left."""
-    checks.equal("an outcome that nobody flushes", it.sent(FRAMES[:FIRST_FRAME]), b"0 logged 0\n")
+    """`systemctl stop` is orderly: the outbox has its QUIT, and what is open is named."""
+    before = it.outbox()
     began = time.monotonic()
-    checks.equal("systemctl stop", it.run("systemctl", "stop", "noticed").returncode, 0)
+    checks.equal("systemctl stop", it.run("systemctl", "stop", "noticed.socket", "noticed").returncode, 0)
     checks.true("it took no long time", time.monotonic() - began < 10)
     checks.equal("the unit's result", (it.shows("Result"), it.shows("ActiveState")), ("success", "inactive"))
-    checks.equal("the outbox has its QUIT", it.outbox(), empty_outbox())
+    checks.true("the outbox has its QUIT", it.outbox().endswith(b"QUIT\r\n") and it.outbox().startswith(before))
     checks.true(
         "the journal names what is open",
-        "open B A1B2C3 1" in it.said("journalctl", "--unit=noticed", "--output=cat").splitlines(),
+        "open D OPEN1 2" in it.said("journalctl", "--unit=noticed", "--output=cat").splitlines(),
     )
-    checks.true("no socket is left", it.run("test", "-e", SOCKET).returncode)
+    it.run("systemctl", "start", "noticed.socket")
+    checks.equal("the socket alone starts it for a client", it.sent(open_log(1)), b"0 logged 2\n")
 
 
-def check_fails(checks: Checks, it: Machine):
-    """Where a folder has the socket's name the daemon can't start: it is tried each few seconds, until it can."""
-    it.run("systemctl", "reset-failed", "noticed")
-    it.run("mkdir", "-p", SOCKET)
-    before = int(it.shows("NRestarts") or 0)
-    it.run("systemctl", "start", "noticed")
-    time.sleep(13)
-    checks.true("it is tried again, and not too often", 1 <= int(it.shows("NRestarts")) - before <= 4)
-    it.run("rmdir", SOCKET)
-    checks.true(
-        "it starts once it can", until(lambda: it.run("test", "-S", SOCKET).returncode == 0, 15) and it.listens()
-    )
+def check_wrong(checks: Checks, it: Machine):
+    """A wrong line of the configuration file is named, and the daemon isn't tried again; once it is right it starts."""
+    path = it.file("/etc/noticed/noticed.conf")
+    text = path.read_text()
+    path.write_text(f"{text}agent = 1\n")
+    checks.true("a restart fails", it.run("systemctl", "restart", "noticed").returncode != 0)
+    checks.equal("the unit's state", it.shows("ActiveState"), "failed")
+    checks.true("the line is named", "has an unknown key: 'agent'" in it.said("journalctl", "--unit=noticed"))
+    path.write_text(text)
+    checks.equal("a start", it.run("systemctl", "restart", "noticed").returncode, 0)
+    checks.true("it serves", it.listens())
 
 
 def check_reboot(checks: Checks, it: Machine):
     """A reboot is orderly, and the daemon is there after it, with an outbox of its own; and the mode of its folder is
     the unit's, also where it was another."""
-    checks.equal("systemctl enable", it.run("systemctl", "enable", "noticed", "noticed-feed").returncode, 0)
-    checks.equal("an agent's answers before the reboot", it.sent(FRAMES), NOTES)
+    checks.equal(
+        "systemctl enable", it.run("systemctl", "enable", "noticed.socket", "noticed", "noticed-feed").returncode, 0
+    )
+    checks.equal("an agent's answers before the reboot", it.sent(renamed(b"BEFORE")), NOTES)
     before = len(it.outboxes())
     it.run("chmod", "0755", OUTBOXES)
     checks.true("the container is up again", it.reboot() and it.listens())
     checks.equal("the daemon after the reboot", it.said("systemctl", "is-active", "noticed"), "active")
     outboxes = it.outboxes()
-    checks.equal("the outbox of before the reboot", outboxes[before:], [OUTBOX])
+    checks.equal("an outbox of before the reboot", len(outboxes) - before, 1)
     checks.equal("the folder's mode", it.said("stat", "--format=%A", OUTBOXES), "drwx------")
     checks.equal(
         "units that failed", it.said("systemctl", "list-units", "--failed", "--plain", "--no-legend", "noticed*"), ""
@@ -228,18 +239,16 @@ def check_reboot(checks: Checks, it: Machine):
 def check_feeder(checks: Checks, it: Machine):
     """The feeder's unit hands in what is sealed after the reboot. What the mail program goes on with isn't killed when
     the unit is stopped, and has the machine's own files."""
-    checks.equal("an agent's answers after the reboot", it.sent(FRAMES), NOTES)
+    checks.equal("an agent's answers after the reboot", it.sent(renamed(b"AFTER")), NOTES)
     checks.equal("the feeder after the reboot", it.said("systemctl", "is-active", "noticed-feed"), "active")
     handed_in = it.file(f"{OUTBOXES}/handed-in")
     checks.true(
-        "the notice is handed in", until(lambda: handed_in.exists() and b"<B.A1B2C3." in handed_in.read_bytes(), 15)
+        "the notice is handed in", until(lambda: handed_in.exists() and b"<B.AFTER." in handed_in.read_bytes(), 15)
     )
     checks.true("what the mail program began is done, on the machine's own files", until(lambda: is_delivered(it), 15))
     it.run("rm", *DELIVERED)
     handed_in.unlink()
-    checks.equal(
-        "an agent's answers before the feeder is stopped", it.sent(FRAMES.replace(b"A1B2C3", b"A1B2C4")), NOTES
-    )
+    checks.equal("an agent's answers before the feeder is stopped", it.sent(renamed(b"LATER")), NOTES)
     checks.true("the next notice is handed in", until(handed_in.exists, 15))
     checks.equal("systemctl stop of the feeder", it.run("systemctl", "stop", "noticed-feed").returncode, 0)
     checks.true("what the mail program began is done all the same", until(lambda: is_delivered(it), 15))
@@ -258,7 +267,7 @@ def check_all(checks: Checks, it: Machine):
         check_by_hand,
         check_killed,
         check_stop,
-        check_fails,
+        check_wrong,
         check_reboot,
         check_feeder,
         check_run_file,

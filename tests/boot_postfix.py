@@ -21,7 +21,7 @@ ANSWERS = f"postfix postfix/main_mailer_type select Internet Site\npostfix postf
 QUEUE = "/var/spool/postfix"
 STEPS = {
     "entries": "postconf -M 127.0.0.1:10025/inet=",
-    "units": "cd /usr/local/share/doc/noticed\ncp noticed-postfix.socket",
+    "units": "cd /usr/local/lib/systemd/system\ncp noticed-postfix.socket",
     "switch": "postconf -e bounce_service_name",
     "test": "printf 'Subject: a test",
     "back": "postconf -X bounce_service_name",

@@ -1,8 +1,9 @@
-"""Runs what docs/DEPLOY.md describes, in a folder of this script's own: examples/noticed-run.sh, which runs one daemon
-after another, each on a new outbox; messages written in words and sent by `noticed send`; and the feeder, which follows
-the outbox and hands each notice to a submission program. The same with a journal. And the commands that put the entries
-of `noticed postfix` into a master.cf of this script's own, and take them out again."""
+"""Runs what docs/DEPLOY.md describes, in a folder of this script's own: the lines of the `run` file, one daemon after
+another, each on a new outbox; messages written in words and sent by `noticed send`; and the feeder, which follows the
+outbox and hands each notice to a submission program. And the commands that put the entries of `noticed postfix` into a
+master.cf of this script's own, and take them out again."""
 import os
+import re
 import shutil
 import signal
 import subprocess
@@ -11,7 +12,7 @@ import tempfile
 from pathlib import Path
 
 from tests.support.daemon_and_clients import PATIENCE, line, until
-from tests.support.running import EXAMPLES, HOST, Checks, empty_outbox, program
+from tests.support.running import EXAMPLES, Checks, program
 from tests.support.system import deploy_block
 
 FRAMES = [sys.executable, str(EXAMPLES / "frames.py"), "-"]
@@ -28,6 +29,15 @@ def sent(room: Path, requests: str) -> list:
             writing.stdin.write(requests.encode())
             writing.stdin.close()
             return sending.communicate(timeout=PATIENCE)[0].decode().splitlines()
+
+
+def run_file(room: Path) -> list:
+    """The `run` file of the page, without its accounts, in this folder and with this program."""
+    text = deploy_block("#!/bin/sh\nexec 2>&1\ninstall ")
+    text = re.sub(r"^(install|cd|setpriv) .*\n", "", text, flags=re.M).replace("exec 2>&1", "exec 2>> notes")
+    text = re.sub(r"exec setpriv .*\\\n +/usr/local/bin/noticed", f"exec {program()}", text)
+    text = text.replace("/etc/noticed/noticed.conf", "noticed.conf").replace("/run/noticed/socket", "socket")
+    return ["sh", "-c", text]
 
 
 def next_run(checks: Checks, room: Path, runs: int):
@@ -55,66 +65,45 @@ def one_run(checks: Checks, room: Path, message: str):
     )
 
 
-def two_runs(checks: Checks, room: Path, options: list):
+def three_runs(checks: Checks, room: Path):
     """Two daemons one after another, and a third that is stopped before its first client."""
-    words = ["sh", str(EXAMPLES / "noticed-run.sh"), program(), "socket", HOST, "1", "2", "--log", *options]
-    with (room / "notes").open("wb") as notes, subprocess.Popen(
-        words, cwd=room, stdin=subprocess.DEVNULL, stderr=notes
-    ) as running:
-        try:
-            for runs, message in ((1, "M1"), (2, "M2")):
-                next_run(checks, room, runs)
-                one_run(checks, room, message)
-            next_run(checks, room, 3)
-        finally:
-            running.send_signal(signal.SIGTERM)
-        checks.equal("the status of a stop", running.wait(timeout=PATIENCE), 0)
+    for runs, message in ((1, "M1"), (2, "M2")):
+        with subprocess.Popen(run_file(room), cwd=room, stdin=subprocess.DEVNULL) as running:
+            next_run(checks, room, runs)
+            one_run(checks, room, message)
+            checks.equal(f"run {runs}: its status", running.wait(timeout=PATIENCE), 0)
+    with subprocess.Popen(run_file(room), cwd=room, stdin=subprocess.DEVNULL) as running:
+        next_run(checks, room, 3)
+        stopped = subprocess.run([program(), "stop", "socket"], cwd=room, check=False, timeout=PATIENCE).returncode
+        checks.equal("the status of a stop", (stopped, running.wait(timeout=PATIENCE)), (0, 0))
     told = (room / "notes").read_bytes().splitlines(keepends=True)
     checks.equal("the agents", [it for it in told if it.startswith(b"agent ")], [*2 * [line(0, 3, 2)], line(0, 0, 0)])
     checks.equal("faults", [it for it in told if it.startswith((b"fault ", b"open ", b"unsent "))], [])
 
 
-def followed(checks: Checks, options: list):
+def followed(checks: Checks):
     """The runs, with a feeder that follows their outboxes."""
     with tempfile.TemporaryDirectory(prefix="noticed-") as name:
         room = Path(name)
         (room / "journal").mkdir(mode=0o700)
+        # a short journal: a start is quick
+        (room / "journal/journal").write_bytes(bytes(2**20))
+        (room / "journal/marks").write_bytes(bytes(4096))
+        (room / "notes").touch()
+        text = (EXAMPLES / "noticed.conf").read_text()
+        text = text.replace("agents = 8", "agents = 1").replace("max-use = 1000000", "max-use = 2")
+        (room / "noticed.conf").write_text(text)
         (room / "submit").write_text(SUBMIT)
         (room / "submit").chmod(0o755)
-        words = [*FEED, "--follow", "outbox", "./submit"]
+        words = [*FEED, "--follow", "outbox", "--once", "./submit"]
         with subprocess.Popen(words, cwd=room, stderr=subprocess.PIPE) as feeding:
             try:
-                two_runs(checks, room, options)
+                three_runs(checks, room)
             finally:
                 feeding.send_signal(signal.SIGTERM)
             said = feeding.communicate(timeout=PATIENCE)[1]
         checks.equal("the feeder", (feeding.returncode, said), (0, b"2 handed in, 0 left out\n"))
         checks.equal("outboxes", len(list(room.glob("outbox*"))), 3)
-
-
-def unsupervised(checks: Checks):
-    """The loop for a machine without a supervisor: its run is ended in order, by the command of the page, once the loop
-    is."""
-    with tempfile.TemporaryDirectory(prefix="noticed-") as name:
-        room = Path(name)
-        words = " ".join(["sh", str(EXAMPLES / "noticed-run.sh"), program(), "socket", HOST, "1", "2", "--log"])
-        (room / "run").write_text(f"#!/bin/sh\nexec {words} < /dev/null 2> notes\n")
-        (room / "run").chmod(0o755)
-        (room / "notes").touch()
-        loop, stop = (
-            deploy_block(start).replace("/run/noticed.pid", str(room / "pid"))
-            for start in ("while :; do ./run", "kill ")
-        )
-        with subprocess.Popen(["sh", "-c", loop], cwd=room) as looping:
-            try:
-                next_run(checks, room, 1)
-            finally:
-                looping.kill()
-        pid = int((room / "pid").read_text())
-        subprocess.run(["sh", "-c", stop], check=True)
-        checks.true("the run is ended", until(lambda: not Path(f"/proc/{pid}").exists()))
-        checks.equal("in order", (room / "outbox").read_bytes(), empty_outbox())
-        checks.true("and its socket is removed", not (room / "socket").exists())
 
 
 def entries_of(folder: Path) -> list:
@@ -154,11 +143,9 @@ def entries(checks: Checks):
 
 
 def main():
-    checks = Checks("deploy: two daemons one after another, their clients, the feeder, and the entries of master.cf")
+    checks = Checks("deploy: daemons one after another, their clients, the feeder, and the entries of master.cf")
     entries(checks)
-    unsupervised(checks)
-    followed(checks, [])
-    followed(checks, ["--journal", "journal", "--outbox", "outbox"])
+    followed(checks)
     checks.done()
 
 

@@ -1,15 +1,14 @@
-"""Checks examples/noticed.service without systemd: its keys, by a parser; its steps in systemd's own order (the outputs
-are opened, then the folders are made, then the commands run), in a folder of this script's own with nothing there; the
-modes and owners that come of it; the runs that follow one another, and their ends, by signals too; and the whole of it
-by `systemd-analyze verify` where that is installed. As root the daemon runs as an account of its own, and others try to
-get at its socket and its outbox. And examples/noticed-feed.service: that it follows the outbox of the first, as an
-account that may read it, is waited for as long as a reply may take, and keeps nothing from the mail program that it
-runs. tests/boot.py tries both under systemd. And examples/noticed-postfix.socket and .service: their keys, and that the
+"""Checks examples/noticed.service and its socket without systemd: their keys, by a parser; their steps in systemd's own order
+(the folders are made, then the commands run), in a folder of this script's own with nothing there; the modes and owners
+that come of it; the runs that follow one another, and their ends; and the whole of it by `systemd-analyze verify` and
+`security` where that is installed. As root the daemon runs as an account of its own, and others try to get at its
+socket and its outbox. And examples/noticed-feed.service: that it follows the outbox of the first, as an account that
+may read it, is waited for as long as a reply may take, and keeps nothing from the mail program that it runs.
+tests/boot.py tries both under systemd. And examples/noticed-postfix.socket and .service: their keys, and that the
 command takes the sockets in a queue folder that is put in place of Postfix's. tests/boot_postfix.py tries both under
 systemd."""
 import contextlib
 import os
-import random
 import re
 import shlex
 import shutil
@@ -19,16 +18,15 @@ import stat
 import subprocess
 import sys
 import tempfile
-import time
 from dataclasses import dataclass
 from pathlib import Path
 
-from tests.support.daemon_and_clients import FIRST_FRAME, FRAMES, NOTES, OUTBOX, PATIENCE, is_listened_on, until
+from tests.support.daemon_and_clients import FIRST_FRAME, FRAMES, NOTES, PATIENCE
 from tests.support.private_postfix import HANDS_ON
 from tests.support.running import EXAMPLES, HOST, ROOT, Checks, Ran, empty_outbox, program
-from tests.support.system import deploy_block
 
-UNIT = EXAMPLES / "noticed.service"
+UNIT, SOCKET = EXAMPLES / "noticed.service", EXAMPLES / "noticed.socket"
+INSTANCE, INSTANCE_SOCKET = EXAMPLES / "noticed@.service", EXAMPLES / "noticed@.socket"
 FEEDER = EXAMPLES / "noticed-feed.service"
 POSTFIX, SOCKETS = EXAMPLES / "noticed-postfix.service", EXAMPLES / "noticed-postfix.socket"
 QUEUE = "/var/spool/postfix"  # Postfix's folder, as Debian has it
@@ -47,22 +45,29 @@ KEEPS = (
 )
 OPTION = re.compile(r"^#(?=[A-Z][A-Za-z]+=)", re.MULTILINE)
 WANTED = {
+    "Type": ["notify"],
     "User": ["noticed"],
     "Group": ["noticed"],
-    "RuntimeDirectory": ["noticed"],
-    "RuntimeDirectoryMode": ["0750"],
-    "StateDirectory": ["noticed"],
+    "StateDirectory": ["noticed noticed/journal"],
     "StateDirectoryMode": ["0700"],
     "WorkingDirectory": ["/var/lib/noticed"],
+    "ReadWritePaths": ["/run/noticed"],
+    "EnvironmentFile": ["-/etc/default/noticed"],
     "StandardError": ["journal"],
     "LogRateLimitIntervalSec": ["0"],
     "Restart": ["always"],
-    "KillMode": ["mixed"],
-    "KillSignal": ["SIGTERM"],
+    "RestartPreventExitStatus": ["2"],
     "NoNewPrivileges": ["yes"],
     "ProtectSystem": ["strict"],
     "RestrictAddressFamilies": ["AF_UNIX"],
 }
+WANTED_OF_SOCKET = {
+    "ListenStream": ["/run/noticed/socket"],
+    "SocketUser": ["noticed"],
+    "SocketGroup": ["noticed"],
+    "SocketMode": ["0660"],
+}
+EXPOSURE = 1.0  # what `systemd-analyze security` may say at most
 
 # Of the unit for Postfix: its account, that it is there before Postfix asks, and what it may get at.
 WANTED_OF_POSTFIX = {
@@ -132,65 +137,105 @@ class Machine:
         self.room.chmod(0o777)
         for folder in ("run", "var/lib"):
             (self.room / folder).mkdir(parents=True)
-        words = [
-            "make",
-            "--silent",
-            f"--old-file={program()}",
-            "install",
-            f"BUILT={program()}",
-            f"DESTDIR={self.room}",
-            "PREFIX=/usr/local",
-        ]
-        subprocess.run(words, cwd=ROOT, stdout=subprocess.DEVNULL, check=True, timeout=PATIENCE)
+        install(self.room)
+        self.starts, self.options = 0, ""
+        self.listener = socket.socket(socket.AF_UNIX)
+        self.manager = socket.socket(socket.AF_UNIX, socket.SOCK_DGRAM)
+        self.manager.settimeout(PATIENCE)
+
+    def __enter__(self):
+        """Makes what tmpfiles.d and the socket unit have."""
+        line = (self.room / "usr/local/lib/tmpfiles.d/noticed.conf").read_text().splitlines()[-1].split()
+        folder = self.path(line[1])
+        folder.mkdir(parents=True)
+        folder.chmod(int(line[2], 8))
+        self.listener.bind(str(self.socket))
+        self.socket.chmod(int(WANTED_OF_SOCKET["SocketMode"][0], 8))
+        self.listener.listen()
+        self.manager.bind(str(self.room / "notify"))
+        (self.room / "notify").chmod(0o777)
+        if self.account:
+            for it in (folder, self.socket):
+                os.chown(it, DAEMON, DAEMON)
+        return self
+
+    def __exit__(self, *_):
+        self.listener.close()
+        self.manager.close()
 
     def path(self, name: str) -> Path:
         """Where a path of the unit is on this machine."""
         return self.room / name.lstrip("/")
 
-    def here(self, command: str) -> list:
-        """The words of a command of the unit, with this machine's paths."""
-        return [re.sub(r"(?<![\w/])/(?=(run|var|usr/local)/)", f"{self.room}/", it) for it in words_of(command)]
+    def here(self, command: str, values: dict) -> list:
+        """The words of a command of the unit, with this machine's paths, and with these variables."""
+        words = []
+        for it in words_of(command.removeprefix("-")):
+            if re.fullmatch(r"\$\w+", it):
+                words += values.get(it[1:], "").split()
+            else:
+                words.append(re.sub(r"\$\{(\w+)\}", lambda found: values.get(found[1], ""), it))
+        return [re.sub(r"(?<![\w/])/(?=(run|var|etc|usr/local)/)", f"{self.room}/", it) for it in words]
 
     def one(self, key: str, default: str = "") -> str:
         """The value of a key that stands once."""
         return self.service.get(key, [default])[-1]
 
-    def output(self, key: str):
-        """What systemd makes of a standard output: it opens it before it makes the folders."""
-        kind, _, name = self.one(key, "journal").partition(":")
-        return open(self.path(name) if name else self.room / f"{kind}.{key}", "ab")
-
     def folders(self):
         """Makes the folders as systemd does, which sets the mode of one that is there too."""
-        for key, where in (("RuntimeDirectory", "run"), ("StateDirectory", "var/lib")):
-            folder = self.room / where / self.one(key)
+        for name in self.one("StateDirectory").split():
+            folder = self.room / "var/lib" / name
             folder.mkdir(exist_ok=True)
-            folder.chmod(int(self.one(f"{key}Mode", "0755"), 8))
+            folder.chmod(int(self.one("StateDirectoryMode", "0755"), 8))
             if self.account:
                 os.chown(folder, DAEMON, DAEMON)
+        # a short journal: a start is quick
+        for name, size in (("journal", 2**20), ("marks", 4096)):
+            path = self.room / "var/lib/noticed/journal" / name
+            if not path.exists():
+                path.write_bytes(bytes(size))
+                if self.account:
+                    os.chown(path, DAEMON, DAEMON)
 
-    def begin(self, command: str, main: int = 0) -> subprocess.Popen:
-        """Begins a command of the unit, in systemd's order, as that of this main process if one runs. FileNotFoundError
-        if systemd has status 209 or 200."""
-        with self.output("StandardOutput") as out, self.output("StandardError") as notes:
-            self.folders()
-            how = {"user": DAEMON, "group": DAEMON, "extra_groups": []} if self.account else {}
-            how |= {"umask": int(self.one("UMask", "0022"), 8), "start_new_session": True}
+    def begin(self, command: str) -> subprocess.Popen:
+        """Begins a command of the unit, in systemd's order, with the socket as its descriptor 3."""
+        self.folders()
+        # (the interpreter may lie where that account can't get to)
+        drop = ["setpriv", f"--reuid={DAEMON}", f"--regid={DAEMON}", "--clear-groups", "--"] if self.account else []
+        values = {"INVOCATION_ID": f"{self.starts:032x}", "NOTICED_OPTIONS": self.options}
+        words = [sys.executable, "-c", HANDS_ON, str(self.listener.fileno()), *drop, *self.here(command, values)]
+        with open(self.room / "journal", "ab") as journal:
             return subprocess.Popen(
-                self.here(command),
+                words,
                 stdin=subprocess.DEVNULL,
-                stdout=out,
-                stderr=notes,
+                stdout=journal,
+                stderr=journal,
                 cwd=self.path(self.one("WorkingDirectory")),
-                env={**os.environ, "MAINPID": str(main)},
-                **how,
+                env={**os.environ, "NOTIFY_SOCKET": str(self.room / "notify")},
+                pass_fds=[self.listener.fileno()],
+                umask=int(self.one("UMask", "0022"), 8),
             )
 
-    def start(self, command: str) -> subprocess.Popen:
-        """Runs what comes before the daemon, and begins this command."""
+    def start(self) -> subprocess.Popen:
+        """Runs what comes before the daemon, and begins it."""
+        self.starts += 1
         for before in self.service.get("ExecStartPre", []):
             self.begin(before).wait(timeout=PATIENCE)
-        return self.begin(command)
+        return self.begin(self.one("ExecStart"))
+
+    def started(self, checks: Checks) -> subprocess.Popen:
+        """A start, which is over once the daemon says so."""
+        daemon = self.start()
+        told = b""
+        with contextlib.suppress(TimeoutError):
+            while told != b"READY=1":
+                told = self.manager.recv(100)
+        checks.equal("the start is over", (told, daemon.poll()), (b"READY=1", None))
+        return daemon
+
+    def stop(self) -> int:
+        """Runs the command that stops the unit: its status."""
+        return self.begin(self.one("ExecStop")).wait(timeout=PATIENCE)
 
     @property
     def socket(self) -> Path:
@@ -205,8 +250,8 @@ class Machine:
         return [it.read_bytes() for it in sorted(self.outbox.parent.glob("outbox.*"))]
 
     def notes(self) -> bytes:
-        """What the daemon and its script wrote to the journal."""
-        return (self.room / "journal.StandardError").read_bytes()
+        """What the daemon wrote to the journal."""
+        return (self.room / "journal").read_bytes()
 
     def send(self, given: bytes = FRAMES, account: int = AGENT, groups=(DAEMON,)) -> Ran:
         """Runs `noticed send` as an account with these groups."""
@@ -217,35 +262,16 @@ class Machine:
 
     def shell(self, command: str, account: int) -> int:
         """The status of a shell's command as an account of the daemon's group."""
+        how = {"user": account, "group": account, "extra_groups": [DAEMON]} if self.account else {}
         words = ["sh", "-c", command]
-        return subprocess.run(
-            words,
-            cwd=self.room,
-            capture_output=True,
-            check=False,
-            timeout=PATIENCE,
-            user=account,
-            group=account,
-            extra_groups=[DAEMON],
-        ).returncode
+        ended = subprocess.run(words, cwd=self.room, capture_output=True, check=False, timeout=PATIENCE, **how)
+        return ended.returncode
 
 
-def listens(machine: Machine) -> bool:
-    """Whether a daemon listens on the socket."""
-    return is_listened_on(machine.socket)
-
-
-def is_next(machine: Machine, before: int) -> bool:
-    """Whether another outbox than that one has begun, and its run listens."""
-    try:
-        return machine.outbox.stat().st_ino != before and listens(machine)
-    except FileNotFoundError:
-        return False
-
-
-def mode_of(path: Path) -> str:
-    """A file's kind and mode, as `ls` writes it."""
-    return stat.filemode(path.lstat().st_mode)
+def install(room: Path):
+    """`make install` into a folder."""
+    words = ["make", "--silent", f"--old-file={program()}", "install", f"BUILT={program()}", f"DESTDIR={room}"]
+    subprocess.run([*words, "PREFIX=/usr/local"], cwd=ROOT, stdout=subprocess.DEVNULL, check=True, timeout=PATIENCE)
 
 
 def has_accounts(checks: Checks) -> bool:
@@ -260,51 +286,57 @@ def has_accounts(checks: Checks) -> bool:
         return False
 
 
+def mode_of(path: Path) -> str:
+    """A file's kind and mode, as `ls` writes it."""
+    return stat.filemode(path.lstat().st_mode)
+
+
 def check_keys(checks: Checks, sections: dict):
     """The sections, and the keys that the daemon leans on."""
     checks.equal("sections", list(sections), ["Unit", "Service", "Install"])
-    service = sections["Service"]
     for key, value in WANTED.items():
-        checks.equal(key, service.get(key), value)
-    checks.equal("the count of starts has no limit", sections["Unit"].get("StartLimitIntervalSec"), ["0"])
-    checks.true(
-        "a daemon that fails is started anew after seconds",
-        seconds_of(service["RestartSec"][0].replace("200ms", "0")) >= 2,
-    )
-    checks.true(
-        "a folder is made before it is written to",
-        not any("/noticed/" in it for it in service.get("StandardOutput", [])),
-    )
-    command = " ".join(service["ExecStart"])
-    for option in ("--idle 300", "--end-on-fault", "--log"):
-        checks.true(f"the daemon has {option}", f" {option}" in command)
+        checks.equal(key, sections["Service"].get(key), value)
+    unit = sections["Unit"]
+    checks.equal("the count of starts has no limit", unit.get("StartLimitIntervalSec"), ["0"])
+    checks.equal("its socket is there first", unit.get("Requires"), [SOCKET.name])
+    given = sections_of(SOCKET.read_text())["Socket"]
+    for key, value in WANTED_OF_SOCKET.items():
+        checks.equal(f"the socket: {key}", given.get(key), value)
+    commands = [it for key, values in sections["Service"].items() if key.startswith("Exec") for it in values]
+    programs = {words_of(it.lstrip("-"))[0] for it in commands}
+    checks.equal("no script runs", programs, {"/usr/bin/find", "/usr/local/bin/noticed"})
 
 
-def short(command: str) -> str:
-    """The unit's command with one agent of two connections in place of eight of five hundred."""
-    return command.replace(f"{HOST} 8 500", f"{HOST} 1 2")
+def check_instance(checks: Checks):
+    """The units of an instance are those of the daemon, with names of its own."""
+    for plain, template in ((UNIT, INSTANCE), (SOCKET, INSTANCE_SOCKET)):
+        told = [it for it in template.read_text().splitlines() if not it.startswith("#")]
+        text = "\n".join(it for it in plain.read_text().splitlines() if not it.startswith("#"))
+        for old, new in (
+            ("notices\n", "notices (%i)\n"),
+            ("noticed.socket", "noticed@%i.socket"),
+            ("/etc/noticed/noticed.conf", "/etc/noticed/%i.conf"),
+            ("/etc/default/noticed", "/etc/default/noticed-%i"),
+            ("/run/noticed/socket", "/run/noticed/%i.socket"),
+            ("noticed noticed/journal", "noticed noticed/%i noticed/%i/journal"),
+            ("/var/lib/noticed", "/var/lib/noticed/%i"),
+        ):
+            text = text.replace(old, new)
+        checks.equal(template.name, told, text.splitlines())
 
 
-def begun(checks: Checks, machine: Machine, command: str):
-    """The unit's first start, where nothing is there; None where it fails."""
-    try:
-        daemon = machine.start(command)
-    except FileNotFoundError as why:
-        checks.true(f"a first start on a machine with nothing there ({why})", False)
-        return None
-    checks.true(
-        "a first start on a machine with nothing there", until(lambda: listens(machine)) and daemon.poll() is None
-    )
-    return daemon
-
-
-def check_modes(checks: Checks, machine: Machine):
-    """Who may do what with the folders, the socket and the outbox."""
+def check_access(checks: Checks, machine: Machine):
+    """A first start as the unit has it, and who can do what then."""
+    daemon = machine.started(checks)
     paths = [machine.socket.parent, machine.socket, machine.outbox.parent, machine.outbox]
-    checks.equal("modes", [mode_of(it) for it in paths], ["drwxr-x---", "srwxrwx---", "drwx------", "-rw-------"])
+    checks.equal("modes", [mode_of(it) for it in paths], ["drwxr-x---", "srw-rw----", "drwx------", "-rw-------"])
+    checks.equal("an agent's account sends a message", machine.send(), Ran(NOTES, b"", 0))
     if machine.account:
         checks.equal("owners", {(it.stat().st_uid, it.stat().st_gid) for it in paths}, {(DAEMON, DAEMON)})
         checks.equal("an account that isn't in the group", machine.send(account=STRANGER, groups=[]).status, 1)
+        check_others(checks, machine)
+    checks.equal("the daemon is still there", daemon.poll(), None)
+    checks.equal("the stop, and the daemon's status", (machine.stop(), daemon.wait(timeout=PATIENCE)), (0, 0))
 
 
 def check_others(checks: Checks, machine: Machine):
@@ -316,6 +348,7 @@ def check_others(checks: Checks, machine: Machine):
         "remove the socket": f"rm {machine.socket}",
         "move the socket": f"mv {machine.socket} {machine.socket}.stopping",
         "put a file beside the socket": f": > {machine.socket}.mine",
+        "lock the run's file": f"flock --nonblock {machine.socket}.run true",
         "stop the daemon": f"{machine.room}/usr/local/bin/noticed stop {machine.socket}",
     }
     for what, command in tries.items():
@@ -323,260 +356,63 @@ def check_others(checks: Checks, machine: Machine):
     checks.true("the daemon's account can read the outbox", machine.shell(f"cat {machine.outbox}", DAEMON) == 0)
 
 
-def check_access(checks: Checks, machine: Machine, command: str):
-    """A first start as the unit has it, and who can do what then."""
-    daemon = begun(checks, machine, command)
-    if not daemon:
-        return
-    try:
-        check_modes(checks, machine)
-        checks.equal("an agent's account sends a message", machine.send(), Ran(NOTES, b"", 0))
-        if machine.account:
-            check_others(checks, machine)
-        checks.true("the daemon is still there", daemon.poll() is None and listens(machine))
-    finally:
-        daemon.send_signal(signal.SIGTERM)
-        daemon.wait(timeout=PATIENCE)
-
-
-def check_journal_folder(checks: Checks, machine: Machine, _: str):
-    """The command of docs/DEPLOY.md makes the journal's folder for the daemon's account alone, and changes nothing to
-    which a link of that account leads."""
-    if not machine.account:
-        return
-    machine.folders()
-    made, victim = machine.path("/var/lib/noticed/journal"), machine.room / "victim"
-    as_account = f"setpriv --reuid={DAEMON} --regid={DAEMON} --clear-groups --"
-    words = machine.here(deploy_block("runuser -u noticed -- mkdir").replace("runuser -u noticed --", as_account))
-    status = subprocess.run(words, check=False, timeout=PATIENCE).returncode
-    checks.equal("the journal's folder", (status, made.stat().st_uid, mode_of(made)), (0, DAEMON, "drwx------"))
-    made.rmdir()
-    victim.mkdir(mode=0o755)
-    made.symlink_to(victim)
-    status = subprocess.run(words, capture_output=True, check=False, timeout=PATIENCE).returncode
-    checks.true("a link in its place is no success", status)
-    checks.equal("where the link leads", (victim.stat().st_uid, mode_of(victim)), (0, "drwxr-xr-x"))
-
-
-def check_runs(checks: Checks, machine: Machine, command: str):
-    """Two runs to their last connections, each with an outbox of its own, and the next begins at once; then a stop."""
-    daemon = begun(checks, machine, short(command))
-    if not daemon:
-        return
-    try:
-        for runs in (1, 2):
-            first = machine.outbox.stat().st_ino
-            checks.equal("an agent's account sends a message", machine.send(), Ran(NOTES, b"", 0))
-            checks.equal("the run's last connection", machine.send(b""), Ran(b"", b"", 0))
-            checks.true("the next run begins", until(lambda: is_next(machine, first)))
-            checks.equal("the outboxes of runs before", machine.outboxes(), [OUTBOX] * runs)
-        check_stop(checks, machine, daemon)
-    finally:
-        daemon.kill()
-        daemon.wait()
-
-
-def check_stop(checks: Checks, machine: Machine, daemon: subprocess.Popen):
-    """A signal to the script ends the run in order: its outbox has its QUIT, and what is open is named."""
+def check_runs(checks: Checks, machine: Machine):
+    """Two runs to their last connections, each with an outbox of its own; then a stop, and a kill."""
+    for runs in (1, 2):
+        machine.options = ""
+        (machine.path("/etc/noticed/noticed.conf")).write_text(
+            "host = mx.example.net\nagents = 1\nmax-use = 2\njournal = journal\noutbox = outbox\n"
+        )
+        daemon = machine.started(checks)
+        frames = FRAMES.replace(b"A1B2C3", b"A1B2C%d" % runs)
+        checks.equal("an agent's account sends a message", machine.send(frames).status, 0)
+        checks.equal("the run's last connection", machine.send(b""), Ran(b"", b"", 0))
+        checks.equal("the run ends", daemon.wait(timeout=PATIENCE), 0)
+        checks.equal("the outboxes of runs before", len(machine.outboxes()), runs - 1)
+        checks.equal("systemd's command after it", machine.stop(), 1)
+    machine.options = "--end-on-fault --log"
+    daemon = machine.started(checks)
+    checks.equal("two outboxes", [it.count(b"\r\nMessage-ID: ") for it in machine.outboxes()], [1, 1])
     checks.equal("an outcome that nobody flushes", machine.send(FRAMES[:FIRST_FRAME]).outbox, b"0 logged 0\n")
-    daemon.send_signal(signal.SIGTERM)
-    checks.equal("the status of an orderly stop", daemon.wait(timeout=PATIENCE), 0)
+    checks.equal("an orderly stop", (machine.stop(), daemon.wait(timeout=PATIENCE)), (0, 0))
     checks.equal("the outbox of a run that was stopped", machine.outbox.read_bytes(), empty_outbox())
     checks.true("what is open is named", b"open B A1B2C3 1\n" in machine.notes())
-    checks.equal("no socket is left", sorted(it.name for it in machine.socket.parent.iterdir()), [])
+    checks.true("options of the environment", b"\nending: the run was stopped\n" in machine.notes())
+    daemon = machine.started(checks)
+    daemon.kill()
+    daemon.wait()
+    daemon = machine.started(checks)
+    checks.equal("after a kill, the log is kept", machine.send(FRAMES[:FIRST_FRAME]).outbox, b"0 logged 1\n")
+    checks.equal("the stop", (machine.stop(), daemon.wait(timeout=PATIENCE)), (0, 0))
+    checks.true("an outbox with nothing in it isn't kept", all(machine.outboxes()))
+    checks.equal("the socket's folder", [it.name for it in machine.socket.parent.iterdir()], ["socket"])
 
 
-def end_of(machine: Machine, command: str):
-    """Starts the unit and waits for its end: the status, or why it could not be started, or that it goes on."""
-    try:
-        daemon = machine.start(command)
-    except OSError as why:
-        return why
-    if not until(lambda: daemon.poll() is not None):
-        daemon.send_signal(signal.SIGTERM)
-        daemon.wait(timeout=PATIENCE)
-        return "it went on"
-    return daemon.returncode
-
-
-def stand_in(machine: Machine, script: str):
-    """Puts a shell's script in the place of the program."""
-    path = machine.room / "usr/local/bin/noticed"
-    path.unlink()
-    path.write_text(f"#!/bin/sh\n{script}\n")
-    path.chmod(0o755)
-
-
-def check_failures(checks: Checks, machine: Machine, command: str):
-    """A run that fails ends the script with its status, and the next begins after one of status 0."""
-    machine.socket.mkdir(parents=True)
-    checks.equal("a folder has the socket's name", end_of(machine, command), 1)
-    machine.socket.rmdir()
-    machine.socket.write_bytes(b"mine")
-    checks.equal("a file has the socket's name", end_of(machine, command), 1)
-    checks.equal("and is left as it is", machine.socket.exists() and machine.socket.read_bytes(), b"mine")
-    machine.socket.unlink(missing_ok=True)
-    mark = machine.room / "mark"
-    for says, status, wanted in (("echo said", 1, 1), ("", 3, 3), ("", 0, 4), ("kill -9 $$", 0, 137)):
-        mark.unlink(missing_ok=True)
-        stand_in(machine, f"test -e {mark} && exit 4\n: > {mark}\n{says}\nexit {status}")
-        checks.equal(f"a run of status {status} {says}", end_of(machine, command), wanted)
-    checks.equal("an outbox with nothing in it isn't kept", machine.outboxes(), [b"said\n"])
-
-
-def stand_in_daemon(machine: Machine, before: str = "", after: str = ""):
-    """Puts a shell script in the place of the program; it ends once its socket is removed, and does more. A shell can't
-    make a socket: it gives one that was made here another name."""
-    made = machine.room / "made"
-    if not made.exists():
-        with socket.socket(socket.AF_UNIX) as it:
-            it.bind(str(made))
-        if machine.account:
-            os.chown(made, DAEMON, DAEMON)
-    finds_it = "for it; do case $it in */socket) socket=$it ;; esac; done"
-    stand_in(
-        machine,
-        f'test "$1" = serve || exit 9\n{finds_it}\n{before}\nln {made} "$socket"\n'
-        f'while test -e "$socket"; do sleep 0.05; done\n{after}',
-    )
-
-
-def handles(process: subprocess.Popen) -> bool:
-    """Whether a process handles SIGTERM by now."""
-    found = re.search(r"^SigCgt:\s*(\w+)", Path(f"/proc/{process.pid}/status").read_text(encoding="ascii"), re.M)
-    return bool(int(found[1], 16) >> (signal.SIGTERM - 1) & 1)
-
-
-def is_free(machine: Machine) -> bool:
-    """Whether nobody holds the lock: the script has ended, and its daemon."""
-    words = ["flock", "--nonblock", str(machine.outbox.parent / "lock"), "true"]
-    return subprocess.run(words, check=False, timeout=PATIENCE).returncode == 0
-
-
-def check_second(checks: Checks, machine: Machine, command: str):
-    """No daemon begins beside another in one folder, and one that is slow to end is waited for, not killed."""
-    stand_in_daemon(machine, after="sleep 6\necho ended")
-    try:
-        daemon = machine.start(command)
-    except OSError as why:
-        checks.true(f"a first script ({why})", False)
-        return
-    try:
-        checks.true("a run that says nothing", until(machine.socket.exists))
-        checks.equal("a second script in the same folder", end_of(machine, command), 1)
-        checks.true("says why", b"another daemon has its outbox in " in machine.notes())
-    finally:
-        daemon.send_signal(signal.SIGTERM)
-        checks.equal("a run that takes six seconds to end", daemon.wait(timeout=PATIENCE), 0)
-    checks.equal("it came to its end", (machine.outbox.read_bytes(), is_free(machine)), (b"ended\n", True))
-
-
-def check_statuses(checks: Checks, machine: Machine, command: str):
-    """The status of a script that was stopped is that of its run, which may have failed before the signal or after it;
-    and a daemon that has its socket late is ended all the same."""
-    for status in (0, 1, 3, 128 + signal.SIGKILL):
-        stand_in_daemon(machine, after=f"exit {status}" if status < 128 else "kill -KILL $$")
-        daemon = machine.start(command)
-        checks.true("a run to be stopped", until(machine.socket.exists))
-        daemon.send_signal(signal.SIGTERM)
-        checks.equal(f"a stop of a run that ends with {status}", daemon.wait(timeout=PATIENCE), status)
-        stand_in_daemon(machine, after=f"exit {status}")
-        if status in (1, 3):
-            daemon = machine.start(command)
-            checks.true("a run that fails", until(machine.socket.exists))
-            machine.socket.unlink()
-            daemon.send_signal(signal.SIGTERM)
-            checks.equal(f"a run that fails with {status} as it is stopped", daemon.wait(timeout=PATIENCE), status)
-    mark = machine.outbox.parent / "mark"
-    stand_in_daemon(machine, before=f": > {mark}\nsleep 1")
-    daemon = machine.start(command)
-    checks.true("a run that has no socket yet", until(mark.exists))
-    daemon.send_signal(signal.SIGTERM)
-    checks.equal("a stop of a run that has no socket yet", daemon.wait(timeout=PATIENCE), 0)
-    checks.true("nothing is left", is_free(machine) and not machine.socket.exists())
-
-
-def check_moments(checks: Checks, machine: Machine, command: str):
-    """A signal at any moment, also between two runs, ends the script with status 0, and no daemon is left."""
-    dice = random.Random(20261125)
-    for what in ("exit 0", ""):
-        stand_in_daemon(machine, before=what)
-        ends = []
-        for _ in range(15):
-            daemon = machine.start(command)
-            checks.true("the script handles signals", until(lambda: handles(daemon)))
-            time.sleep(dice.random() / 20)
-            daemon.send_signal(signal.SIGTERM)
-            ends.append((daemon.wait(timeout=PATIENCE), is_free(machine)))
-        checks.equal(f"stops at any moment {what}", ends, [(0, True)] * 15)
-
-
-def check_started(checks: Checks, machine: Machine, command: str):
-    """The unit's start is over once the daemon has its socket, or has ended; a socket that was left isn't one."""
-    waits = machine.service.get("ExecStartPost", [])
-    checks.equal("commands after the start", len(waits), 1)
-    if not waits:
-        return
-    machine.folders()
-    with socket.socket(socket.AF_UNIX) as it:
-        it.bind(str(machine.socket))
-    stand_in_daemon(machine, before="sleep 1")
-    began, daemon = time.monotonic(), machine.start(command)
-    waited = machine.begin(waits[0], daemon.pid).wait(timeout=PATIENCE)
-    checks.equal("the start of a daemon whose socket is late", (waited, machine.socket.exists()), (0, True))
-    checks.true("it waited for the daemon's own socket", time.monotonic() - began >= 1)
-    daemon.send_signal(signal.SIGTERM)
-    checks.equal("its stop", daemon.wait(timeout=PATIENCE), 0)
-    stand_in(machine, "exit 3")
-    daemon = machine.start(command)
-    checks.equal("a daemon that ends", daemon.wait(timeout=PATIENCE), 3)
-    began, waited = time.monotonic(), machine.begin(waits[0], daemon.pid).wait(timeout=PATIENCE)
-    checks.equal("its start is over at once", (waited, time.monotonic() - began < 10), (0, True))
-
-
-def check_all_signalled(checks: Checks, machine: Machine, command: str):
-    """A signal to the daemon alone does nothing; one to all processes ends the run in order, unless it asks for no
-    end."""
-    for it in (signal.SIGTERM, signal.SIGINT, signal.SIGHUP):
-        script = begun(checks, machine, command)
-        if not script:
-            return
-        try:
-            checks.equal(
-                f"{it.name}: an outcome that nobody flushes", machine.send(FRAMES[:FIRST_FRAME]).outbox, b"0 logged 0\n"
-            )
-            for child in Path(f"/proc/{script.pid}/task/{script.pid}/children").read_text(encoding="ascii").split():
-                os.kill(int(child), it)
-            for other in (signal.SIGUSR1, signal.SIGUSR2, signal.SIGALRM):
-                os.killpg(script.pid, other)
-            checks.equal(
-                f"{it.name} to the daemon does nothing, nor USR1, USR2 and ALRM to all",
-                machine.send(FRAMES[:FIRST_FRAME]).outbox,
-                b"0 logged 1\n",
-            )
-            os.killpg(script.pid, it)
-            checks.equal(f"{it.name} to all processes: the status", script.wait(timeout=PATIENCE), 0)
-            checks.equal(f"{it.name} to all processes: the outbox", machine.outbox.read_bytes(), empty_outbox())
-        finally:
-            script.kill()
-            script.wait()
-    checks.equal("what is open is named each time", machine.notes().count(b"open B A1B2C3 2\n"), 3)
+def check_wrong(checks: Checks, machine: Machine):
+    """A wrong value ends the start with the status at which systemd tries no more."""
+    machine.path("/etc/noticed/noticed.conf").write_text("host = mx.example.net\nagent = 1\n")
+    daemon = machine.start()
+    checks.equal("a wrong key", str(daemon.wait(timeout=PATIENCE)), machine.one("RestartPreventExitStatus"))
+    checks.true("is named with its line", b"noticed.conf:2: has an unknown key: 'agent'\n" in machine.notes())
 
 
 def check_installed(checks: Checks, machine: Machine, *commands: str):
     """`make install` puts the units there, each file that they name, and what the pages for operators name."""
-    named = [it for command in commands for it in words_of(command) if it.startswith("/usr/local/")]
+    named = [it for command in commands for it in words_of(command) if it.startswith(("/usr/local/", "/etc/noticed/"))]
     checks.equal(
         "files that the units name and that aren't installed",
         [it for it in named if not machine.path(it).is_file()],
         [],
     )
-    units, folder = (UNIT, FEEDER, POSTFIX, SOCKETS), machine.path("/usr/local/share/doc/noticed")
-    checks.equal("units that aren't installed", [it.name for it in units if not (folder / it.name).is_file()], [])
+    units, folder = machine.path("/usr/local/lib/systemd/system"), machine.path("/usr/local/share/doc/noticed")
+    wanted = {it.name for kind in ("service", "socket") for it in EXAMPLES.glob(f"noticed*.{kind}")}
+    checks.equal("units that are installed", {it.name for it in units.iterdir()}, wanted)
+    places = [units, folder, *(machine.path(f"/usr/local/{it}") for it in ("libexec/noticed", "lib/sysusers.d"))]
+    places += [machine.path("/usr/local/lib/tmpfiles.d"), machine.path("/etc/noticed")]
     for page in ("DEPLOY.md", "FEEDER.md"):
         text = (folder / page).read_text()
-        there = {it.name for it in folder.iterdir()}
-        files = set(re.findall(r"(?<![\w/.-])[\w-]+\.(?:py|sh|service|socket|c|frames|md)\b", text))
+        there = {it.name for place in places for it in place.iterdir()}
+        files = set(re.findall(r"(?<![\w/.@-])[\w-]+\.(?:py|sh|conf|service|socket|c|frames|md)\b", text))
         checks.equal(f"files that {page} names and that aren't installed", sorted(files - there - OF_OTHERS), [])
         elsewhere = re.findall(r"(?<![\w/])(?:docs|examples|tests|bench|crates)[/.]\w+", text)
         checks.equal(f"places of the repository that {page} names", elsewhere, [])
@@ -650,67 +486,48 @@ def check_inherits(checks: Checks, words: list, folder: str, paths: list):
         checks.equal("for Postfix: SIGTERM ends it", serving.wait(timeout=PATIENCE), -signal.SIGTERM)
 
 
-def check_verify(checks: Checks, name: str, text: str, **others: str):
-    """What systemd itself says of a unit, beside others, each by its kind."""
+def check_verify(checks: Checks, room: Path):
+    """What systemd itself says of the installed units, and how exposed it finds the services."""
     if not shutil.which("systemd-analyze"):
-        checks.skip("systemd-analyze verify (needs systemd)")
+        checks.skip("systemd-analyze (needs systemd)")
         return
-    with tempfile.TemporaryDirectory() as room:
-        unit = Path(room) / name
-        unit.write_text("\n".join(it for it in text.splitlines() if not it.startswith("Documentation=")) + "\n")
-        for kind, it in others.items():
-            unit.with_suffix(f".{kind}").write_text(it)
-        words = ["systemd-analyze", "verify", "--man=no", str(unit)]
-        verified = subprocess.run(
-            words, capture_output=True, text=True, check=False, timeout=60, env={**os.environ, "LC_ALL": "C"}
-        )
-        checks.equal(
-            f"systemd-analyze verify {name}", (verified.returncode, verified.stdout + verified.stderr), (0, "")
-        )
+    how = {"capture_output": True, "text": True, "check": False, "timeout": PATIENCE}
+    how["env"] = {**os.environ, "LC_ALL": "C"}
+    folder = room / "units"
+    folder.mkdir()
+    for it in (room / "usr/local/lib/systemd/system").iterdir():
+        # (systemd asks for the program and the manual page where `make install` puts them)
+        text = it.read_text().replace("/usr/local/bin/noticed ", f"{program()} ")
+        text = re.sub(r"^Documentation=.*\n", "", text, flags=re.M)
+        (folder / it.name.replace("@.", "@west.")).write_text(text)
+    (folder / f"set.{FEEDER.name}").write_text(OPTION.sub("", (folder / FEEDER.name).read_text()))
+    for it in sorted(folder.iterdir()):
+        verified = subprocess.run(["systemd-analyze", "verify", "--man=no", str(it)], **how)
+        checks.equal(f"verify {it.name}", (verified.returncode, verified.stdout + verified.stderr), (0, ""))
+    for name in ("noticed.service", "noticed@west.service"):
+        words = ["systemd-analyze", "security", "--offline=true", "--no-pager", str(folder / name)]
+        said = subprocess.run(words, **how).stdout
+        level = re.search(r"exposure level for \S+: ([\d.]+)", said)
+        checks.true(f"security {name}: {level and level[1]}", level and float(level[1]) <= EXPOSURE)
 
 
 def main():
     checks = Checks("unit: the systemd units of examples/, and the steps of the daemon's without systemd")
-    for it in (signal.SIGINT, signal.SIGHUP):  # in the background of a shell, or under nohup, one is ignored
-        signal.signal(it, signal.SIG_DFL)  # and a shell can't trap a signal that was ignored when it began
-    text = UNIT.read_text()
-    sections = sections_of(text)
+    sections = sections_of(UNIT.read_text())
     account = has_accounts(checks)
     check_keys(checks, sections)
-    (command,) = sections["Service"]["ExecStart"]
-    for check in (
-        check_access,
-        check_journal_folder,
-        check_runs,
-        check_failures,
-        check_second,
-        check_statuses,
-        check_moments,
-        check_started,
-        check_all_signalled,
-    ):
+    check_instance(checks)
+    for check in (check_access, check_runs, check_wrong):
         with tempfile.TemporaryDirectory(prefix="noticed-") as name:
-            check(checks, Machine(Path(name), sections["Service"], account), command)
+            with Machine(Path(name), sections["Service"], account) as machine:
+                check(checks, machine)
     with tempfile.TemporaryDirectory(prefix="noticed-") as name:
-        check_installed(
-            checks,
-            Machine(Path(name), sections["Service"], account),
-            command,
-            *(it for unit in (FEEDER, POSTFIX) for it in sections_of(unit.read_text())["Service"]["ExecStart"]),
-        )
+        machine = Machine(Path(name), sections["Service"], account)
+        commands = [sections_of(it.read_text())["Service"]["ExecStart"][0] for it in (UNIT, FEEDER, POSTFIX)]
+        check_installed(checks, machine, *commands)
+        check_verify(checks, machine.room)
     check_feeder(checks, sections)
     check_postfix(checks)
-    feeder = FEEDER.read_text()
-    # (that of Postfix names the program where `make install` puts it, which systemd asks for)
-    postfix = POSTFIX.read_text().replace("/usr/local/bin/noticed ", f"{program()} ")
-    for name, it in (
-        (UNIT.name, text),
-        (FEEDER.name, feeder),
-        (f"set.{FEEDER.name}", OPTION.sub("", feeder)),
-    ):
-        check_verify(checks, name, it)
-    check_verify(checks, POSTFIX.name, postfix, socket=SOCKETS.read_text())
-    check_verify(checks, SOCKETS.name, SOCKETS.read_text(), service=postfix)
     checks.done()
 
 

@@ -14,8 +14,9 @@ use noticed_lib::{
     JournalFolder, JournaledEnd, ServeEnd, Serving, SocketWatch, Watch, WatchOptions,
     WatchedOutbox, WatchedPaths, serve_journaled, serve_watched,
 };
+use std::fs::Files;
 use std::io;
-use std::io::BufWriter;
+use std::io::{BufWriter, Eprint};
 use std::os::unix::net::UnixListener;
 use std::sync::Wait;
 use std::thread::Threads;
@@ -23,7 +24,7 @@ use std::time::Clock;
 
 /// Runs `serve` over a socket that it makes or inherits, and returns its status. Only in `main` may
 /// the runtime start threads and wait, so `waiting` passes it again with these rights.
-pub(crate) fn run_serve<R: Threads + Wait + Clock + Sync>(
+pub(crate) fn run_serve<R: Threads + Wait + Clock + Files + Eprint + Env + AllocGlobal + Sync>(
     rt: &HostRuntime,
     waiting: &R,
     arguments: ServeArguments,
@@ -65,7 +66,7 @@ pub(crate) fn run_serve<R: Threads + Wait + Clock + Sync>(
         socket: &socket,
         run_file: run_file.path(),
     };
-    let (listener, watch) = match listen(rt, inherited, paths, options) {
+    let (listener, watch) = match listen(rt, waiting, inherited, paths, options) {
         Ok(listening) => listening,
         Err(error) => return Ok(print_socket_fault(rt, &socket, &error)),
     };
@@ -155,17 +156,18 @@ fn run_file_at(rt: &HostRuntime, socket: &str, inherits: bool) -> io::Result<Run
 }
 
 /// The inherited socket, or one that is made at its path, and the watch over it.
-fn listen<'a>(
-    rt: &'a HostRuntime,
+fn listen<'a, R: Files + Eprint + Clock + Wait + Env + AllocGlobal>(
+    rt: &HostRuntime,
+    waiting: &'a R,
     inherited: Option<UnixListener>,
     paths: WatchedPaths<'a>,
     options: WatchOptions,
-) -> io::Result<(UnixListener, SocketWatch<'a, HostRuntime>)> {
+) -> io::Result<(UnixListener, SocketWatch<'a, R>)> {
     let listener = match inherited {
         Some(listener) => listener,
         None => make_socket(rt, paths.socket)?,
     };
-    let watch = SocketWatch::new(rt, &listener, paths, options, service_manager(rt))?;
+    let watch = SocketWatch::new(waiting, rt.alloc(), &listener, paths, options, service_manager(rt))?;
     Ok((listener, watch))
 }
 

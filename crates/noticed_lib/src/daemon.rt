@@ -1,10 +1,15 @@
 //! The run of the daemon: a crew of agents that serve connections, and the notes of its result.
 mod agent_lines;
+mod answer_counts;
+mod board;
 mod journal_folder;
 mod journal_start;
 mod journaled_end;
+mod key_gauge;
 mod log_line;
 mod no_watch;
+mod observer;
+mod open_logs;
 mod run_notes;
 mod serve_end;
 mod serve_over_journal;
@@ -15,9 +20,11 @@ mod serving;
 mod severity;
 mod socket_port;
 mod socket_watch;
+mod status_text;
 mod watch;
 mod watch_gate;
 mod watched_connection;
+mod watched_keeper;
 mod watched_outbox;
 
 pub use journal_folder::JournalFolder;

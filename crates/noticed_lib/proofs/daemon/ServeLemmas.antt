@@ -1,23 +1,26 @@
 -- Serve: a run over ports of which nothing is seen but their uses.
 use Rattle.std.proofs.Common.{◌≡◌, ℕ, suc, ◌<◌, ◌≤◌, ◌⊎◌, List, [], ◌∷◌, All, length, replicate, false, inl, inr, refl, subst, arith}
+use Rattle.std.proofs.KnownBytes.{Appends-nil}
 use Rattle.std.proofs.lemmas.List.{length-replicate}
 use Rattle.std.proofs.lemmas.List.Elements.{All-cons, All-head, All-nil, All-tail}
 use Rattle.std.specs.Prelude.{None}
 use Rattle.dsn_book.specs.Keeper.{book_keeper}
 use Rattle.dsn_book.specs.Release.{Rules, releasing_none}
 use Rattle.dsn_book.specs.declared.keeper.Keeper.{Ghosts as Keeper}
+use Rattle.dsn_crew.specs.KeeperHistory.{IsEarlier}
 use Rattle.dsn_crew.specs.agents.Agent.{LaneHalves}
 use Rattle.dsn_crew.specs.agents.Port.{AreOverPort, Given, all_given}
 use Rattle.dsn_crew.specs.Crew.{Account, AreAgentAccounts, IsAccountAfter, IsAgentAccount, PostedBefore, most_ports, none_posted}
 use Rattle.dsn_crew.specs.declared.crew_cause.CrewCause.{CrewCause}
-use Rattle.dsn_crew.specs.declared.crew_cause.CrewCause.TheVariants.{PortCount, Unkept}
+use Rattle.dsn_crew.specs.declared.crew_cause.CrewCause.TheVariants.{PortCount, Refused, Unkept}
 use Rattle.dsn_crew.specs.declared.agents.agent_line.AgentLine.{AgentLine}
 use Rattle.dsn_crew.specs.declared.agents.port.Port.{Ghosts as Port}
+use Rattle.dsn_device.proofs.ThroughoutLemmas.{stands_still}
 use Rattle.dsn_device.specs.declared.drain.Drain.{Ghosts as Drain}
 use Rattle.dsn_journal.specs.MarkedOutbox.{MarkedOutbox}
 use Rattle.dsn_ledger.specs.OpenLedger.{Ledger, rules_of}
 use Rattle.dsn_journal.specs.declared.disk.Disk
-use Rattle.dsn_outcome.specs.History.{Limits, Exchange, history_of, sealed_letters}
+use Rattle.dsn_outcome.specs.History.{Limits, Exchange, answers_after, answers_to, history_of, sealed_letters}
 use Rattle.dsn_outcome.specs.Letter.{Letter}
 use Rattle.dsn_outcome.specs.Request.{Request}
 use Rattle.dsn_report.specs.Outgoing.{Outgoing}
@@ -158,6 +161,29 @@ serve-refused may_end uses drain notes_device host limits agents start notes lat
 pub no_crew : (agents : ℕ) → (1 ≤ agents) × (agents ≤ most_ports) → (agents ≡ 0) ⊎ (most_ports < agents) → ⊥
 no_crew agents crew (inl none) = omega (arith, crew.0, none)
 no_crew agents crew (inr more) = omega (arith, crew.1, more)
+
+-- nothing is answered in no history
+pub none_earlier : IsEarlier []
+unfolding answers_after answers_to
+none_earlier agent few = refl
+
+-- a run over ports that are too many or too few, or whose book found no memory
+pub no-book : {P S W N : Type 0} (port : Port P S) (drain : Drain W) (notes_device : Drain N) (host : List ℕ) (limits : Limits) (ports : List P) (start : W) (notes later : N) (end : ServeEnd W) (cause : CrewCause) → HasNoPorts (length ports) cause → WritesFault notes_device cause start [] notes later end
+    → IsServe port drain notes_device host limits ports start notes later end
+no-book port drain notes_device host limits ports start notes later end cause (inl count) noted = inr (record {
+  fault = record { cause = PortCount; outbox = start; unsent = []; book = None; taken = []; behind = [] };
+  crew = (refl, refl, refl, refl);
+  counted = (λ is. count.1, λ is. refl);
+  kept = λ why same. let never : PortCount ≡ Unkept why = same in cc;
+  noted = subst (λ (it : CrewCause). WritesFault notes_device it start [] notes later end) count.0 noted;
+})
+no-book port drain notes_device host limits ports start notes later end cause (inr refused) noted = inr (record {
+  fault = record { cause = Refused; outbox = start; unsent = []; book = None; taken = []; behind = [] };
+  crew = inl (record { taken = refl; behind = refl; unsent = refl; outbox = record { nothing = Appends-nil (drain.contents start); failures = refl; flushes = refl; marked = refl; no_moment = stands_still } });
+  counted = (λ is. absurd (let never : Refused ≡ PortCount = is in cc), λ few. absurd (no_crew (length ports) (refused.1, refused.2) few));
+  kept = λ why same. let never : Refused ≡ Unkept why = same in cc;
+  noted = subst (λ (it : CrewCause). WritesFault notes_device it start [] notes later end) refused.0 noted;
+})
 
 -- a run over a socket whose agents get no ports
 module _ {W N : Type 0} (may_end : Type 0) (uses : ℕ) (drain : Drain W) (notes_device : Drain N) (host : List ℕ) (limits : Limits) (agents : ℕ) (start : W) (notes later : N) (end : ServeEnd W) where

@@ -12,6 +12,8 @@ ghost use Rattle.noticed_lib.specs.inner.Daemon.{BeginsAnew, IsNoStartOverLedger
 ghost use Rattle.noticed_lib.specs.daemon.Journaled.{IsNoStart, IsStartOver, LeavesStart};
 
 use crate::daemon::journal_folder::JournalFolder;
+use crate::daemon::watch::Watch;
+use crate::daemon::watched_keeper::report_held;
 use dsn_book::Limits;
 use dsn_device::Drain;
 use dsn_journal::{CountedOutbox, MarkCount, MarkedOutbox, Marks, Replaceable};
@@ -69,7 +71,7 @@ impl<W: Drain, D: Replaceable + Drop, M: Replaceable + Drop> NotStarted<W, D, M>
 
 /// Opens the marks and the ledger of a folder, posts the letters of earlier runs that no mark
 /// counts, and replaces the journal by a shorter one. The count is notified of the mark, and of each
-/// letter that is marked then and in the run.
+/// letter that is marked then and in the run, the watch of the keys that are held then.
 ///
 /// The numbers are those of [`Marks::open`] and of [`open`]; then 31 if the outbox fails, or a
 /// letter could not be marked; then those of a journal that could not be replaced.
@@ -78,6 +80,7 @@ pub(crate) fn start_over<
     D: Replaceable + Drop,
     M: Replaceable + Drop,
     C: MarkCount + Copy,
+    H: Watch,
 >(
     alloc: Global,
     site: Site,
@@ -85,6 +88,7 @@ pub(crate) fn start_over<
     outbox: W,
     folder: JournalFolder<D, M>,
     count: C,
+    watch: &H,
 ) -> Result<JournalStart<W, D, M, C>, NotStarted<W, D, M>>
     ensures start { IfOk result (λ start. IsStartOver D.Disk M.Disk W.Drain site limits
         folder.journal folder.marks outbox start.keeper start.outgoing) }
@@ -110,7 +114,7 @@ pub(crate) fn start_over<
         Ok(opened) => {
             count.note(mark);
             let outbox = CountedOutbox::new(MarkedOutbox::new(alloc, outbox, marks), count);
-            start_over_ledger(alloc, site, outbox, opened, mark, count)
+            start_over_ledger(alloc, site, outbox, opened, mark, count, watch)
         }
         Err(left) => {
             let code = left.cause.code();
@@ -125,13 +129,20 @@ pub(crate) fn start_over<
 }
 
 /// Posts the letters of a ledger that was opened under this mark, and puts its journal away.
-fn start_over_ledger<W: Drain, D: Replaceable + Drop, M: Replaceable + Drop, C: MarkCount + Copy>(
+fn start_over_ledger<
+    W: Drain,
+    D: Replaceable + Drop,
+    M: Replaceable + Drop,
+    C: MarkCount + Copy,
+    H: Watch,
+>(
     alloc: Global,
     site: Site,
     outbox: CountedOutbox<MarkedOutbox<W, M>, C>,
     opened: Opened<D>,
     mark: u64,
     count: C,
+    watch: &H,
 ) -> Result<JournalStart<W, D, M, C>, NotStarted<W, D, M>>
     requires awaits { AwaitsRequests D.Disk opened.ledger [] }
     requires settled { opened.ledger.settled ≡ true }
@@ -165,10 +176,13 @@ fn start_over_ledger<W: Drain, D: Replaceable + Drop, M: Replaceable + Drop, C: 
         return Err(NotStarted::after(fault_code::OUTBOX_WRITE, outgoing, ledger));
     }
     match ledger.compact_all_marked(alloc, all) {
-        Ok(true) => Ok(JournalStart {
-            outgoing,
-            keeper: keeper_over(alloc, ledger, count),
-        }),
+        Ok(true) => {
+            report_held(watch, ledger.book().entries());
+            Ok(JournalStart {
+                outgoing,
+                keeper: keeper_over(alloc, ledger, count),
+            })
+        }
         Ok(false) => Err(NotStarted::after(fault_code::JOURNAL_FULL, outgoing, ledger)),
         Err(error) => Err(NotStarted::after(error.code(), outgoing, ledger)),
     }

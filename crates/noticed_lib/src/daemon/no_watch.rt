@@ -1,5 +1,6 @@
 //! A run that nobody looks after.
 use crate::daemon::watch::Watch;
+use dsn_outcome::{Key, Reply};
 use std::io;
 use std::time::Duration;
 
@@ -51,6 +52,14 @@ impl Watch for NoWatch {
     fn connection_refused(&self) {}
 
     fn client_cut_off(&self, _seconds: u32, _in_frame: bool) {}
+
+    fn may_hold(&self, _keys: u32) {}
+
+    fn holds(&self, _key: Key, _outcomes: Option<u32>) {}
+
+    fn carried_out(&self, _key: Option<Key>, _reply: Reply) {}
+
+    fn notice_written(&self, _line: &str) {}
 
     fn outbox_failed(&self, _error: &io::Error) {}
 }

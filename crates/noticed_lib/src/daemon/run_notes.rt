@@ -13,7 +13,9 @@ ghost use Rattle.noticed_lib.specs.inner.Daemon.{WritesRun};
 use crate::daemon::agent_lines::agent_line;
 use crate::daemon::journal_start::NotStarted;
 use crate::daemon::journaled_end::JournaledEnd;
+use crate::daemon::observer::Observer;
 use crate::daemon::serve_end::ServeEnd;
+use crate::daemon::watched_keeper::Watched;
 use dsn_book::Book;
 use dsn_crew::{Account, AgentLine};
 use dsn_device::{Drain, UntilFailure};
@@ -25,9 +27,9 @@ use dsn_text::fault_code;
 use std::alloc::Global;
 
 /// Writes what each agent did, and how the run ended.
-pub(crate) fn write_account<W: Drop, N: Drain>(
+pub(crate) fn write_account<W: Drop, O: Observer + Drop, N: Drain>(
     alloc: Global,
-    account: Account<W>,
+    account: Account<W, Watched<Book, O>>,
     notes: &mut N,
 ) -> ServeEnd<W>
     ensures { (history : List Exchange) → Represents account.book history
@@ -41,6 +43,7 @@ pub(crate) fn write_account<W: Drop, N: Drain>(
         book,
         ..
     } = account;
+    let book = book.into_keeper();
     let status = write_run(alloc, agents.as_slice(), whole, unsent, &book, notes);
     ServeEnd { outbox, status }
 }
@@ -56,10 +59,11 @@ pub(crate) fn write_kept_account<
     D: Replaceable + Drop,
     M: Replaceable + Drop,
     C: MarkCount + Drop,
+    O: Observer + Drop,
     N: Drain,
 >(
     alloc: Global,
-    account: Account<CountedOutbox<MarkedOutbox<W, M>, C>, KeptBook<D, C>>,
+    account: Account<CountedOutbox<MarkedOutbox<W, M>, C>, Watched<KeptBook<D, C>, O>>,
     notes: &mut N,
 ) -> JournaledEnd<W, D, M>
     requires none { account.book.settled ≡ true → AwaitsRequests D.Disk account.book [] }
@@ -77,7 +81,7 @@ pub(crate) fn write_kept_account<
         book,
         ..
     } = account;
-    let mut ledger = book.into_ledger();
+    let mut ledger = book.into_keeper().into_ledger();
     let status = write_run(
         alloc,
         agents.as_slice(),

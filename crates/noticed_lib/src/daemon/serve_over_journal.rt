@@ -6,7 +6,10 @@ ghost use Rattle.noticed_lib.specs.inner.Daemon.{MayRunOver};
 use crate::daemon::journal_folder::JournalFolder;
 use crate::daemon::journal_start::{JournalStart, start_over};
 use crate::daemon::journaled_end::JournaledEnd;
+use crate::daemon::observer::Observer;
 use crate::daemon::run_notes::{write_fault, write_kept_account, write_not_started};
+use crate::daemon::watch::Watch;
+use crate::daemon::watched_keeper::Watched;
 use dsn_book::Limits;
 use dsn_crew::{CrewFault, Gate, Port, run_crew_over};
 use dsn_device::Drain;
@@ -24,7 +27,8 @@ use std::time::Clock;
 /// closed keys, and the letters that no mark counts, which are posted first.
 ///
 /// A journal that gets full is replaced by a shorter one within the run, once all letters that were
-/// sealed are marked; the run waits some seconds for that.
+/// sealed are marked; the run waits some seconds for that. The watch hears of the keys that are held
+/// at the start, and of each request that was carried out.
 ///
 /// Beside what `serve_ports` notes, it notes the number of a fault if a request was not kept (45),
 /// which ends the run. A run does not begin if a disk can't be opened (9, 71 to 77), or if one of the
@@ -41,6 +45,7 @@ pub(crate) fn serve_ports_over<
     D: Replaceable + Drop,
     M: Replaceable + Drop + Send,
     G: Gate + Sync,
+    H: Watch,
     N: Drain,
 >(
     rt: &R,
@@ -51,6 +56,7 @@ pub(crate) fn serve_ports_over<
     outbox: W,
     folder: JournalFolder<D, M>,
     gate: &G,
+    watch: &H,
     notes: &mut N,
 ) -> JournaledEnd<W, D, M>
     requires asked { All P.may_be_asked ports.items }
@@ -59,8 +65,8 @@ pub(crate) fn serve_ports_over<
         result.marks }
 {
     let count = SharedMarkCount::new(rt);
-    match start_over(alloc, site, limits, outbox, folder, &count) {
-        Ok(start) => run_over(rt, alloc, start, ports, gate, notes),
+    match start_over(alloc, site, limits, outbox, folder, &count, watch) {
+        Ok(start) => run_over(rt, alloc, start, ports, gate, watch, notes),
         Err(not) => write_not_started(alloc, not, notes),
     }
 }
@@ -74,6 +80,7 @@ fn run_over<
     M: Replaceable + Drop + Send,
     C: MarkCount + Drop + Send,
     G: Gate + Sync,
+    O: Observer + Drop,
     N: Drain,
 >(
     rt: &R,
@@ -81,6 +88,7 @@ fn run_over<
     start: JournalStart<W, D, M, C>,
     ports: Vec<P>,
     gate: &G,
+    observer: O,
     notes: &mut N,
 ) -> JournaledEnd<W, D, M>
     requires asked { All P.may_be_asked ports.items }
@@ -89,6 +97,7 @@ fn run_over<
         start.outgoing notes.old notes.new result.end result.journal result.marks }
 {
     let JournalStart { outgoing, keeper } = start;
+    let keeper = Watched::new(keeper, observer);
     match run_crew_over(rt, alloc, keeper, ports, outgoing, gate) {
         Ok(account) => write_kept_account(alloc, account, notes),
         Err(fault) => {
@@ -110,12 +119,14 @@ fn run_over<
 }
 
 /// The disk of what kept a run's requests. Requires that it was returned.
-fn disk_of<D: Replaceable + Drop, C: MarkCount + Drop>(book: Option<KeptBook<D, C>>) -> D
+fn disk_of<D: Replaceable + Drop, C: MarkCount + Drop, O: Drop>(
+    book: Option<Watched<KeptBook<D, C>, O>>,
+) -> D
     requires { is_some book ≡ true }
     ensures { IfSome book (λ left. result ≡ left.journal.disk) }
 {
     match book {
-        Some(book) => book.into_ledger().into_disk(),
+        Some(book) => book.into_keeper().into_ledger().into_disk(),
         None => unreachable!(),
     }
 }

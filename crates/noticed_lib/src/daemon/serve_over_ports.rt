@@ -1,28 +1,39 @@
 //! The run of the daemon over any ports.
-ghost use Rattle.std.specs.Prelude.{All};
+ghost use Rattle.std.specs.Prelude.{◌≡◌, ◌≤◌, [], All, IfErr, IfOk};
+ghost use Rattle.dsn_book.specs.Book.{Represents};
+ghost use Rattle.dsn_crew.specs.Crew.{most_ports};
 ghost use Rattle.noticed_lib.specs.daemon.Serve.{IsServe};
+ghost use Rattle.noticed_lib.specs.inner.Daemon.{HasNoPorts};
 
+use crate::daemon::observer::Observer;
 use crate::daemon::run_notes::{write_account, write_fault};
 use crate::daemon::serve_end::ServeEnd;
-use dsn_book::Limits;
-use dsn_crew::{CrewFault, Gate, Port, run_crew};
+use crate::daemon::watched_keeper::Watched;
+use dsn_book::{Book, Limits};
+use dsn_crew::{CrewCause, CrewFault, Gate, Port, run_crew_over};
 use dsn_device::Drain;
-use dsn_report::Site;
+use dsn_outcome::Letters;
+use dsn_report::{Outgoing, Site};
 use std::alloc::Global;
 use std::sync::Wait;
 use std::thread::Threads;
 
-/// Serves these ports by a crew, as [`run_crew`] does, which posts a notice of each sealed log to
+/// The largest number of ports.
+const MOST_PORTS: usize = 16;
+
+/// Serves these ports by a crew, as [`run_crew_over`] does, which posts a notice of each sealed log to
 /// `outbox`. Then it writes to `notes` what each agent did, and how the run ended: with a port that
 /// failed (61), with an outbox that failed (31), which letters were not written, and which logs are
 /// open, or that their list found no memory (9). If the crew ends with a fault (41, 42, 43) it writes
 /// the number and the letters alone. Nothing is written once a line could not be written. Requires
-/// that each port may be asked, which holds for every port that doesn't say when it can be.
+/// that each port may be asked, which holds for every port that doesn't say when it can be. The observer
+/// hears of each request that was carried out.
 pub(crate) fn serve_ports<
     R: Threads + Wait + Sync,
     P: Port + Drop + Send,
     W: Drain + Drop + Send,
     G: Gate + Sync,
+    O: Observer + Drop,
     N: Drain,
 >(
     rt: &R,
@@ -32,13 +43,20 @@ pub(crate) fn serve_ports<
     ports: Vec<P>,
     outbox: W,
     gate: &G,
+    observer: O,
     notes: &mut N,
 ) -> ServeEnd<W>
     requires asked { All P.may_be_asked ports.items }
     ensures { IsServe P.Port W.Drain N.Drain site limits ports.items outbox notes.old notes.new
         result }
 {
-    match run_crew(rt, alloc, site, limits, ports, outbox, gate) {
+    let book = match empty_book(alloc, limits, ports.len()) {
+        Ok(book) => Watched::new(book, observer),
+        Err(cause) => {
+            return write_fault(alloc, cause.code(), outbox, Letters::new(), notes);
+        }
+    };
+    match run_crew_over(rt, alloc, book, ports, Outgoing::new(site, outbox), gate) {
         Ok(account) => write_account(alloc, account, notes),
         Err(fault) => {
             let CrewFault {
@@ -49,5 +67,22 @@ pub(crate) fn serve_ports<
             } = fault;
             write_fault(alloc, cause.code(), outbox, unsent, notes)
         }
+    }
+}
+
+/// An empty book for a crew of this number of ports. Returns `PortCount` if they are not 1 to 16,
+/// before any memory is taken, and `Refused` if memory is refused.
+fn empty_book(alloc: Global, limits: Limits, ports: usize) -> Result<Book, CrewCause>
+    ensures limits { IfOk result (λ book. book.limits ≡ limits) }
+    ensures empty { IfOk result (λ book. (Represents book []) × (book.sealed ≡ 0)) }
+    ensures count { IfOk result (λ _. (1 ≤ ports) × (ports ≤ most_ports)) }
+    ensures refused { IfErr result (HasNoPorts ports) }
+{
+    if !(1..=MOST_PORTS).contains(&ports) {
+        return Err(CrewCause::PortCount);
+    }
+    match Book::new(alloc, limits) {
+        Ok(book) => Ok(book),
+        Err(_) => Err(CrewCause::Refused),
     }
 }

@@ -112,7 +112,7 @@ pub fn serve_journaled<
             let program = Limits::of_program();
             let gate = WatchGate { watch };
             serve_ports_over(
-                rt, alloc, site, program, ports, outbox, folder, &gate, notes,
+                rt, alloc, site, program, ports, outbox, folder, &gate, watch, notes,
             )
         }
         Err(cause) => {
@@ -149,7 +149,7 @@ fn serve_socket<R: Threads + Wait + Sync, H: Watch + Sync, W: Drain + Drop + Sen
     match socket_ports(alloc, listener, watch, agents, max_use) {
         Ok(ports) => {
             let gate = WatchGate { watch };
-            serve_ports(rt, alloc, site, limits, ports, outbox, &gate, notes)
+            serve_ports(rt, alloc, site, limits, ports, outbox, &gate, watch, notes)
         }
         Err(cause) => write_fault(alloc, cause.code(), outbox, Letters::new(), notes),
     }

@@ -1,11 +1,14 @@
-//! The watch of the program: over the run's files, a limit of idle time, and a log.
+//! The watch of the program: over the run's files, a limit of idle time, a log, and counters.
 //! The kit handles no signal, and a request that stops a daemon could be asked by whoever may log
 //! an outcome. Who may remove a file owns its folder.
+use crate::daemon::board::Board;
 use crate::daemon::service_manager::ServiceManager;
 use crate::daemon::severity::{Severity, is_journal_stream};
+use crate::daemon::status_text::{RunCounts, status_text};
 use crate::daemon::watch::{TICK, Watch};
+use dsn_outcome::{Key, Reply};
 use dsn_text::{fault_code, fault_words};
-use std::alloc::AllocGlobal;
+use std::alloc::{AllocError, AllocGlobal, Global};
 use std::fs::Files;
 use std::io::{Eprint, ErrorKind};
 use std::net::Shutdown;
@@ -13,6 +16,7 @@ use std::os::fd::OwnedFd;
 use std::os::unix::fs::MetadataExt;
 use std::os::unix::net::{UnixListener, UnixStream};
 use std::rt::Env;
+use std::sync::Wait;
 use std::sync::atomic::{AtomicBool, AtomicI32, AtomicU32, AtomicU64, Ordering};
 use std::time::{Clock, Duration, Instant};
 use std::{fs, io};
@@ -83,14 +87,16 @@ pub struct SocketWatch<'a, R> {
     ending: AtomicBool,
     /// The system's number of the first error of an accept; 0 for none.
     accept_error: AtomicI32,
+    board: Board,
 }
 
-impl<'a, R: Files + Eprint + Clock + Env + AllocGlobal> SocketWatch<'a, R> {
+impl<'a, R: Files + Eprint + Clock + Wait + Env + AllocGlobal> SocketWatch<'a, R> {
     /// The watch over the socket and the run's file at these paths; it gives the socket's accepts a
     /// time limit. If a file is gone already the run ends at once. Returns an error if the system
     /// doesn't answer for a file, has no descriptor left, or has no clock.
     pub fn new(
         rt: &'a R,
+        alloc: Global,
         listener: &UnixListener,
         paths: WatchedPaths<'a>,
         options: WatchOptions,
@@ -115,16 +121,42 @@ impl<'a, R: Files + Eprint + Clock + Env + AllocGlobal> SocketWatch<'a, R> {
             frames: AtomicU64::new(0),
             ending: AtomicBool::new(false),
             accept_error: AtomicI32::new(0),
+            board: Board::new(alloc),
         })
     }
 }
 
-impl<R: Files + Eprint + Clock> SocketWatch<'_, R> {
+impl<R: Files + Eprint + Clock + Wait> SocketWatch<'_, R> {
     /// The first error of an accept, if one failed.
     pub fn accept_error(&self) -> Option<io::Error> {
         match self.accept_error.load(Ordering::SeqCst) {
             0 => None,
             number => Some(io::Error::from_raw_os_error(number)),
+        }
+    }
+
+    /// The lines of the run's status, each a name, a space and a value (docs/FORMATS.md, "The status
+    /// of a daemon"). Returns an error if there is no memory for them.
+    pub fn status(&self, alloc: Global) -> Result<String, AllocError> {
+        let run = RunCounts {
+            agents: self.options.agents,
+            busy: self.busy.load(Ordering::SeqCst),
+            uptime: self.elapsed().as_secs(),
+        };
+        status_text(self.rt, alloc, &self.board, run)
+    }
+
+    /// Logs how many keys are in use, if a line is due `now` seconds after the watch was made.
+    fn look_at_keys(&self, now: u64) {
+        let keys = self.board.key_counts();
+        if self.board.keys.is_line_due(&keys, now) && self.options.logs {
+            let _ = eprintln!(self.rt;
+                "{}{} of {} keys are in use, {} of them with an open log",
+                self.prefix(Severity::Warning),
+                keys.in_use(),
+                keys.limit,
+                keys.open
+            );
         }
     }
 
@@ -212,7 +244,7 @@ fn identity_at<R: Files>(rt: &R, path: &str) -> io::Result<(u64, u64)> {
     }
 }
 
-impl<R: Files + Eprint + Clock> Watch for SocketWatch<'_, R> {
+impl<R: Files + Eprint + Clock + Wait> Watch for SocketWatch<'_, R> {
     ghost may_end = { λ _. Unit {0} };
 
     fn looks_up(&self) -> bool {
@@ -258,6 +290,7 @@ impl<R: Files + Eprint + Clock> Watch for SocketWatch<'_, R> {
     }
 
     fn connected(&self) {
+        self.board.connected();
         let before = self.busy.fetch_add(1, Ordering::SeqCst);
         if before.saturating_add(1) == self.options.agents {
             let now = self.elapsed().as_secs();
@@ -278,6 +311,7 @@ impl<R: Files + Eprint + Clock> Watch for SocketWatch<'_, R> {
     }
 
     fn start_refused(&self) {
+        self.board.refused(fault_code::CREW_REFUSED);
         self.note(
             Severity::Warning,
             "a thread was refused: an agent does not serve",
@@ -285,6 +319,7 @@ impl<R: Files + Eprint + Clock> Watch for SocketWatch<'_, R> {
     }
 
     fn accept_failed(&self, error: &io::Error) {
+        self.board.failed(fault_code::SOCKET, error);
         let number = error.raw_os_error().unwrap_or(0);
         let _ = self
             .accept_error
@@ -300,6 +335,7 @@ impl<R: Files + Eprint + Clock> Watch for SocketWatch<'_, R> {
     }
 
     fn client_cut_off(&self, seconds: u32, in_frame: bool) {
+        self.board.cut_off();
         if self.options.logs {
             let why = if in_frame { "no whole frame" } else { "silent" };
             let prefix = self.prefix(Severity::Warning);
@@ -307,7 +343,40 @@ impl<R: Files + Eprint + Clock> Watch for SocketWatch<'_, R> {
         }
     }
 
+    fn may_hold(&self, keys: u32) {
+        self.board.keys.may_hold(keys);
+    }
+
+    fn holds(&self, key: Key, outcomes: Option<u32>) {
+        let now = self.elapsed().as_secs();
+        self.board.holds(self.rt, key, outcomes, now);
+    }
+
+    fn carried_out(&self, key: Option<Key>, reply: Reply) {
+        let change = self.board.answered(reply);
+        let Some(key) = key else {
+            return;
+        };
+        let now = if change.takes_a_key() {
+            self.elapsed().as_secs()
+        } else {
+            0
+        };
+        self.board.changed(self.rt, key, change, now);
+        if change.takes_a_key() {
+            self.look_at_keys(now);
+        }
+    }
+
+    fn notice_written(&self, line: &str) {
+        self.board.written();
+        if !line.is_empty() {
+            self.log(line);
+        }
+    }
+
     fn outbox_failed(&self, error: &io::Error) {
+        self.board.failed(fault_code::OUTBOX_WRITE, error);
         if self.options.logs {
             let code = fault_code::OUTBOX_WRITE;
             let (prefix, words) = (self.prefix(Severity::Error), fault_words(code));

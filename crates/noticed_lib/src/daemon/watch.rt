@@ -1,6 +1,7 @@
 //! What looks after a run of the daemon over a socket.
 ghost use Rattle.std.specs.Prelude.{◌≡◌, true};
 
+use dsn_outcome::{Key, Reply};
 use std::io;
 use std::time::Duration;
 
@@ -63,6 +64,19 @@ pub trait Watch {
     /// Reports that a client was cut off after this number of seconds: of silence, or in the middle
     /// of a frame.
     fn client_cut_off(&self, seconds: u32, in_frame: bool);
+
+    /// Reports how many keys the run may hold.
+    fn may_hold(&self, keys: u32);
+
+    /// Reports a key that is held as the run begins, with its number of outcomes if its log is open.
+    fn holds(&self, key: Key, outcomes: Option<u32>);
+
+    /// Reports that a request was carried out: its key, if it has one, and its reply.
+    fn carried_out(&self, key: Option<Key>, reply: Reply);
+
+    /// Reports that a notice was written and flushed, with the line for it, if lines are wanted and
+    /// it has one.
+    fn notice_written(&self, line: &str);
 
     /// Reports, once, that the outbox could not be written or flushed.
     fn outbox_failed(&self, error: &io::Error);

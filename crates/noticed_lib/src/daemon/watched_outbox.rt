@@ -10,6 +10,14 @@ use std::io;
 use std::io::{ErrorKind, Write};
 use std::marker::Model;
 
+/// What the envelope of a notice begins with.
+const ENVELOPE: &[u8] = b"MAIL FROM:";
+
+/// Whether the envelope of a notice begins in this text.
+fn has_envelope(text: &[u8]) -> bool {
+    text.windows(ENVELOPE.len()).any(|part| part == ENVELOPE)
+}
+
 /// A writer that reports to its watch each notice once it is flushed, and the first failure. What
 /// is written between two flushes is one notice, as a poster writes them, and its first write has
 /// its envelope and its header's beginning.
@@ -19,6 +27,8 @@ pub struct WatchedOutbox<'a, W, H> {
     watch: &'a H,
     /// Whether nothing was written since the last flush.
     is_flushed: bool,
+    /// Whether a notice is being written, and not QUIT.
+    is_notice: bool,
     /// The line of the notice that is being written, where lines are wanted.
     line: ArrayString<LINE_ROOM>,
     has_failed: bool,
@@ -41,6 +51,7 @@ impl<'a, W, H: Watch> WatchedOutbox<'a, W, H> {
             inner,
             watch,
             is_flushed: true,
+            is_notice: false,
             line: ArrayString::new(),
             has_failed: false,
         }
@@ -60,6 +71,7 @@ impl<'a, W, H: Watch> WatchedOutbox<'a, W, H> {
     {
         if self.is_flushed && !text.is_empty() {
             self.is_flushed = false;
+            self.is_notice = has_envelope(text);
             self.line = if self.watch.logs() {
                 notice_line(text)
             } else {
@@ -96,11 +108,12 @@ impl<W: Write, H: Watch> Write for WatchedOutbox<'_, W, H> {
     fn flush(&mut self) -> io::Result<()> {
         let flushed = self.inner.flush();
         match &flushed {
-            Ok(()) if !self.line.is_empty() => self.watch.log(&self.line),
+            Ok(()) if self.is_notice => self.watch.notice_written(&self.line),
             Ok(()) => {}
             Err(error) => self.failed(error),
         }
         self.is_flushed = true;
+        self.is_notice = false;
         self.line.clear();
         flushed
     }

@@ -6,7 +6,7 @@ use Rattle.noticed_lib.proofs.daemon.run_notes.write_kept_account.Goals as goal
 
 pub returns-clause-crash : goal.returns-clause-crash
 returns-clause-crash g c =
-    let ledger_is : c.into_ledger-ledger.result ≡ c.args.account.book = c.into_ledger-ledger.ensures ∙ ap (λ it. it.book) c.account.view_is in
+    let ledger_is : c.into_ledger-ledger.result ≡ c.args.account.book = c.into_ledger-ledger.ensures ∙ c.into_keeper.ensures ∙ ap (λ it. it.book) c.account.view_is in
     let called = c.forget_closed.ensures in
     subst (λ l. IsForgottenIn g.D.Disk l c.into_disk.result) ledger_is
     (record {

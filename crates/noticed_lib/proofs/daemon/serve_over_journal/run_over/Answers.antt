@@ -9,19 +9,23 @@ use Rattle.noticed_lib.specs.daemon.Serve.{WritesFault}
 use Rattle.noticed_lib.proofs.daemon.JournaledLemmas.{handed, none_awaited}
 use Rattle.noticed_lib.proofs.daemon.serve_over_journal.run_over.Goals as goal
 
+pub run_crew_over-requires-clause-begins : goal.run_crew_over-requires-clause-begins
+run_crew_over-requires-clause-begins g c κs within = rw c.new-keeper.ensures c.requires.start.begins
+
 pub write_kept_account-requires : goal.write_kept_account-requires
 write_kept_account-requires g c =
     let start = c.requires.start in
-    let account = c.in-Ok.ensures.run.account start.from start.posted start.begins.0 start.begins.1 in
+    let run = rw c.new-keeper.ensures at c.in-Ok.ensures.run in
+    let account = run.account start.from start.posted start.begins.0 start.begins.1 in
     record { none = λ settled. none_awaited g.D.Disk c.in-Ok.account.book _ (none_to_carry_out g.D.Disk c.in-Ok.account.book _ account.is.book).awaits }
 
 pub returns-in-Ok : goal.returns-in-Ok
-returns-in-Ok g c = inl (record {
+returns-in-Ok g c = let run = rw c.new-keeper.ensures at c.in-Ok.ensures.run in inl (record {
   account = c.in-Ok.account;
-  crew = c.in-Ok.ensures.run.account;
+  crew = run.account;
   count = c.in-Ok.ensures.count;
   noted = c.write_kept_account.ensures.notes;
-  crash = c.in-Ok.ensures.run.crash;
+  crash = run.crash;
   forgets = c.write_kept_account.ensures.crash;
   last_marks_are = c.write_kept_account.ensures.marks;
 })
@@ -31,14 +35,15 @@ disk_of-requires g c = ap (λ (fault : CrewFault _ _). is_some fault.book) c.fau
 
 pub returns-in-Err : goal.returns-in-Err
 returns-in-Err g c =
+    let run = rw c.new-keeper.ensures at c.in-Err.ensures.run in
     let back = handed c.in-Err.fault.book c.in-Err.ensures.run.handed_back in inr (record {
       fault = c.in-Err.fault;
-      crew = c.in-Err.ensures.run.fault;
+      crew = run.fault;
       counted = c.in-Err.ensures.refused;
       noted = subst (λ (fault : CrewFault _ _). WritesFault g.N.Drain fault.cause fault.outbox.outbox fault.unsent c.args.notes.now c.write_fault.new.notes c.write_fault.result) c.fault.view_is (rw (c.code.ensures, c.into_parts-outbox.ensures.outbox, c.into_outbox.ensures) at c.write_fault.ensures);
       left = back.0;
       left_is = back.1;
       last_is = subst (λ book. IfSome book (λ left. c.disk_of.result ≡ left.journal.disk)) (ap (λ (fault : CrewFault _ _). fault.book) c.fault.view_is ∙ back.1) c.disk_of.ensures;
       last_marks_are = c.into_disk.ensures.disk ∙ ap (λ (marks : Marks _). marks.journal.disk) c.into_parts-outbox.ensures.marks ∙ ap (λ (outbox : MarkedOutbox _ _). outbox.marks.journal.disk) c.into_outbox.ensures ∙ ap (λ (fault : CrewFault (MarkedOutbox _ _) _). fault.outbox.marks.journal.disk) c.fault.view_is;
-      crash = λ before with_it. subst (λ book. IfSome book (MayCrashWithin (keeper_of_ledger g.D.Disk g.C.MarkCount.may_reach) c.args.start.keeper c.args.start.keeper.book.limits before (length c.args.ports.items) c.in-Err.fault.taken c.in-Err.fault.behind)) back.1 (c.in-Err.ensures.run.crash_at_fault before with_it);
+      crash = λ before with_it. subst (λ book. IfSome book (MayCrashWithin (keeper_of_ledger g.D.Disk g.C.MarkCount.may_reach) c.args.start.keeper c.args.start.keeper.book.limits before (length c.args.ports.items) c.in-Err.fault.taken c.in-Err.fault.behind)) back.1 (run.crash_at_fault before with_it);
     })

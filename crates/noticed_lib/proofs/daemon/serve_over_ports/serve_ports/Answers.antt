@@ -1,22 +1,49 @@
-use Rattle.std.proofs.Common.{inl, inr, subst}
-use Rattle.dsn_crew.specs.Crew.{CrewFault}
+-- A run over a book that is empty begins with no history; one without a book did nothing.
+use Rattle.std.proofs.Common.{◌≡◌, ℕ, List, [], inl, inr, ap, subst, sym, ◌∙◌, arith, length, vec_len}
+use Rattle.std.specs.Prelude.{Err, Ok}
+use Rattle.dsn_book.specs.Book.{Book, Represents}
+use Rattle.dsn_crew.proofs.CrewLemmas.{book_account, book_fault, book_kept, nothing_posted}
+use Rattle.dsn_crew.specs.Crew.{CrewFault, none_posted}
 use Rattle.dsn_outcome.specs.History.{history_of}
+use Rattle.dsn_outcome.specs.Letter.{Letter}
 use Rattle.noticed_lib.specs.daemon.Serve.{WritesFault}
+use Rattle.noticed_lib.specs.inner.Daemon.{HasNoPorts}
+use Rattle.noticed_lib.proofs.daemon.ServeLemmas.{no-book, none_earlier}
 use Rattle.noticed_lib.proofs.daemon.serve_over_ports.serve_ports.Goals as goal
 
-pub returns-in-Ok : goal.returns-in-Ok
-returns-in-Ok g c = inl (record {
-  account = c.in-Ok.account;
-  crew = c.in-Ok.ensures.account;
-  count = c.in-Ok.ensures.count;
-  noted = c.write_account.ensures (history_of c.args.limits c.in-Ok.account.taken) c.in-Ok.ensures.account.book;
-})
-
 pub returns-in-Err : goal.returns-in-Err
-returns-in-Err g c = inr (record {
-  fault = c.in-Err.fault;
-  crew = c.in-Err.ensures.fault;
-  counted = c.in-Err.ensures.refused;
-  kept = c.in-Err.ensures.kept;
-  noted = subst (λ (fault : CrewFault _ _). WritesFault g.N.Drain fault.cause fault.outbox fault.unsent c.args.notes.now c.write_fault.new.notes c.write_fault.result) c.fault.view_is (rw c.code.ensures at c.write_fault.ensures);
-})
+returns-in-Err g c =
+    let counts : vec_len c.args.ports ≡ length c.args.ports.items = omega arith in
+    no-book g.P.Port g.W.Drain g.N.Drain c.args.site c.args.limits c.args.ports.items c.args.outbox c.args.notes.now c.write_fault.new.notes c.write_fault.result c.in-Err.cause
+    (subst (λ (count : ℕ). HasNoPorts count c.in-Err.cause) (c.len.ensures ∙ counts) c.in-Err.ensures.refused)
+    (subst (λ (unsent : List Letter). WritesFault g.N.Drain c.in-Err.cause c.args.outbox unsent c.args.notes.now c.write_fault.new.notes c.write_fault.result) c.new.ensures (rw c.code.ensures at c.write_fault.ensures))
+
+pub run_crew_over-requires-clause-begins : goal.run_crew_over-requires-clause-begins
+run_crew_over-requires-clause-begins g c κs within = ([], (subst (λ (book : Book). Represents book []) (sym c.new-book.ensures) c.in-Ok.ensures.empty.0, none_earlier))
+
+pub returns-in-Ok-run_crew_over : goal.returns-in-Ok-run_crew_over
+returns-in-Ok-run_crew_over g c =
+    let empty = subst (λ (book : Book). Represents book []) (sym c.new-book.ensures) c.in-Ok.ensures.empty.0 in
+    let limits = ap (λ (book : Book). book.limits) c.new-book.ensures ∙ c.in-Ok.ensures.limits in
+    let posted = nothing_posted g.W.Drain c.args.site c.args.outbox _ c.new-2.ensures.delivered c.new-2.ensures.new in
+    let account = book_account _ _ _ _ _ _ _ (Ok c.in-Ok-run_crew_over.account) limits (c.in-Ok-run_crew_over.ensures.run.account (none_posted c.args.site c.args.outbox) posted [] (empty, none_earlier)) in
+    inl (record {
+      account = c.in-Ok-run_crew_over.account;
+      crew = account;
+      count = c.in-Ok-run_crew_over.ensures.count;
+      noted = c.write_account.ensures (history_of c.args.limits c.in-Ok-run_crew_over.account.taken) account.book;
+    })
+
+pub returns-in-Err-run_crew_over : goal.returns-in-Err-run_crew_over
+returns-in-Err-run_crew_over g c =
+    let empty = subst (λ (book : Book). Represents book []) (sym c.new-book.ensures) c.in-Ok.ensures.empty.0 in
+    let limits = ap (λ (book : Book). book.limits) c.new-book.ensures ∙ c.in-Ok.ensures.limits in
+    let posted = nothing_posted g.W.Drain c.args.site c.args.outbox _ c.new-2.ensures.delivered c.new-2.ensures.new in
+    let fault = c.in-Err-run_crew_over.ensures.run.fault (none_posted c.args.site c.args.outbox) posted [] (empty, none_earlier) in
+    inr (record {
+      fault = c.in-Err-run_crew_over.fault;
+      crew = book_fault _ _ _ _ _ _ (Err c.in-Err-run_crew_over.fault) limits fault;
+      counted = c.in-Err-run_crew_over.ensures.refused;
+      kept = book_kept _ _ _ _ _ (Err c.in-Err-run_crew_over.fault) fault;
+      noted = subst (λ (fault : CrewFault _ _). WritesFault g.N.Drain fault.cause fault.outbox fault.unsent c.args.notes.now c.write_fault-in-Err-run_crew_over.new.notes c.write_fault-in-Err-run_crew_over.result) c.fault.view_is (rw c.code-in-Err-run_crew_over.ensures at c.write_fault-in-Err-run_crew_over.ensures);
+    })

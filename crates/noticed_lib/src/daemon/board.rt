@@ -1,0 +1,140 @@
+//! The counters of a run, which its threads write and whoever asks for its status reads.
+//! Nothing that is proved reads them.
+use crate::daemon::answer_counts::AnswerCounts;
+use crate::daemon::key_gauge::{KeyChange, KeyCounts, KeyGauge};
+use crate::daemon::open_logs::{OpenLog, OpenLogs};
+use dsn_outcome::{Key, Reply};
+use std::alloc::Global;
+use std::io;
+use std::sync::atomic::{AtomicI32, AtomicU32, AtomicU64, Ordering};
+use std::sync::{Mutex, Wait};
+
+/// The counters of a run.
+#[derive(Drop)]
+pub(crate) struct Board {
+    pub(crate) keys: KeyGauge,
+    pub(crate) answers: AnswerCounts,
+    /// How many connections were accepted.
+    connections: AtomicU64,
+    /// How many clients were cut off.
+    cut_off: AtomicU64,
+    /// How many notices were written and flushed.
+    written: AtomicU64,
+    /// The number of the last fault; 0 for none.
+    fault: AtomicU32,
+    /// The system's number of its error; 0 for none.
+    fault_error: AtomicI32,
+    open: Mutex<OpenLogs>,
+}
+
+impl Board {
+    /// The board of a run that begins.
+    pub(crate) fn new(alloc: Global) -> Board {
+        Board {
+            keys: KeyGauge::new(),
+            answers: AnswerCounts::new(),
+            connections: AtomicU64::new(0),
+            cut_off: AtomicU64::new(0),
+            written: AtomicU64::new(0),
+            fault: AtomicU32::new(0),
+            fault_error: AtomicI32::new(0),
+            open: Mutex::new(OpenLogs::new(alloc)),
+        }
+    }
+
+    /// Notes a key that is held as the run begins, `now` seconds after the watch was made.
+    pub(crate) fn holds(&self, rt: &impl Wait, key: Key, outcomes: Option<u32>, now: u64) {
+        match outcomes {
+            Some(outcomes) => {
+                self.keys.count(KeyChange::Opened);
+                self.open.lock(rt).open(key, outcomes, now);
+            }
+            None => self.keys.count(KeyChange::HeldClosed),
+        }
+    }
+
+    /// Notes what a request changed about its key, `now` seconds after the watch was made.
+    pub(crate) fn changed(&self, rt: &impl Wait, key: Key, change: KeyChange, now: u64) {
+        match change {
+            KeyChange::Opened => self.open.lock(rt).open(key, 1, now),
+            KeyChange::Grew(outcomes) => self.open.lock(rt).count(&key, outcomes),
+            KeyChange::Closed => self.open.lock(rt).close(&key),
+            KeyChange::HeldClosed | KeyChange::Forgotten | KeyChange::Nothing => {}
+        }
+    }
+
+    /// Counts a reply, and what it says of its key. Returns that.
+    pub(crate) fn answered(&self, reply: Reply) -> KeyChange {
+        let change = KeyChange::of(reply);
+        self.answers.count(reply);
+        self.keys.count(change);
+        change
+    }
+
+    /// Counts a connection.
+    pub(crate) fn connected(&self) {
+        self.connections.fetch_add(1, Ordering::SeqCst);
+    }
+
+    /// Counts a client that was cut off.
+    pub(crate) fn cut_off(&self) {
+        self.cut_off.fetch_add(1, Ordering::SeqCst);
+    }
+
+    /// Counts a notice that was written and flushed.
+    pub(crate) fn written(&self) {
+        self.written.fetch_add(1, Ordering::SeqCst);
+    }
+
+    /// Notes a fault with its number, and the system's error.
+    pub(crate) fn failed(&self, code: u32, error: &io::Error) {
+        let number = error.raw_os_error().unwrap_or(0);
+        self.fault_error.store(number, Ordering::SeqCst);
+        self.fault.store(code, Ordering::SeqCst);
+    }
+
+    /// Notes a fault that has no error of the system's.
+    pub(crate) fn refused(&self, code: u32) {
+        self.fault_error.store(0, Ordering::SeqCst);
+        self.fault.store(code, Ordering::SeqCst);
+    }
+
+    /// The counts of the keys.
+    pub(crate) fn key_counts(&self) -> KeyCounts {
+        self.keys.counts()
+    }
+
+    /// How many connections were accepted, clients cut off, and notices written.
+    pub(crate) fn events(&self) -> [(&'static str, u64); 4] {
+        [
+            ("connections", self.connections.load(Ordering::SeqCst)),
+            ("cut_off", self.cut_off.load(Ordering::SeqCst)),
+            ("notices_sealed", self.answers.sealed()),
+            ("notices_written", self.written.load(Ordering::SeqCst)),
+        ]
+    }
+
+    /// The number of the last fault, and the system's error, if there is one.
+    pub(crate) fn last_fault(&self) -> Option<(u32, Option<io::Error>)> {
+        let code = self.fault.load(Ordering::SeqCst);
+        if code == 0 {
+            return None;
+        }
+        match self.fault_error.load(Ordering::SeqCst) {
+            0 => Some((code, None)),
+            number => Some((code, Some(io::Error::from_raw_os_error(number)))),
+        }
+    }
+
+    /// The open logs, in no order. Some are left out if there is no memory for them.
+    pub(crate) fn open_logs(&self, rt: &impl Wait, alloc: Global) -> Vec<OpenLog> {
+        // The memory is taken before the lock, and the lines are made after it: a request waits for
+        // the copying alone.
+        let many = self.open.lock(rt).len();
+        let Ok(mut list) = Vec::with_capacity(alloc, many) else {
+            return Vec::new(alloc);
+        };
+        self.open.lock(rt).copy_to(&mut list);
+        list
+    }
+}

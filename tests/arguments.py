@@ -11,7 +11,8 @@ FAULT_CODES = ROOT / "crates/dsn_text/src/fault_code.rt"
 USAGE = (
     b"usage: noticed batch HOST"
     b" | serve [--config FILE] [--inherited] [[--journal FOLDER] --outbox PATH] [--idle SECONDS] [--end-on-fault] [--log] SOCKET HOST AGENTS MAX-USE"
-    b" | stop SOCKET | send SOCKET | discard SOCKET SERVICE ID | forget SOCKET SERVICE ID | journal FOLDER"
+    b" | stop SOCKET | send SOCKET | status [--open|--prometheus] SOCKET"
+    b" | discard SOCKET SERVICE ID | forget SOCKET SERVICE ID | journal FOLDER"
     b" | postfix [--lifetime SECONDS] [--bounce-size-limit BYTES] [--double-bounce ADDRESS]"
     b" [--hash-queue-names NAMES]"
     b" [--hash-queue-depth DEPTH] [--inherited] QUEUE-FOLDER HOST HAND-IN\n"
@@ -136,6 +137,10 @@ WRONG = {
     "forget with an unknown service": ["forget", SOCKET, "verify", "K1"],
     "forget with a queue id with a dot": ["forget", SOCKET, "defer", "K.1"],
     "forget with a queue id that is no UTF-8": ["forget", SOCKET, "trace", b"K\xff"],
+    "status with nothing": ["status"],
+    "status with a word too many": ["status", SOCKET, HOST],
+    "status with two options": ["status", "--open", "--prometheus", SOCKET],
+    "status with an option of another command": ["status", "--log", SOCKET],
     "journal with nothing": ["journal"],
     "journal with an empty folder": ["journal", ""],
     "journal with a word too many": ["journal", "/nonexistent", HOST],

@@ -135,8 +135,10 @@ def descriptors(count: int):
 
 
 def few_descriptors(checks: Checks):
-    """One beside the run's file for the socket, which takes two; none for a connection beside these; and one for two
-    agents. The ports that failed are told once."""
+    """One for the socket alone, which takes two; none for a connection beside these; and one for two agents. The ports
+    that failed are told once. The socket of the status takes two as well, or there is none."""
+    with Daemon(2, 1, preexec_fn=descriptors(4)) as daemon:
+        checks.equal("one for the socket", daemon.end(), unbound(daemon.path, TOO_MANY))
     with Daemon(2, 1, preexec_fn=descriptors(5)) as daemon:
         checks.equal("one for the socket", daemon.end(), unbound(daemon.path, TOO_MANY))
     with Daemon(2, 1, preexec_fn=descriptors(6)) as daemon:
@@ -145,7 +147,7 @@ def few_descriptors(checks: Checks):
     with Daemon(2, 1, options=["--log"], preexec_fn=descriptors(7)) as daemon:
         begun = f"listening on {daemon.path} for {HOST}: 2 agents, 1 connections each\n"
         begun += f"the host's name {HOST} is one for examples\n"
-        said = f"{begun}accept failed: {TOO_MANY}\n".encode()
+        said = f"{begun}no status: {TOO_MANY}\naccept failed: {TOO_MANY}\n".encode()
         # (an agent that begins once the client was served would find the descriptor free again)
         checks.equal("one for two agents, the other", daemon.said(len(said)), said)
         checks.equal("one for two agents, the client", daemon.send(), Ran(NOTES, b"", 0))
@@ -203,18 +205,19 @@ def growths(checks: Checks, library: Path):
 
 
 def threads(checks: Checks, library: Path):
-    """Each start of a thread is refused in turn: without the poster nothing begins; without an agent others serve."""
+    """Each start of a thread is refused in turn: without the status' all is as ever; without the poster nothing begins;
+    without an agent others serve."""
     for agents in (1, 2, 4):
-        for number in range(1, agents + 3):
+        for number in range(1, agents + 4):
             with Daemon(agents, 1, env=preloading(library, REFUSE_THREAD=number)) as daemon:
-                served = agents - (2 <= number <= agents + 1) if number > 1 else 0
+                served = 0 if number == 2 else agents - (3 <= number <= agents + 2)
                 told = [daemon.send() for _ in range(served)]
                 ended = daemon.end()
             about = f"{agents} agents, thread {number} refused"
             checks.equal(f"{about}: its clients", [it.status for it in told], [0] * served)
-            if number == 1:
+            if number == 2:
                 checks.equal(about, ended, REFUSED)
-            elif number <= agents + 1:
+            elif 3 <= number <= agents + 2:
                 checks.equal(about, ended, Ran(OUTBOX if served else empty_outbox(), fault_line(42), 1))
             else:
                 checks.equal(f"{about}: none", (ended.outbox, ended.status), (OUTBOX, 0))

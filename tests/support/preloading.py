@@ -8,6 +8,7 @@ from pathlib import Path
 from tests.support.running import Checks
 
 SUPPORT = Path(__file__).resolve().parent
+SURELY_NONE = 9  # runs after another that are whole, before one more that shows that no growth is left
 
 
 def built(room, name: str) -> Path:
@@ -26,16 +27,18 @@ def preloading(library: Path, **variables) -> dict:
 
 def each_refused(library: Path, most: int, run, whole) -> list:
     """How a run ends if its first growth of memory is refused, its second, and so on until none is left, or so many.
-    A refusal that changes nothing is left out (the parser of the command line has one): none is left once two runs
-    after another are whole. `run` is given the environment."""
-    ends = []
+    A refusal that changes nothing is left out (the parser of the command line has one, a daemon's status some): none is
+    left once ten runs after another are whole. `run` is given the environment."""
+    ends, unchanged = [], 0
     for number in range(1, most):
         end = run(preloading(library, REFUSE=number))
-        if whole in ends:
-            if end == whole:
-                break
-            ends.pop()
-        ends.append(end)
+        if end != whole:
+            ends.append(end)
+            unchanged = 0
+        elif unchanged == SURELY_NONE:
+            return [*ends, whole]
+        else:
+            unchanged += 1
     return ends
 
 

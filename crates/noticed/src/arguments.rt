@@ -6,6 +6,7 @@ use crate::postfix_serving::PostfixServing;
 use crate::postfix_values::postfix_serving;
 use crate::serve_values::serve_arguments;
 use crate::start_error::StartError;
+use crate::status_command::StatusView;
 use clap::ArgMatches;
 use dsn_report::{Site, SiteFault};
 use noticed_lib::{Serving, WatchOptions};
@@ -48,6 +49,13 @@ pub(crate) enum Command {
     },
     /// `discard SOCKET SERVICE ID` and `forget SOCKET SERVICE ID`.
     Log(LogArguments),
+    /// `status [OPTION] SOCKET`.
+    Status {
+        /// The path of the daemon's socket.
+        socket: String,
+        /// What is printed.
+        view: StatusView,
+    },
     /// `journal FOLDER`.
     Journal {
         /// The folder of the journal.
@@ -127,11 +135,27 @@ fn command_given(
         }),
         "discard" => Ok(Command::Log(LogArguments::of(alloc, LogRequest::Discard, given)?)),
         "forget" => Ok(Command::Log(LogArguments::of(alloc, LogRequest::Forget, given)?)),
+        "status" => Ok(Command::Status {
+            socket: socket_of(alloc, given)?,
+            view: view_of(given),
+        }),
         "journal" => Ok(Command::Journal {
             folder: owned(alloc, text_of(given, "FOLDER"))?,
         }),
         "faults" => Ok(Command::Faults),
         _ => Ok(Command::Postfix(postfix_serving(alloc, given)?)),
+    }
+}
+
+
+/// What `status` prints.
+fn view_of(given: &ArgMatches<'_>) -> StatusView {
+    if given.get_flag("open") {
+        StatusView::Open
+    } else if given.get_flag("prometheus") {
+        StatusView::Metrics
+    } else {
+        StatusView::Counts
     }
 }
 

@@ -5,7 +5,7 @@ use clap::{Arg, ArgAction, Command};
 use std::alloc::{AllocError, Global};
 
 /// The version of the program.
-const VERSION: &str = "0.9.0";
+pub(crate) const VERSION: &str = "0.9.0";
 
 /// The command line of the program, with this list of faults.
 pub(crate) fn command_line<'a>(alloc: Global, faults: &'a str) -> Result<Command<'a>, AllocError> {
@@ -19,6 +19,7 @@ pub(crate) fn command_line<'a>(alloc: Global, faults: &'a str) -> Result<Command
         .subcommand(send(alloc)?)?
         .subcommand(discard(alloc)?)?
         .subcommand(forget(alloc)?)?
+        .subcommand(status(alloc)?)?
         .subcommand(journal(alloc)?)?
         .subcommand(postfix(alloc)?)?
         .subcommand(
@@ -97,6 +98,20 @@ fn forget<'a>(alloc: Global) -> Result<Command<'a>, AllocError> {
         .arg(socket(alloc))?
         .arg(service(alloc))?
         .arg(queue_id(alloc))
+}
+
+fn status<'a>(alloc: Global) -> Result<Command<'a>, AllocError> {
+    Command::new(alloc, "status")
+        .about("Prints what a daemon has done and holds, also while all its agents are busy")
+        .arg(flag(alloc, "open").help(
+            "Prints the open logs: service, queue id, outcomes, seconds",
+        ))?
+        .arg(
+            flag(alloc, "prometheus")
+                .help("Prints the numbers in the text format of Prometheus")
+                .conflicts_with("open")?,
+        )?
+        .arg(socket(alloc))
 }
 
 fn journal<'a>(alloc: Global) -> Result<Command<'a>, AllocError> {

@@ -25,6 +25,9 @@ mod service_socket;
 mod socket_fault;
 mod standard_streams;
 mod start_error;
+mod status_command;
+mod status_metrics;
+mod status_socket;
 mod stop_command;
 
 use arguments::{Command, command_of};
@@ -39,12 +42,13 @@ use send_command::run_send;
 use serve_command::run_serve;
 use standard_streams::take_closed_streams;
 use start_error::StartError;
+use status_command::run_status;
 use std::process::ExitCode;
 use stop_command::run_stop;
 
 /// The line that wrong arguments print on standard error.
 const USAGE: &str =
-    "usage: noticed batch HOST | serve [--config FILE] [--inherited] [[--journal FOLDER] --outbox PATH] [--idle SECONDS] [--end-on-fault] [--log] SOCKET HOST AGENTS MAX-USE | stop SOCKET | send SOCKET | discard SOCKET SERVICE ID | forget SOCKET SERVICE ID | journal FOLDER] --outbox PATH] [--idle SECONDS] [--end-on-fault] [--log] SOCKET HOST AGENTS MAX-USE | stop SOCKET | send SOCKET | journal FOLDER | postfix [--lifetime SECONDS] [--bounce-size-limit BYTES] [--double-bounce ADDRESS] [--hash-queue-names NAMES] [--hash-queue-depth DEPTH] [--inherited] QUEUE-FOLDER HOST HAND-IN";
+    "usage: noticed batch HOST | serve [--config FILE] [--inherited] [[--journal FOLDER] --outbox PATH] [--idle SECONDS] [--end-on-fault] [--log] SOCKET HOST AGENTS MAX-USE | stop SOCKET | send SOCKET | status [--open|--prometheus] SOCKET | discard SOCKET SERVICE ID | forget SOCKET SERVICE ID | journal FOLDER | postfix [--lifetime SECONDS] [--bounce-size-limit BYTES] [--double-bounce ADDRESS] [--hash-queue-names NAMES] [--hash-queue-depth DEPTH] [--inherited] QUEUE-FOLDER HOST HAND-IN";
 
 fn main(rt: HostRuntime) -> ExitCode {
     let done = match begin(&rt) {
@@ -53,6 +57,7 @@ fn main(rt: HostRuntime) -> ExitCode {
         Ok(Command::Stop { socket }) => run_stop(&rt, &socket),
         Ok(Command::Send { socket }) => run_send(&rt, &rt, &socket),
         Ok(Command::Log(arguments)) => run_log_request(&rt, &rt, arguments),
+        Ok(Command::Status { socket, view }) => run_status(&rt, &socket, view),
         Ok(Command::Journal { folder }) => run_journal(&rt, &folder),
         Ok(Command::Postfix(serving)) => run_postfix(&rt, &rt, serving),
         Ok(Command::Faults) => print_faults(&rt),

@@ -8,19 +8,22 @@ use crate::run_file::RunFile;
 use crate::service_socket::service_manager;
 use crate::socket_fault::{print_socket_error, print_socket_fault};
 use crate::start_error::StartError;
+use crate::status_socket::StatusSocket;
 use dsn_journal::FileDisk;
 use dsn_outcome::Plain;
 use noticed_lib::{
     JournalFolder, JournaledEnd, ServeEnd, Serving, SocketWatch, Watch, WatchOptions,
     WatchedOutbox, WatchedPaths, serve_journaled, serve_watched,
 };
+use std::alloc::AllocGlobal;
 use std::fs::Files;
-use std::io;
-use std::io::{BufWriter, Eprint};
+use std::io::{BufWriter, Eprint, ErrorKind};
 use std::os::unix::net::UnixListener;
+use std::rt::Env;
 use std::sync::Wait;
-use std::thread::Threads;
+use std::thread::{JoinHandle, Scope, Threads};
 use std::time::Clock;
+use std::{io, thread};
 
 /// Runs `serve` over a socket that it makes or inherits, and returns its status. Only in `main` may
 /// the runtime start threads and wait, so `waiting` passes it again with these rights.
@@ -72,7 +75,7 @@ pub(crate) fn run_serve<R: Threads + Wait + Clock + Files + Eprint + Env + Alloc
     };
     print_start(rt, &watch, &socket, &host, &serving);
     let outbox = WatchedOutbox::new(writer, &watch);
-    let status = serve_clients(rt, waiting, &listener, &watch, serving, outbox, folder);
+    let status = serve_clients(rt, waiting, &socket, &listener, &watch, serving, outbox, folder);
     if let Some(error) = watch.accept_error() {
         print_socket_error(rt, &socket, &error);
     }
@@ -80,31 +83,38 @@ pub(crate) fn run_serve<R: Threads + Wait + Clock + Files + Eprint + Env + Alloc
 }
 
 /// Serves the clients of a socket, over the disks of a journal if there are some. Returns the status.
-fn serve_clients<R: Threads + Wait + Clock + Sync>(
+fn serve_clients<R: Threads + Wait + Clock + Files + Eprint + Sync>(
     rt: &HostRuntime,
     waiting: &R,
+    socket: &str,
     listener: &UnixListener,
-    watch: &SocketWatch<'_, HostRuntime>,
+    watch: &SocketWatch<'_, R>,
     serving: Serving,
-    outbox: WatchedOutbox<'_, BufWriter<OutboxWriter>, SocketWatch<'_, HostRuntime>>,
+    outbox: WatchedOutbox<'_, BufWriter<OutboxWriter>, SocketWatch<'_, R>>,
     folder: Option<JournalFolder<FileDisk<'_>, FileDisk<'_>>>,
 ) -> u8 {
     let outbox = Plain::new(outbox);
     let notes = &mut Plain::new(rt.stderr());
     let alloc = rt.alloc();
-    let end = match folder {
-        None => serve_watched(waiting, alloc, listener, watch, serving, outbox, notes),
-        Some(folder) => {
-            let JournaledEnd {
-                end,
-                journal: _,
-                marks: _,
-            } = serve_journaled(
-                waiting, alloc, listener, watch, serving, outbox, folder, notes,
-            );
-            end
-        }
-    };
+    let status = status_at(rt, watch, socket);
+    let end = thread::scope(thread::scope_env(), waiting, |scope| {
+        let answering = start_answering(rt, scope, status.as_ref(), watch);
+        let end = match folder {
+            None => serve_watched(waiting, alloc, listener, watch, serving, outbox, notes),
+            Some(folder) => {
+                let JournaledEnd {
+                    end,
+                    journal: _,
+                    marks: _,
+                } = serve_journaled(
+                    waiting, alloc, listener, watch, serving, outbox, folder, notes,
+                );
+                end
+            }
+        };
+        end_answering(rt, waiting, status.as_ref(), answering);
+        end
+    });
     let ServeEnd { outbox, status } = end;
     let_go(outbox.into_inner().into_inner());
     status
@@ -169,6 +179,63 @@ fn listen<'a, R: Files + Eprint + Clock + Wait + Env + AllocGlobal>(
     };
     let watch = SocketWatch::new(waiting, rt.alloc(), &listener, paths, options, service_manager(rt))?;
     Ok((listener, watch))
+}
+
+/// The socket at which the daemon answers for its status. Without it the daemon serves all the same:
+/// then the event log says why.
+fn status_at<'a>(
+    rt: &HostRuntime,
+    watch: &impl Watch,
+    socket: &'a str,
+) -> Option<StatusSocket<'a>> {
+    match StatusSocket::make(rt, socket) {
+        Ok(status) => Some(status),
+        Err(error) => {
+            log_no_status(rt, watch, &error);
+            None
+        }
+    }
+}
+
+/// Logs why the daemon doesn't answer for its status.
+fn log_no_status(rt: &HostRuntime, watch: &impl Watch, error: &io::Error) {
+    if watch.logs() {
+        let _ = eprintln!(rt; "no status: {error}");
+    }
+}
+
+/// Starts the thread that answers for the status, if there is a socket for it. The socket goes if the
+/// thread is refused.
+fn start_answering<'s, E: 's, R: Files + Eprint + Clock + Wait + Sync>(
+    rt: &'s HostRuntime,
+    scope: &Scope<'s, E>,
+    status: Option<&'s StatusSocket<'s>>,
+    watch: &'s SocketWatch<'s, R>,
+) -> Option<JoinHandle<()>> {
+    let status = status?;
+    match scope.spawn(move || status.answer_all(rt, watch)) {
+        Ok(answering) => Some(answering),
+        Err(_) => {
+            log_no_status(rt, watch, &io::Error::from(ErrorKind::WouldBlock));
+            status.end(rt);
+            None
+        }
+    }
+}
+
+/// Ends that thread, and waits for its end.
+fn end_answering<R: Threads>(
+    rt: &HostRuntime,
+    waiting: &R,
+    status: Option<&StatusSocket<'_>>,
+    answering: Option<JoinHandle<()>>,
+) {
+    if let Some(status) = status {
+        status.end(rt);
+    }
+    if let Some(answering) = answering {
+        answering.join(waiting);
+    }
 }
 
 /// Prints to the event log that the daemon listens. If the host's name is one for examples, prints

@@ -20,7 +20,7 @@ EXAMPLE := examples/one-bounce
 # The scripts of tests/. Those of QUIET run after the others, one at a time: they look at memory or time, end processes at random
 # moments, wait for seconds to pass, or listen at a port that they found to be free. Those of BOOTS want a Debian to boot.
 BOOTS   := boot boot_postfix
-QUIET   := feed feed_kills feed_restarts mailers stop idle postfix_beside postfix_faults postfix_notices journal_kills \
+QUIET   := feed feed_kills feed_restarts mailers stop idle status postfix_beside postfix_faults postfix_notices journal_kills \
            journal_stops fuzz_batch fuzz_serve forgetting memory postfix_large
 LOUD    := $(filter-out __init__ $(BOOTS) $(QUIET),$(patsubst tests/%.py,%,$(wildcard tests/*.py)))
 

@@ -33,7 +33,7 @@ module _ {W : Type 0} (drain : Drain W) where
 pub listing_is : (limits : Limits) (mark : ℕ) (journal marks : List ℕ) (opened : Opened CopiedDisk) (logs logs_told : List OpenLine) (closed closed_told : List Key)
     → (is : IsOpenedCopy limits mark journal opened) → HaveMark marks mark → AreOpenLines is.history (Some logs) → AreClosedKeys is.history closed → logs_told ≡ logs → closed_told ≡ closed
     → IsListing limits journal marks
-    (listing_lines logs_told closed_told opened.letters.items (last_lines mark (opened.ledger.base + opened.ledger.book.sealed) opened.ledger.journal.used (length (copied_seen opened.ledger.journal.disk))))
+    (listing_lines logs_told closed_told opened.letters.items (last_lines mark (opened.ledger.base + opened.ledger.book.book.sealed) opened.ledger.journal.used (length (copied_seen opened.ledger.journal.disk))))
 listing_is limits mark journal marks opened logs logs_told closed closed_told is marked logs_are closed_are logs_is closed_is = record {
   mark = mark;
   marked = marked;

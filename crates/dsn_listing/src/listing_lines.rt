@@ -29,7 +29,7 @@ pub(crate) fn write_listing<N: Drain>(
 ) -> Result<(), ListingFault>
     ensures written { WrittenAndFlushed N.Drain false (is_err result) lines.old lines.new
         (listing_lines logs.now closed.now opened.now.letters.items
-        (last_lines mark (opened.now.ledger.base + opened.now.ledger.book.sealed)
+        (last_lines mark (opened.now.ledger.base + opened.now.ledger.book.book.sealed)
         opened.now.ledger.journal.used (length (copied_seen opened.now.ledger.journal.disk)))) }
     ensures refused { IfErr result (λ fault. fault ≡ ListingFault.NotWritten) }
     ensures count { N.failures lines.new ≡ counted (is_err result) (N.failures lines.old) }
@@ -80,7 +80,7 @@ fn write_counts<N: Drain>(
     mark: u64,
 )
     ensures { WritesUntilFailure N.Drain writing.old.failed writing.new.failed lines.old lines.new
-        (last_lines mark (ledger.now.base + ledger.now.book.sealed) ledger.now.journal.used
+        (last_lines mark (ledger.now.base + ledger.now.book.book.sealed) ledger.now.journal.used
         (length (copied_seen ledger.now.journal.disk))) }
 {
     writing.write(lines, marked_line(mark).bytes());
@@ -90,7 +90,7 @@ fn write_counts<N: Drain>(
 
 /// Returns the line of the number of sealed letters, with those that the base counts.
 fn sealed_in(ledger: &Ledger<CopiedDisk>) -> ShortText
-    ensures { result ≡ sealed_line (ledger.now.base + ledger.now.book.sealed) }
+    ensures { result ≡ sealed_line (ledger.now.base + ledger.now.book.book.sealed) }
 {
     sealed_line(ledger.base(), ledger.book().sealed())
 }

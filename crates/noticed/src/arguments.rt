@@ -147,7 +147,6 @@ fn command_given(
     }
 }
 
-
 /// What `status` prints.
 fn view_of(given: &ArgMatches<'_>) -> StatusView {
     if given.get_flag("open") {

@@ -75,7 +75,9 @@ pub(crate) fn run_serve<R: Threads + Wait + Clock + Files + Eprint + Env + Alloc
     };
     print_start(rt, &watch, &socket, &host, &serving);
     let outbox = WatchedOutbox::new(writer, &watch);
-    let status = serve_clients(rt, waiting, &socket, &listener, &watch, serving, outbox, folder);
+    let status = serve_clients(
+        rt, waiting, &socket, &listener, &watch, serving, outbox, folder,
+    );
     if let Some(error) = watch.accept_error() {
         print_socket_error(rt, &socket, &error);
     }
@@ -177,7 +179,14 @@ fn listen<'a, R: Files + Eprint + Clock + Wait + Env + AllocGlobal>(
         Some(listener) => listener,
         None => make_socket(rt, paths.socket)?,
     };
-    let watch = SocketWatch::new(waiting, rt.alloc(), &listener, paths, options, service_manager(rt))?;
+    let watch = SocketWatch::new(
+        waiting,
+        rt.alloc(),
+        &listener,
+        paths,
+        options,
+        service_manager(rt),
+    )?;
     Ok((listener, watch))
 }
 

@@ -10,6 +10,6 @@ use Rattle.dsn_listing.proofs.closed_keys.closed_keys_of.Goals as goal
 pub returns : goal.returns
 returns c = λ history stands. (
   IsPermutation-trans _ _ _ (closed_keys-represented c.args.book.now history stands)
-      (subst (λ (keys : List Key). IsPermutation keys c.sort.new.self.items) (c.in-Ok.ensures ∙ ap closed_among c.entries.ensures) c.sort.ensures.permutation),
+      (subst (λ (keys : List Key). IsPermutation keys c.sort.new.self.items) (c.in-Ok.ensures ∙ ap closed_among c.entries.ensures.all) c.sort.ensures.permutation),
   sorted-as _ key_cmp _ c.keys_are_ordered.ensures (when-good c.sort.result _ (sym c.is_err.ensures.value ∙ c.if-is_err.false) c.sort.ensures.sorted),
 )

@@ -12,8 +12,8 @@ use crate::status_socket::StatusSocket;
 use dsn_journal::FileDisk;
 use dsn_outcome::Plain;
 use noticed_lib::{
-    JournalFolder, JournaledEnd, ServeEnd, Serving, SocketWatch, Watch, WatchOptions,
-    WatchedOutbox, WatchedPaths, serve_journaled, serve_watched,
+    JournalFolder, JournaledEnd, ServeEnd, ServiceManager, Serving, SocketWatch, Watch,
+    WatchOptions, WatchedOutbox, WatchedPaths, serve_journaled, serve_watched,
 };
 use std::alloc::AllocGlobal;
 use std::fs::Files;
@@ -46,7 +46,7 @@ pub(crate) fn run_serve<R: Threads + Wait + Clock + Files + Eprint + Env + Alloc
     // First of all: a file that is opened here could get the descriptor of one that isn't inherited.
     let inherited = match inherited_at(&socket, options.inherits) {
         Ok(inherited) => inherited,
-        Err(error) => return Ok(print_socket_fault(rt, &socket, &error)),
+        Err(error) => return no_socket(rt, &socket, &error),
     };
     let outbox = match outbox_at(rt, outbox) {
         Ok(outbox) => outbox,
@@ -63,15 +63,16 @@ pub(crate) fn run_serve<R: Threads + Wait + Clock + Files + Eprint + Env + Alloc
     // no client from the first.
     let run_file = match run_file_at(rt, &socket, options.inherits) {
         Ok(file) => file,
-        Err(error) => return Ok(print_socket_fault(rt, &socket, &error)),
+        Err(error) => return no_socket(rt, &socket, &error),
     };
     let paths = WatchedPaths {
         socket: &socket,
         run_file: run_file.path(),
     };
-    let (listener, watch) = match listen(rt, waiting, inherited, paths, options) {
+    let manager = service_manager(rt)?;
+    let (listener, watch) = match listen(rt, waiting, inherited, paths, options, manager) {
         Ok(listening) => listening,
-        Err(error) => return Ok(print_socket_fault(rt, &socket, &error)),
+        Err(error) => return no_socket(rt, &socket, &error),
     };
     print_start(rt, &watch, &socket, &host, &serving);
     let outbox = WatchedOutbox::new(writer, &watch);
@@ -120,6 +121,14 @@ fn serve_clients<R: Threads + Wait + Clock + Files + Eprint + Sync>(
     let ServeEnd { outbox, status } = end;
     let_go(outbox.into_inner().into_inner());
     status
+}
+
+/// Prints why a socket isn't available, and returns the status; an error if memory was refused.
+fn no_socket(rt: &HostRuntime, socket: &str, error: &io::Error) -> Result<u8, StartError> {
+    if error.kind() == ErrorKind::OutOfMemory {
+        return Err(StartError::NoMemory);
+    }
+    Ok(print_socket_fault(rt, socket, error))
 }
 
 /// The inherited socket, which has to be at this path, if one is inherited.
@@ -174,19 +183,13 @@ fn listen<'a, R: Files + Eprint + Clock + Wait + Env + AllocGlobal>(
     inherited: Option<UnixListener>,
     paths: WatchedPaths<'a>,
     options: WatchOptions,
+    manager: Option<ServiceManager>,
 ) -> io::Result<(UnixListener, SocketWatch<'a, R>)> {
     let listener = match inherited {
         Some(listener) => listener,
         None => make_socket(rt, paths.socket)?,
     };
-    let watch = SocketWatch::new(
-        waiting,
-        rt.alloc(),
-        &listener,
-        paths,
-        options,
-        service_manager(rt),
-    )?;
+    let watch = SocketWatch::new(waiting, rt.alloc(), &listener, paths, options, manager)?;
     Ok((listener, watch))
 }
 

@@ -1,9 +1,11 @@
 //! The service manager's socket, at the path that the environment has (sd_notify(3)).
 //! std has no datagram sockets of Unix: so the C library is asked for one.
+use crate::start_error::StartError;
 use libc::net::{_SS_SIZE, AF_UNIX, SOCK_CLOEXEC, SOCK_DGRAM, connect, socket};
 use noticed_lib::ServiceManager;
 use os::FromRawFd;
 use std::env;
+use std::env::VarError;
 use std::os::unix::net::UnixStream;
 use std::time::Duration;
 
@@ -14,16 +16,33 @@ const FAMILY: usize = 2;
 const LONGEST_PATH: usize = 107;
 
 /// The service manager that the environment names. None if it names none, or if it can't be
-/// reached: the run doesn't depend on it.
-pub(crate) fn service_manager(rt: &HostRuntime) -> Option<ServiceManager> {
-    let path = env::var(rt, "NOTIFY_SOCKET").ok()?;
-    ServiceManager::new(connected(path.as_bytes())?, watchdog_interval(rt)).ok()
+/// reached: the run doesn't depend on it. Returns an error if memory is refused.
+pub(crate) fn service_manager(rt: &HostRuntime) -> Result<Option<ServiceManager>, StartError> {
+    let Some(path) = variable(rt, "NOTIFY_SOCKET")? else {
+        return Ok(None);
+    };
+    let interval = match variable(rt, "WATCHDOG_USEC")? {
+        Some(text) => watchdog_interval(text.as_str()),
+        None => None,
+    };
+    match connected(path.as_bytes()) {
+        Some(socket) => Ok(ServiceManager::new(socket, interval).ok()),
+        None => Ok(None),
+    }
 }
 
-/// Half of the time after which the service manager takes the run for hung, if it does that.
-fn watchdog_interval(rt: &HostRuntime) -> Option<Duration> {
-    let text = env::var(rt, "WATCHDOG_USEC").ok()?;
-    let microseconds = text.as_str().parse::<u64>().ok()?;
+/// A variable of the environment, if it is set and is text.
+fn variable(rt: &HostRuntime, name: &str) -> Result<Option<String>, StartError> {
+    match env::var(rt, name) {
+        Ok(text) => Ok(Some(text)),
+        Err(VarError::OutOfMemory) => Err(StartError::NoMemory),
+        Err(_) => Ok(None),
+    }
+}
+
+/// Half of this number of microseconds, after which the service manager takes the run for hung.
+fn watchdog_interval(text: &str) -> Option<Duration> {
+    let microseconds = text.parse::<u64>().ok()?;
     Some(Duration::from_micros(microseconds / 2))
 }
 

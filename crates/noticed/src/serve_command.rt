@@ -8,18 +8,15 @@ use crate::run_file::RunFile;
 use crate::service_socket::service_manager;
 use crate::socket_fault::{print_socket_error, print_socket_fault};
 use crate::start_error::StartError;
-use crate::status_socket::StatusSocket;
+use crate::status_socket::{StatusSocket, StatusSource, status_path};
 use dsn_journal::FileDisk;
 use dsn_outcome::Plain;
 use noticed_lib::{
     JournalFolder, JournaledEnd, ServeEnd, ServiceManager, Serving, SocketWatch, Watch,
     WatchOptions, WatchedOutbox, WatchedPaths, serve_journaled, serve_watched,
 };
-use std::alloc::AllocGlobal;
-use std::fs::Files;
 use std::io::{BufWriter, Eprint, ErrorKind};
 use std::os::unix::net::UnixListener;
-use std::rt::Env;
 use std::sync::Wait;
 use std::thread::{JoinHandle, Scope, Threads};
 use std::time::Clock;
@@ -27,7 +24,7 @@ use std::{io, thread};
 
 /// Runs `serve` over a socket that it makes or inherits, and returns its status. Only in `main` may
 /// the runtime start threads and wait, so `waiting` passes it again with these rights.
-pub(crate) fn run_serve<R: Threads + Wait + Clock + Files + Eprint + Env + AllocGlobal + Sync>(
+pub(crate) fn run_serve<R: Threads + Wait + Clock + Sync>(
     rt: &HostRuntime,
     waiting: &R,
     arguments: ServeArguments,
@@ -70,7 +67,7 @@ pub(crate) fn run_serve<R: Threads + Wait + Clock + Files + Eprint + Env + Alloc
         run_file: run_file.path(),
     };
     let manager = service_manager(rt)?;
-    let (listener, watch) = match listen(rt, waiting, inherited, paths, options, manager) {
+    let (listener, watch) = match listen(rt, inherited, paths, options, manager) {
         Ok(listening) => listening,
         Err(error) => return no_socket(rt, &socket, &error),
     };
@@ -78,7 +75,7 @@ pub(crate) fn run_serve<R: Threads + Wait + Clock + Files + Eprint + Env + Alloc
     let outbox = WatchedOutbox::new(writer, &watch);
     let status = serve_clients(
         rt, waiting, &socket, &listener, &watch, serving, outbox, folder,
-    );
+    )?;
     if let Some(error) = watch.accept_error() {
         print_socket_error(rt, &socket, &error);
     }
@@ -86,20 +83,21 @@ pub(crate) fn run_serve<R: Threads + Wait + Clock + Files + Eprint + Env + Alloc
 }
 
 /// Serves the clients of a socket, over the disks of a journal if there are some. Returns the status.
-fn serve_clients<R: Threads + Wait + Clock + Files + Eprint + Sync>(
+fn serve_clients<R: Threads + Wait + Clock + Sync>(
     rt: &HostRuntime,
     waiting: &R,
     socket: &str,
     listener: &UnixListener,
-    watch: &SocketWatch<'_, R>,
+    watch: &SocketWatch<'_, HostRuntime>,
     serving: Serving,
-    outbox: WatchedOutbox<'_, BufWriter<OutboxWriter>, SocketWatch<'_, R>>,
+    outbox: WatchedOutbox<'_, BufWriter<OutboxWriter>, SocketWatch<'_, HostRuntime>>,
     folder: Option<JournalFolder<FileDisk<'_>, FileDisk<'_>>>,
-) -> u8 {
+) -> Result<u8, StartError> {
     let outbox = Plain::new(outbox);
     let notes = &mut Plain::new(rt.stderr());
     let alloc = rt.alloc();
-    let status = status_at(rt, watch, socket);
+    let path = status_path(alloc, socket)?;
+    let status = status_at(rt, watch, socket, &path);
     let end = thread::scope(thread::scope_env(), waiting, |scope| {
         let answering = start_answering(rt, scope, status.as_ref(), watch);
         let end = match folder {
@@ -120,7 +118,7 @@ fn serve_clients<R: Threads + Wait + Clock + Files + Eprint + Sync>(
     });
     let ServeEnd { outbox, status } = end;
     let_go(outbox.into_inner().into_inner());
-    status
+    Ok(status)
 }
 
 /// Prints why a socket isn't available, and returns the status; an error if memory was refused.
@@ -177,19 +175,18 @@ fn run_file_at(rt: &HostRuntime, socket: &str, inherits: bool) -> io::Result<Run
 }
 
 /// The inherited socket, or one that is made at its path, and the watch over it.
-fn listen<'a, R: Files + Eprint + Clock + Wait + Env + AllocGlobal>(
-    rt: &HostRuntime,
-    waiting: &'a R,
+fn listen<'a>(
+    rt: &'a HostRuntime,
     inherited: Option<UnixListener>,
     paths: WatchedPaths<'a>,
     options: WatchOptions,
     manager: Option<ServiceManager>,
-) -> io::Result<(UnixListener, SocketWatch<'a, R>)> {
+) -> io::Result<(UnixListener, SocketWatch<'a, HostRuntime>)> {
     let listener = match inherited {
         Some(listener) => listener,
         None => make_socket(rt, paths.socket)?,
     };
-    let watch = SocketWatch::new(waiting, rt.alloc(), &listener, paths, options, manager)?;
+    let watch = SocketWatch::new(rt, rt.alloc(), &listener, paths, options, manager)?;
     Ok((listener, watch))
 }
 
@@ -199,8 +196,9 @@ fn status_at<'a>(
     rt: &HostRuntime,
     watch: &impl Watch,
     socket: &'a str,
+    path: &'a str,
 ) -> Option<StatusSocket<'a>> {
-    match StatusSocket::make(rt, socket) {
+    match StatusSocket::make(rt, socket, path) {
         Ok(status) => Some(status),
         Err(error) => {
             log_no_status(rt, watch, &error);
@@ -210,7 +208,7 @@ fn status_at<'a>(
 }
 
 /// Logs why the daemon doesn't answer for its status.
-fn log_no_status(rt: &HostRuntime, watch: &impl Watch, error: &io::Error) {
+fn log_no_status(rt: &impl Eprint, watch: &impl Watch, error: &io::Error) {
     if watch.logs() {
         let _ = eprintln!(rt; "no status: {error}");
     }
@@ -218,11 +216,11 @@ fn log_no_status(rt: &HostRuntime, watch: &impl Watch, error: &io::Error) {
 
 /// Starts the thread that answers for the status, if there is a socket for it. The socket goes if the
 /// thread is refused.
-fn start_answering<'s, E: 's, R: Files + Eprint + Clock + Wait + Sync>(
+fn start_answering<'s, E: 's, S: StatusSource + Watch + Sync>(
     rt: &'s HostRuntime,
     scope: &Scope<'s, E>,
     status: Option<&'s StatusSocket<'s>>,
-    watch: &'s SocketWatch<'s, R>,
+    watch: &'s S,
 ) -> Option<JoinHandle<()>> {
     let status = status?;
     match scope.spawn(move || status.answer_all(rt, watch)) {

@@ -6,13 +6,12 @@ use crate::status_metrics::value_in;
 use noticed_lib::{SocketWatch, Watch};
 use std::alloc::{AllocError, Global};
 use std::fmt::Write as _;
-use std::fs::Metadata;
+use std::fs::{Files, Metadata};
 use std::io::{Eprint, Error, ErrorKind, Write};
 use std::net::Shutdown;
 use std::os::fd::OwnedFd;
 use std::os::unix::fs::{FileTypeExt, MetadataExt};
 use std::os::unix::net::{UnixListener, UnixStream};
-use std::sync::Wait;
 use std::sync::atomic::{AtomicBool, Ordering};
 use std::time::{Clock, Duration, SystemTime};
 use std::{fs, io, thread};
@@ -40,6 +39,25 @@ pub(crate) fn status_path(alloc: Global, socket: &str) -> Result<String, AllocEr
     format!(in alloc; "{socket}.status")
 }
 
+/// What knows the counts of a run.
+pub(crate) trait StatusSource {
+    /// The lines of the counts. Returns an error if there is no memory for them.
+    fn lines(&self, alloc: Global) -> Result<String, AllocError>;
+
+    /// For how long the run goes on.
+    fn uptime(&self) -> Duration;
+}
+
+impl<R: Files + Eprint + Clock> StatusSource for SocketWatch<'_, R> {
+    fn lines(&self, alloc: Global) -> Result<String, AllocError> {
+        self.status(alloc)
+    }
+
+    fn uptime(&self) -> Duration {
+        self.elapsed()
+    }
+}
+
 /// A socket at which a daemon answers for its status.
 #[derive(Drop)]
 pub(crate) struct StatusSocket<'a> {
@@ -48,7 +66,7 @@ pub(crate) struct StatusSocket<'a> {
     listener: UnixListener,
     /// The listening socket once more: shut down, it wakes the thread.
     waking: UnixStream,
-    path: String,
+    path: &'a str,
     /// The device and the inode of the socket's file.
     file: (u64, u64),
     /// When it was made, in seconds since 1970 began.
@@ -57,36 +75,31 @@ pub(crate) struct StatusSocket<'a> {
 }
 
 impl<'a> StatusSocket<'a> {
-    /// Makes the socket for the daemon at this path, in place of one that an earlier daemon left.
-    /// Returns an error if another file has the path, or if the system refuses it.
-    pub(crate) fn make(rt: &HostRuntime, socket: &'a str) -> io::Result<StatusSocket<'a>> {
-        let path = status_path(rt.alloc(), socket)?;
-        remove_socket(rt, path.as_str())?;
-        let listener = UnixListener::bind(rt, path.as_str())?;
-        match StatusSocket::over(rt, socket, listener, path) {
-            Ok(status) => Ok(status),
-            Err((error, path)) => {
-                let _ = remove_socket(rt, path.as_str());
-                Err(error)
-            }
+    /// Makes the socket at `path` for the daemon at `socket`, in place of one that an earlier daemon
+    /// left. Returns an error if another file has the path, or if the system refuses it.
+    pub(crate) fn make(
+        rt: &HostRuntime,
+        socket: &'a str,
+        path: &'a str,
+    ) -> io::Result<StatusSocket<'a>> {
+        remove_socket(rt, path)?;
+        let listener = UnixListener::bind(rt, path)?;
+        let made = StatusSocket::over(rt, socket, listener, path);
+        if made.is_err() {
+            let _ = remove_socket(rt, path);
         }
+        made
     }
 
-    /// The status over a socket that was just bound to this path. Returns the path with an error.
+    /// The status over a socket that was just bound to this path.
     fn over(
         rt: &HostRuntime,
         socket: &'a str,
         listener: UnixListener,
-        path: String,
-    ) -> Result<StatusSocket<'a>, (io::Error, String)> {
-        let file = match fs::symlink_metadata(rt, path.as_str()) {
-            Ok(file) => identity(&file),
-            Err(error) => return Err((error, path)),
-        };
-        let waking = match waking(&listener) {
-            Ok(waking) => waking,
-            Err(error) => return Err((error, path)),
-        };
+        path: &'a str,
+    ) -> io::Result<StatusSocket<'a>> {
+        let file = identity(&fs::symlink_metadata(rt, path)?);
+        let waking = waking(&listener)?;
         Ok(StatusSocket {
             socket,
             listener,
@@ -99,11 +112,7 @@ impl<'a> StatusSocket<'a> {
     }
 
     /// Answers clients, one after another, until [`StatusSocket::end`].
-    pub(crate) fn answer_all<R: fs::Files + Eprint + Clock + Wait>(
-        &self,
-        rt: &HostRuntime,
-        watch: &SocketWatch<'_, R>,
-    ) {
+    pub(crate) fn answer_all<S: StatusSource>(&self, rt: &HostRuntime, watch: &S) {
         for _ in 0..u64::MAX {
             if self.is_over.load(Ordering::SeqCst) {
                 return;
@@ -120,29 +129,29 @@ impl<'a> StatusSocket<'a> {
     }
 
     /// Ends the thread, and removes the socket's file unless its path is another daemon's by now.
-    pub(crate) fn end(&self, rt: &HostRuntime) {
+    pub(crate) fn end(&self, rt: &impl Files) {
         self.is_over.store(true, Ordering::SeqCst);
         let _ = self.waking.shutdown(Shutdown::Both);
-        if let Ok(file) = fs::symlink_metadata(rt, self.path.as_str()) {
+        if let Ok(file) = fs::symlink_metadata(rt, self.path) {
             if identity(&file) == self.file {
-                let _ = fs::remove_file(rt, self.path.as_str());
+                let _ = fs::remove_file(rt, self.path);
             }
         }
     }
 
     /// Writes the status to a client. A client that doesn't read is cut off.
-    fn answer<R: fs::Files + Eprint + Clock + Wait>(
+    fn answer<S: StatusSource>(
         &self,
         rt: &HostRuntime,
         stream: UnixStream,
-        watch: &SocketWatch<'_, R>,
+        watch: &S,
     ) -> io::Result<()> {
         let text = self.text(rt, watch)?;
         stream.set_write_timeout(Some(Duration::from_secs(TICK)))?;
-        let until = watch.elapsed().saturating_add(Duration::from_secs(TICK));
+        let until = watch.uptime().saturating_add(Duration::from_secs(TICK));
         for piece in text.as_bytes().chunks(PIECE) {
             (&stream).write_all(piece)?;
-            if watch.elapsed() > until {
+            if watch.uptime() > until {
                 return Err(Error::from(ErrorKind::TimedOut));
             }
         }
@@ -150,15 +159,11 @@ impl<'a> StatusSocket<'a> {
     }
 
     /// The text of the status.
-    fn text<R: fs::Files + Eprint + Clock + Wait>(
-        &self,
-        rt: &HostRuntime,
-        watch: &SocketWatch<'_, R>,
-    ) -> Result<String, AllocError> {
+    fn text<S: StatusSource>(&self, rt: &HostRuntime, watch: &S) -> Result<String, AllocError> {
         let mut text = String::new(rt.alloc());
         writeln!(text, "version {VERSION}")?;
         writeln!(text, "started_seconds {}", self.started)?;
-        let counts = watch.status(rt.alloc())?;
+        let counts = watch.lines(rt.alloc())?;
         let has_clients = value_in(counts.as_str(), "agents_busy") != Some("0");
         if let Some(waiting) = waiting_at(rt, self.socket, has_clients) {
             writeln!(text, "clients_waiting {waiting}")?;

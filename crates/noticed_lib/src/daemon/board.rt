@@ -5,9 +5,13 @@ use crate::daemon::key_gauge::{KeyChange, KeyCounts, KeyGauge};
 use crate::daemon::open_logs::{OpenLog, OpenLogs};
 use dsn_outcome::{Key, Reply};
 use std::alloc::Global;
-use std::io;
 use std::sync::atomic::{AtomicI32, AtomicU32, AtomicU64, Ordering};
-use std::sync::{Mutex, Wait};
+use std::sync::{Mutex, MutexGuard};
+use std::{io, thread};
+
+/// How often a thread tries to have the open logs. The other one has them for a millisecond at most.
+// Not by waiting: only `main` may pass the right to wait, and a watch keeps no such handle.
+const TRIES: u32 = 1_000_000;
 
 /// The counters of a run.
 #[derive(Drop)]
@@ -43,24 +47,48 @@ impl Board {
     }
 
     /// Notes a key that is held as the run begins, `now` seconds after the watch was made.
-    pub(crate) fn holds(&self, rt: &impl Wait, key: Key, outcomes: Option<u32>, now: u64) {
+    pub(crate) fn holds(&self, key: Key, outcomes: Option<u32>, now: u64) {
         match outcomes {
             Some(outcomes) => {
                 self.keys.count(KeyChange::Opened);
-                self.open.lock(rt).open(key, outcomes, now);
+                if let Some(mut logs) = self.logs() {
+                    logs.open(key, outcomes, now);
+                }
             }
             None => self.keys.count(KeyChange::HeldClosed),
         }
     }
 
     /// Notes what a request changed about its key, `now` seconds after the watch was made.
-    pub(crate) fn changed(&self, rt: &impl Wait, key: Key, change: KeyChange, now: u64) {
+    pub(crate) fn changed(&self, key: Key, change: KeyChange, now: u64) {
+        let is_same = matches!(
+            change,
+            KeyChange::HeldClosed | KeyChange::Forgotten | KeyChange::Nothing
+        );
+        if is_same {
+            return;
+        }
+        let Some(mut logs) = self.logs() else {
+            return;
+        };
         match change {
-            KeyChange::Opened => self.open.lock(rt).open(key, 1, now),
-            KeyChange::Grew(outcomes) => self.open.lock(rt).count(&key, outcomes),
-            KeyChange::Closed => self.open.lock(rt).close(&key),
+            KeyChange::Opened => logs.open(key, 1, now),
+            KeyChange::Grew(outcomes) => logs.count(&key, outcomes),
+            KeyChange::Closed => logs.close(&key),
             KeyChange::HeldClosed | KeyChange::Forgotten | KeyChange::Nothing => {}
         }
+    }
+
+    /// The open logs, once no other thread has them. `None` after very many tries: the list is then
+    /// not as the logs are.
+    fn logs(&self) -> Option<MutexGuard<'_, OpenLogs>> {
+        for _ in 0..TRIES {
+            if let Some(logs) = self.open.try_lock() {
+                return Some(logs);
+            }
+            thread::yield_now();
+        }
+        None
     }
 
     /// Counts a reply, and what it says of its key. Returns that.
@@ -127,14 +155,19 @@ impl Board {
     }
 
     /// The open logs, in no order. Some are left out if there is no memory for them.
-    pub(crate) fn open_logs(&self, rt: &impl Wait, alloc: Global) -> Vec<OpenLog> {
+    pub(crate) fn open_logs(&self, alloc: Global) -> Vec<OpenLog> {
         // The memory is taken before the lock, and the lines are made after it: a request waits for
         // the copying alone.
-        let many = self.open.lock(rt).len();
+        let many = match self.logs() {
+            Some(logs) => logs.len(),
+            None => 0,
+        };
         let Ok(mut list) = Vec::with_capacity(alloc, many) else {
             return Vec::new(alloc);
         };
-        self.open.lock(rt).copy_to(&mut list);
+        if let Some(logs) = self.logs() {
+            logs.copy_to(&mut list);
+        }
         list
     }
 }

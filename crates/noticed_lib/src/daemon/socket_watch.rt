@@ -16,7 +16,6 @@ use std::os::fd::OwnedFd;
 use std::os::unix::fs::MetadataExt;
 use std::os::unix::net::{UnixListener, UnixStream};
 use std::rt::Env;
-use std::sync::Wait;
 use std::sync::atomic::{AtomicBool, AtomicI32, AtomicU32, AtomicU64, Ordering};
 use std::time::{Clock, Duration, Instant};
 use std::{fs, io};
@@ -90,7 +89,7 @@ pub struct SocketWatch<'a, R> {
     board: Board,
 }
 
-impl<'a, R: Files + Eprint + Clock + Wait + Env + AllocGlobal> SocketWatch<'a, R> {
+impl<'a, R: Files + Eprint + Clock + Env + AllocGlobal> SocketWatch<'a, R> {
     /// The watch over the socket and the run's file at these paths; it gives the socket's accepts a
     /// time limit. If a file is gone already the run ends at once. Returns an error if the system
     /// doesn't answer for a file, has no descriptor left, or has no clock.
@@ -126,7 +125,7 @@ impl<'a, R: Files + Eprint + Clock + Wait + Env + AllocGlobal> SocketWatch<'a, R
     }
 }
 
-impl<R: Files + Eprint + Clock + Wait> SocketWatch<'_, R> {
+impl<R: Files + Eprint + Clock> SocketWatch<'_, R> {
     /// The first error of an accept, if one failed.
     pub fn accept_error(&self) -> Option<io::Error> {
         match self.accept_error.load(Ordering::SeqCst) {
@@ -143,7 +142,7 @@ impl<R: Files + Eprint + Clock + Wait> SocketWatch<'_, R> {
             busy: self.busy.load(Ordering::SeqCst),
             uptime: self.elapsed().as_secs(),
         };
-        status_text(self.rt, alloc, &self.board, run)
+        status_text(alloc, &self.board, run)
     }
 
     /// Logs how many keys are in use, if a line is due `now` seconds after the watch was made.
@@ -244,7 +243,7 @@ fn identity_at<R: Files>(rt: &R, path: &str) -> io::Result<(u64, u64)> {
     }
 }
 
-impl<R: Files + Eprint + Clock + Wait> Watch for SocketWatch<'_, R> {
+impl<R: Files + Eprint + Clock> Watch for SocketWatch<'_, R> {
     ghost may_end = { λ _. Unit {0} };
 
     fn looks_up(&self) -> bool {
@@ -349,7 +348,7 @@ impl<R: Files + Eprint + Clock + Wait> Watch for SocketWatch<'_, R> {
 
     fn holds(&self, key: Key, outcomes: Option<u32>) {
         let now = self.elapsed().as_secs();
-        self.board.holds(self.rt, key, outcomes, now);
+        self.board.holds(key, outcomes, now);
     }
 
     fn carried_out(&self, key: Option<Key>, reply: Reply) {
@@ -362,7 +361,7 @@ impl<R: Files + Eprint + Clock + Wait> Watch for SocketWatch<'_, R> {
         } else {
             0
         };
-        self.board.changed(self.rt, key, change, now);
+        self.board.changed(key, change, now);
         if change.takes_a_key() {
             self.look_at_keys(now);
         }

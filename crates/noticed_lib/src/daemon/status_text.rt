@@ -4,7 +4,6 @@ use crate::daemon::board::Board;
 use crate::daemon::open_logs::OpenLog;
 use std::alloc::{AllocError, Global};
 use std::fmt::Write;
-use std::sync::Wait;
 
 /// How many agents a run has, how many of them have a connection, and for how many seconds it goes
 /// on.
@@ -18,7 +17,6 @@ pub(crate) struct RunCounts {
 /// The lines of a run's status, each a name, a space and a value. Returns an error if there is no
 /// memory for them.
 pub(crate) fn status_text(
-    rt: &impl Wait,
     alloc: Global,
     board: &Board,
     run: RunCounts,
@@ -36,7 +34,7 @@ pub(crate) fn status_text(
     add_all(&mut text, &board.answers.named())?;
     add_all(&mut text, &board.events())?;
     add_fault(&mut text, board)?;
-    add_open_logs(&mut text, board.open_logs(rt, alloc), run.uptime)?;
+    add_open_logs(&mut text, board.open_logs(alloc), run.uptime)?;
     Ok(text)
 }
 

@@ -48,7 +48,7 @@ impl<K: Keeper, O: Observer> Watched<K, O> {
 }
 
 impl<K: Keeper, O: Observer> Keeper for Watched<K, O> {
-    ghost limits = { λ w. K.limits w };
+    ghost rules = { λ w. K.rules w };
 
     ghost has = { λ w. K.has w };
 

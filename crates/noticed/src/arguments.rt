@@ -85,6 +85,8 @@ pub(crate) struct ServeArguments {
 pub(crate) struct ServeOptions {
     /// The folder of the journal, if there is to be one.
     pub(crate) journal: Option<String>,
+    /// Whether closed keys make room for new ones, which a journal has to keep.
+    pub(crate) releases: bool,
     /// The path of the outbox, if it isn't standard output.
     pub(crate) outbox: Option<String>,
     /// What the run's watch is asked to do.

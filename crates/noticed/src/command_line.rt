@@ -47,6 +47,15 @@ fn serve<'a>(alloc: Global) -> Result<Command<'a>, AllocError> {
         .arg(option(alloc, "journal", "FOLDER").help(
             "Keeps each request in FOLDER before it is answered",
         ))?
+        .arg(flag(alloc, "release-closed").help(
+            "With a journal: releases the key that was closed longest ago if a new one finds no room",
+        ))?
+        .arg(option(alloc, "logs", "N").help(
+            "How many keys are held at once, closed ones too, 1 to 65536 [default: 4096]",
+        ))?
+        .arg(option(alloc, "entries", "N").help(
+            "How many outcomes a log takes, 1 to 1000 [default: 1000]",
+        ))?
         .arg(option(alloc, "outbox", "PATH").help("Writes the outbox to PATH, synced"))?
         .arg(option(alloc, "idle", "SECONDS").help(
             "Cuts off a client that is silent, or takes for a frame, SECONDS, 1 to 86400",

@@ -6,13 +6,16 @@ use std::fs;
 use std::io::ErrorKind;
 
 /// The keys: the long names of the options and arguments of `serve`.
-const KEYS: [&str; 10] = [
+const KEYS: [&str; 13] = [
     "socket",
     "host",
     "agents",
     "max-use",
     "journal",
     "outbox",
+    "release-closed",
+    "logs",
+    "entries",
     "idle",
     "end-on-fault",
     "log",

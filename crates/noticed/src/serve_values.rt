@@ -6,6 +6,7 @@ use crate::arguments::{
 use crate::config_file::ConfigFile;
 use crate::start_error::StartError;
 use clap::ArgMatches;
+use dsn_book::{Limits, MOST_ENTRIES, MOST_LOGS};
 use noticed_lib::{Serving, WatchOptions};
 use std::alloc::Global;
 
@@ -51,6 +52,7 @@ impl ServeValues<'_, '_> {
                 agents,
                 max_use: self.number("MAX-USE", MOST_USE)?,
                 site: self.placed(host, site_of(self.alloc, host.text))?,
+                limits: self.limits()?,
             },
             socket: self.placed(socket, socket_in(self.alloc, socket.text))?,
             host: owned(self.alloc, host.text)?,
@@ -68,11 +70,19 @@ impl ServeValues<'_, '_> {
                 "a journal requires an outbox: --outbox PATH",
             ));
         }
+        let releases = self.flag("release-closed")?;
+        if releases && journal.is_none() {
+            return Err(StartError::reason(
+                self.alloc,
+                "--release-closed requires a journal: --journal FOLDER",
+            ));
+        }
         Ok(ServeOptions {
             journal,
+            releases,
             outbox,
             watch: WatchOptions {
-                idle_limit: self.idle_limit()?,
+                idle_limit: self.number_if("idle", MOST_IDLE)?,
                 ends_on_fault: self.flag("end-on-fault")?,
                 logs: self.flag("log")?,
                 agents,
@@ -123,12 +133,26 @@ impl ServeValues<'_, '_> {
         self.placed(value, number_in(self.alloc, name, value.text, most))
     }
 
-    /// For how many seconds a client may be silent, if the option says so.
-    fn idle_limit(&self) -> Result<Option<u32>, StartError> {
-        match self.value("idle") {
-            Some(_) => Ok(Some(self.number("idle", MOST_IDLE)?)),
+    /// The number that an option says, from 1 to `most`, if it is set.
+    fn number_if(&self, name: &str, most: u32) -> Result<Option<u32>, StartError> {
+        match self.value(name) {
+            Some(_) => Ok(Some(self.number(name, most)?)),
             None => Ok(None),
         }
+    }
+
+    /// The limits of the daemon's book.
+    fn limits(&self) -> Result<Limits, StartError> {
+        let logs = self.number_if("logs", MOST_LOGS)?;
+        let entries = self.number_if("entries", MOST_ENTRIES)?;
+        let program = Limits::of_program();
+        let limits = Limits::new(
+            logs.unwrap_or(program.logs()),
+            entries.unwrap_or(program.entries()),
+            program.requests(),
+        );
+        // Each number is within its bound.
+        Ok(limits.unwrap_or(program))
     }
 
     /// Whether an option without a value is given. The configuration file says `yes` or `no`.

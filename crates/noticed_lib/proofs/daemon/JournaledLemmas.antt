@@ -72,11 +72,11 @@ module _ {D : Type 0} (disk : Disk.Ghosts D) (ledger : Ledger D) (settled : ledg
   pub stands_for_all : StandsForFile ledger.book ledger.base (recovered (disk.seen ledger.journal.disk))
   stands_for_all = subst (StandsForFile ledger.book ledger.base) (sym (awaits.file ∙ append-nil awaits.front)) awaits.stands
 
-  module _ (durable : IsSettled disk ledger.journal.disk ledger.journal.used) (earlier : (long : List Exchange) → IsLedgerInPlaceOf ledger.book ledger.base (recovered (disk.seen ledger.journal.disk)) long → IsLedgerInPlaceOf ledger.book ledger.base (recovered (disk.seen ledger.journal.disk)) (of_earlier_run long)) (unanswered : (agent : ℕ) (long : List Exchange) → agent < earlier_agent → answers_to agent (of_earlier_run long) ≡ []) where
-    each : (long : List Exchange) → IsLedgerInPlaceOf ledger.book ledger.base (recovered (disk.seen ledger.journal.disk)) long → BeginsWith (ledger_keeper disk) ledger (of_earlier_run long)
-    each long in_place = (kept_to_carry_out disk ledger (of_earlier_run long) [] (has durable (of_earlier_run long) (earlier long in_place)), λ agent few. unanswered agent long few)
+  module _ (releases : Bool) (by_rule : (long : List Exchange) → HasKept disk ledger long [] → HasKept disk (record ledger { releases = releases }) long []) (durable : IsSettled disk ledger.journal.disk ledger.journal.used) (earlier : (long : List Exchange) → IsLedgerInPlaceOf ledger.book ledger.base (recovered (disk.seen ledger.journal.disk)) long → IsLedgerInPlaceOf ledger.book ledger.base (recovered (disk.seen ledger.journal.disk)) (of_earlier_run long)) (unanswered : (agent : ℕ) (long : List Exchange) → agent < earlier_agent → answers_to agent (of_earlier_run long) ≡ []) where
+    each : (long : List Exchange) → IsLedgerInPlaceOf ledger.book ledger.base (recovered (disk.seen ledger.journal.disk)) long → BeginsWith (ledger_keeper disk) (record ledger { releases = releases }) (of_earlier_run long)
+    each long in_place = (kept_to_carry_out disk (record ledger { releases = releases }) (of_earlier_run long) [] (by_rule (of_earlier_run long) (has durable (of_earlier_run long) (earlier long in_place))), λ agent few. unanswered agent long few)
 
-    pub begins_anew : HaveHistoryOfLedger ledger.book ledger.base (recovered (disk.seen ledger.journal.disk)) → BeginsAnew disk ledger
+    pub begins_anew : HaveHistoryOfLedger ledger.book ledger.base (recovered (disk.seen ledger.journal.disk)) → BeginsAnew disk (record ledger { releases = releases })
     begins_anew some = record { some = (of_earlier_run some.long, each some.long some.in_place); each = each }
 
 -- one that awaits nothing in place of a history awaits no request

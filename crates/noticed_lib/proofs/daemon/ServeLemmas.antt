@@ -96,7 +96,7 @@ module _ {P S : Type 0} (port : Port P S) (untold : (one : P) → port.conns one
     })
 
   -- and of a run over a journal
-  module _ {D M W N : Type 0} (disk : Disk.Ghosts D) (marks_disk : Disk.Ghosts M) (drain : Drain W) (notes_device : Drain N) (host : List ℕ) (limits : Limits) (ports : List P) (fit : All Fits ports) (journal : D) (marks : M) (outbox : W) (notes later : N) (end : ServeEnd W) (last : D) (last_marks : M) where
+  module _ {D M W N : Type 0} (disk : Disk.Ghosts D) (marks_disk : Disk.Ghosts M) (drain : Drain W) (notes_device : Drain N) (host : List ℕ) (rules : Rules) (ports : List P) (fit : All Fits ports) (journal : D) (marks : M) (outbox : W) (notes later : N) (end : ServeEnd W) (last : D) (last_marks : M) where
     run-uses : (ledger : Ledger D) (poster : Outgoing (MarkedOutbox W M)) → IsRunOver disk marks_disk (λ _. Unit {0}) port drain notes_device ports ledger poster notes later end last last_marks
         → IsRunOver disk marks_disk (λ _. Unit {0}) (socket_port may_end) drain notes_device (replicate (length ports) uses) ledger poster notes later end last last_marks
     run-uses ledger poster (inl served) = inl (record {
@@ -122,13 +122,14 @@ module _ {P S : Type 0} (port : Port P S) (untold : (one : P) → port.conns one
       crash = rw (length-replicate (length ports)) faulted.crash;
     })
 
-    pub over-uses : IsServeOver disk marks_disk port drain notes_device host limits ports journal marks outbox notes later end last last_marks
-        → IsServeOver disk marks_disk (socket_port may_end) drain notes_device host limits (replicate (length ports) uses) journal marks outbox notes later end last last_marks
+    pub over-uses : IsServeOver disk marks_disk port drain notes_device host rules ports journal marks outbox notes later end last last_marks
+        → IsServeOver disk marks_disk (socket_port may_end) drain notes_device host rules (replicate (length ports) uses) journal marks outbox notes later end last last_marks
     over-uses (inl none) = inl (record { code = none.code; back = none.back; why = none.why; noted = none.noted; crash = none.crash })
     over-uses (inr started) = inr (record {
       ledger = started.ledger;
       poster = started.poster;
       start = started.start;
+      rule = started.rule;
       run = run-uses started.ledger started.poster started.run;
     })
 
@@ -191,13 +192,13 @@ module _ {W N : Type 0} (may_end : Type 0) (uses : ℕ) (drain : Drain W) (notes
   no-ports cause (inl count) noted = inl (serve-refused may_end uses drain notes_device host limits agents start notes later end count.1 (subst (λ (it : CrewCause). WritesFault notes_device it start [] notes later end) count.0 noted))
   no-ports cause (inr refused) noted = inr ((refused.1, refused.2), subst (λ (it : CrewCause). WritesFault notes_device it start [] notes later end) refused.0 noted)
 
-  pub no-ports-over : {D M : Type 0} (disk : Disk.Ghosts D) (marks_disk : Disk.Ghosts M) (journal last : D) (marks last_marks : M) (cause : CrewCause) → HasNoPorts agents cause → WritesFault notes_device cause start [] notes later end → last ≡ journal → last_marks ≡ marks
-      → IsSocketServeOver disk marks_disk drain notes_device may_end host limits agents uses journal marks start notes later end last last_marks
-  no-ports-over disk marks_disk journal last marks last_marks cause (inl count) noted same same_marks = record {
+  pub no-ports-over : {D M : Type 0} (disk : Disk.Ghosts D) (marks_disk : Disk.Ghosts M) (rules : Rules) (journal last : D) (marks last_marks : M) (cause : CrewCause) → HasNoPorts agents cause → WritesFault notes_device cause start [] notes later end → last ≡ journal → last_marks ≡ marks
+      → IsSocketServeOver disk marks_disk drain notes_device may_end host rules agents uses journal marks start notes later end last last_marks
+  no-ports-over disk marks_disk rules journal last marks last_marks cause (inl count) noted same same_marks = record {
     crew = λ crew. absurd (no_crew agents crew count.1);
     none = λ _. (subst (λ (it : CrewCause). WritesFault notes_device it start [] notes later end) count.0 noted, same, same_marks);
   }
-  no-ports-over disk marks_disk journal last marks last_marks cause (inr refused) noted same same_marks = record {
+  no-ports-over disk marks_disk rules journal last marks last_marks cause (inr refused) noted same same_marks = record {
     crew = λ _. inr (subst (λ (it : CrewCause). WritesFault notes_device it start [] notes later end) refused.0 noted, same, same_marks);
     none = λ few. absurd (no_crew agents (refused.1, refused.2) few);
   }

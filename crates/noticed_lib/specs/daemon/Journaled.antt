@@ -3,6 +3,7 @@ use Rattle.dsn_book.specs.Release.{history_under}
 use Rattle.std.specs.Prelude.{◌≡◌, ◌≢◌, ◌⊎◌, ◌↔◌, ℕ, ◌+◌, ◌^◌, ◌<◌, ◌≤◌, Bool, true, false, List, [], IsErrOf, IsPermutation, OnErr, OnOk, Result, length, replicate, Some}
 use Rattle.dsn_book.specs.Book.{ReleasingBook, Represents}
 use Rattle.dsn_book.specs.Keeper.{MayCrash}
+use Rattle.dsn_book.specs.Release.{Rules}
 use Rattle.dsn_device.specs.Failures.{counted}
 use Rattle.dsn_outcome.specs.History.{Limits, Exchange, sealed_letters}
 use Rattle.dsn_crew.specs.Crew.{Account, CrewFault, HasAccount, HasFault, IsPostedBy, MayCrashWithin, PostedBefore, most_ports}
@@ -255,7 +256,7 @@ module _ {D M P S W N : Type 0} (disk : Disk.Ghosts D) (marks_disk : Disk.Ghosts
   IsRunOver = IsServedOver ⊎ IsFaultedOver
 
 module _ {D M P S W N : Type 0} (disk : Disk.Ghosts D) (marks_disk : Disk.Ghosts M)
-    (port : Port P S) (drain : Drain W) (notes_device : Drain N) (host : List ℕ) (limits : Limits)
+    (port : Port P S) (drain : Drain W) (notes_device : Drain N) (host : List ℕ) (rules : Rules)
     (ports : List P) (journal : D) (marks : M) (outbox : W) (notes later : N)
     (end : ServeEnd W) (last : D) (last_marks : M) where
   -- a run that did not begin: its notes have a number alone, and this is why. At each moment a crash
@@ -263,16 +264,19 @@ module _ {D M P S W N : Type 0} (disk : Disk.Ghosts D) (marks_disk : Disk.Ghosts
   pub record IsNotStarted : Type 0 where
     pub code : ℕ
     pub back : W
-    pub why : IsNoStart disk marks_disk drain host limits journal last marks last_marks outbox back
+    pub why : IsNoStart disk marks_disk drain host rules.limits journal last marks last_marks outbox back
         code
     pub noted : WritesNumber notes_device code back [] notes later end
-    pub crash : LeavesStart disk limits journal last
+    pub crash : LeavesStart disk rules.limits journal last
 
-  -- a run over a ledger that the disk held, after the letters that were still to be posted
+  -- a run over a ledger that the disk held, by these rules, after the letters that were still to be
+  -- posted
   pub record IsDaemonStarted : Type 0 where
     pub ledger : Ledger D
     pub poster : Outgoing (MarkedOutbox W M)
-    pub start : IsStartOver disk marks_disk drain host limits journal marks outbox ledger poster
+    pub start : IsStartOver disk marks_disk drain host rules.limits journal marks outbox ledger
+        poster
+    pub rule : ledger.releases ≡ rules.releases
     pub run : IsRunOver disk marks_disk (λ _. Unit {0}) port drain notes_device ports ledger poster
         notes later end last last_marks
 
@@ -284,11 +288,11 @@ module _ {D M P S W N : Type 0} (disk : Disk.Ghosts D) (marks_disk : Disk.Ghosts
 -- no memory for the list of its ports, or was asked for no crew, so that nothing began and no disk was
 -- touched: its notes have a number alone. The ports tell nothing, so they are any that have these uses
 pub record IsSocketServeOver {D M W N : Type 0} (disk : Disk.Ghosts D) (marks_disk : Disk.Ghosts M)
-    (drain : Drain W) (notes_device : Drain N) (may_end : Type 0) (host : List ℕ) (limits : Limits)
+    (drain : Drain W) (notes_device : Drain N) (may_end : Type 0) (host : List ℕ) (rules : Rules)
     (agents uses : ℕ) (journal : D) (marks : M) (outbox : W) (notes later : N)
     (end : ServeEnd W) (last : D) (last_marks : M) : Type 0 where
   pub crew : (1 ≤ agents) × (agents ≤ most_ports)
-      → IsServeOver disk marks_disk (socket_port may_end) drain notes_device host limits
+      → IsServeOver disk marks_disk (socket_port may_end) drain notes_device host rules
       (replicate agents uses) journal marks outbox notes later end last last_marks
       ⊎ (WritesFault notes_device Refused outbox [] notes later end × (last ≡ journal)
       × (last_marks ≡ marks))

@@ -85,6 +85,7 @@ pub(crate) fn start_over<
     alloc: Global,
     site: Site,
     limits: Limits,
+    releases: bool,
     outbox: W,
     folder: JournalFolder<D, M>,
     count: C,
@@ -92,6 +93,7 @@ pub(crate) fn start_over<
 ) -> Result<JournalStart<W, D, M, C>, NotStarted<W, D, M>>
     ensures start { IfOk result (λ start. IsStartOver D.Disk M.Disk W.Drain site limits
         folder.journal folder.marks outbox start.keeper start.outgoing) }
+    ensures rule { IfOk result (λ start. start.keeper.releases ≡ releases) }
     ensures fault { IfErr result (λ not. IsNoStart D.Disk M.Disk W.Drain site limits
         folder.journal not.journal folder.marks not.marks outbox not.outbox not.code) }
     ensures crash { IfErr result (λ not. LeavesStart D.Disk limits folder.journal not.journal) }
@@ -114,7 +116,7 @@ pub(crate) fn start_over<
         Ok(opened) => {
             count.note(mark);
             let outbox = CountedOutbox::new(MarkedOutbox::new(alloc, outbox, marks), count);
-            start_over_ledger(alloc, site, outbox, opened, mark, count, watch)
+            start_over_ledger(alloc, site, releases, outbox, opened, mark, count, watch)
         }
         Err(left) => {
             let code = left.cause.code();
@@ -138,6 +140,7 @@ fn start_over_ledger<
 >(
     alloc: Global,
     site: Site,
+    releases: bool,
     outbox: CountedOutbox<MarkedOutbox<W, M>, C>,
     opened: Opened<D>,
     mark: u64,
@@ -153,6 +156,7 @@ fn start_over_ledger<
     requires sealed { mark ≤ opened.ledger.base + opened.ledger.book.book.sealed }
     ensures start { IfOk result (λ start. IsStartOverLedger D.Disk M.Disk W.Drain site outbox
         opened.letters.items opened.ledger start.keeper start.outgoing) }
+    ensures rule { IfOk result (λ start. start.keeper.releases ≡ releases) }
     ensures fault { IfErr result (λ not. IsNoStartOverLedger D.Disk M.Disk W.Drain site outbox
         opened.letters.items opened.ledger not.outbox not.marks not.code) }
     ensures crash { IfErr result (λ not. (long : List Exchange)
@@ -180,7 +184,7 @@ fn start_over_ledger<
             report_held(watch, ledger.book().entries());
             Ok(JournalStart {
                 outgoing,
-                keeper: keeper_over(alloc, ledger, count),
+                keeper: keeper_over(alloc, ledger, releases, count),
             })
         }
         Ok(false) => Err(NotStarted::after(fault_code::JOURNAL_FULL, outgoing, ledger)),
@@ -199,20 +203,22 @@ fn post_first<X: Drain>(site: Site, outbox: X, letters: Vec<Letter>) -> Outgoing
     outgoing
 }
 
-/// What keeps requests on this ledger, whose letters are marked as the count says.
+/// What keeps requests on this ledger, whose letters are marked as the count says. Closed keys make
+/// room if `releases` is true.
 fn keeper_over<D: Replaceable, C: MarkCount>(
     alloc: Global,
     ledger: Ledger<D>,
+    releases: bool,
     count: C,
 ) -> KeptBook<D, C>
     requires awaits { AwaitsRequests D.Disk ledger [] }
     requires settled { ledger.settled ≡ true }
-    ensures ledger { result ≡ ledger }
-    ensures begins { BeginsAnew D.Disk ledger }
+    ensures ledger { result ≡ record ledger { releases = releases } }
+    ensures begins { BeginsAnew D.Disk (record ledger { releases = releases }) }
 {
     ledgers_have_earlier_histories();
     // A book's limits allow it a key and an outcome, as the law asks.
     let limits = ledger.book().limits();
     let (_logs, _entries) = (limits.logs(), limits.entries());
-    KeptBook::new(alloc, ledger, count)
+    KeptBook::new(alloc, ledger.releasing(releases), count)
 }

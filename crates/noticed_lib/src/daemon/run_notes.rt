@@ -67,7 +67,7 @@ pub(crate) fn write_kept_account<
     notes: &mut N,
 ) -> JournaledEnd<W, D, M>
     requires none { account.book.settled ≡ true → AwaitsRequests D.Disk account.book [] }
-    ensures notes { (history : List Exchange) → Represents account.book.book history
+    ensures notes { (history : List Exchange) → Represents account.book.book.book history
         → WritesAccount N.Drain history account account.outbox.outbox notes.old notes.new
         result.end }
     ensures crash { IsForgottenIn D.Disk account.book result.journal }

@@ -52,6 +52,7 @@ pub(crate) fn serve_ports_over<
     alloc: Global,
     site: Site,
     limits: Limits,
+    releases: bool,
     ports: Vec<P>,
     outbox: W,
     folder: JournalFolder<D, M>,
@@ -60,12 +61,13 @@ pub(crate) fn serve_ports_over<
     notes: &mut N,
 ) -> JournaledEnd<W, D, M>
     requires asked { All P.may_be_asked ports.items }
-    ensures { IsServeOver D.Disk M.Disk P.Port W.Drain N.Drain site limits ports.items
+    ensures { IsServeOver D.Disk M.Disk P.Port W.Drain N.Drain site
+        (record { limits = limits; releases = releases }) ports.items
         folder.journal folder.marks outbox notes.old notes.new result.end result.journal
         result.marks }
 {
     let count = SharedMarkCount::new(rt);
-    match start_over(alloc, site, limits, outbox, folder, &count, watch) {
+    match start_over(alloc, site, limits, releases, outbox, folder, &count, watch) {
         Ok(start) => run_over(rt, alloc, start, ports, gate, watch, notes),
         Err(not) => write_not_started(alloc, not, notes),
     }

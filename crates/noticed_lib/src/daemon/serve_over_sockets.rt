@@ -1,6 +1,5 @@
 //! The run of the daemon over a listening socket.
 ghost use Rattle.std.specs.Prelude.{◌≡◌, ◌≤◌, All, length, IfErr, IfOk};
-ghost use Rattle.dsn_book.specs.Limits.{limits_of};
 ghost use Rattle.dsn_crew.specs.Crew.{most_ports};
 ghost use Rattle.noticed_lib.specs.daemon.Journaled.{IsSocketServeOver};
 ghost use Rattle.noticed_lib.specs.daemon.Serve.{IsSocketServe};
@@ -56,12 +55,13 @@ pub fn serve<R: Threads + Wait + Sync, W: Drain + Drop + Send, N: Drain>(
         site,
         agents,
         max_use,
+        limits,
     };
-    serve_socket(rt, alloc, listener, &watch, serving, limits, outbox, notes)
+    serve_watched(rt, alloc, listener, &watch, serving, outbox, notes)
 }
 
-/// Serves with the program's limits, under a watch: each agent is done also once the watch finds
-/// that the run is to end. Else it is as [`serve`].
+/// Serves under a watch: each agent is done also once the watch finds that the run is to end. Else it
+/// is as [`serve`].
 pub fn serve_watched<R: Threads + Wait + Sync, H: Watch + Sync, W: Drain + Drop + Send, N: Drain>(
     rt: &R,
     alloc: Global,
@@ -71,16 +71,27 @@ pub fn serve_watched<R: Threads + Wait + Sync, H: Watch + Sync, W: Drain + Drop 
     outbox: W,
     notes: &mut N,
 ) -> ServeEnd<W>
-    ensures { IsSocketServe W.Drain N.Drain (H.may_end watch.now) serving.site
-        (limits_of 4096 1000 1000000) serving.agents serving.max_use outbox notes.old notes.new
-        result }
+    ensures { IsSocketServe W.Drain N.Drain (H.may_end watch.now) serving.site serving.limits
+        serving.agents serving.max_use outbox notes.old notes.new result }
 {
-    let limits = Limits::of_program();
-    serve_socket(rt, alloc, listener, watch, serving, limits, outbox, notes)
+    let Serving {
+        site,
+        agents,
+        max_use,
+        limits,
+    } = serving;
+    match socket_ports(alloc, listener, watch, agents, max_use) {
+        Ok(ports) => {
+            let gate = WatchGate { watch };
+            serve_ports(rt, alloc, site, limits, ports, outbox, &gate, watch, notes)
+        }
+        Err(cause) => write_fault(alloc, cause.code(), outbox, Letters::new(), notes),
+    }
 }
 
 /// Serves as [`serve_watched`] does, over the disks of a journal's folder, as `serve_ports_over` has
-/// it. If there are not 1 to 16 agents that is noted (43) before a disk is touched.
+/// it. If `releases` is true, closed keys make room for new ones. If there are not 1 to 16 agents
+/// that is noted (43) before a disk is touched.
 pub fn serve_journaled<
     R: Threads + Wait + Clock + Sync,
     H: Watch + Sync,
@@ -96,23 +107,25 @@ pub fn serve_journaled<
     serving: Serving,
     outbox: W,
     folder: JournalFolder<D, M>,
+    releases: bool,
     notes: &mut N,
 ) -> JournaledEnd<W, D, M>
     ensures { IsSocketServeOver D.Disk M.Disk W.Drain N.Drain (H.may_end watch.now) serving.site
-        (limits_of 4096 1000 1000000) serving.agents serving.max_use folder.journal folder.marks
-        outbox notes.old notes.new result.end result.journal result.marks }
+        (record { limits = serving.limits; releases = releases }) serving.agents serving.max_use
+        folder.journal folder.marks outbox notes.old notes.new result.end result.journal
+        result.marks }
 {
     let Serving {
         site,
         agents,
         max_use,
+        limits,
     } = serving;
     match socket_ports(alloc, listener, watch, agents, max_use) {
         Ok(ports) => {
-            let program = Limits::of_program();
             let gate = WatchGate { watch };
             serve_ports_over(
-                rt, alloc, site, program, ports, outbox, folder, &gate, watch, notes,
+                rt, alloc, site, limits, releases, ports, outbox, folder, &gate, watch, notes,
             )
         }
         Err(cause) => {
@@ -124,34 +137,6 @@ pub fn serve_journaled<
             };
             write_not_started(alloc, not, notes)
         }
-    }
-}
-
-/// Serves what connects to `listener`, with these limits and under this watch.
-fn serve_socket<R: Threads + Wait + Sync, H: Watch + Sync, W: Drain + Drop + Send, N: Drain>(
-    rt: &R,
-    alloc: Global,
-    listener: &UnixListener,
-    watch: &H,
-    serving: Serving,
-    limits: Limits,
-    outbox: W,
-    notes: &mut N,
-) -> ServeEnd<W>
-    ensures { IsSocketServe W.Drain N.Drain (H.may_end watch.now) serving.site limits serving.agents
-        serving.max_use outbox notes.old notes.new result }
-{
-    let Serving {
-        site,
-        agents,
-        max_use,
-    } = serving;
-    match socket_ports(alloc, listener, watch, agents, max_use) {
-        Ok(ports) => {
-            let gate = WatchGate { watch };
-            serve_ports(rt, alloc, site, limits, ports, outbox, &gate, watch, notes)
-        }
-        Err(cause) => write_fault(alloc, cause.code(), outbox, Letters::new(), notes),
     }
 }
 

@@ -1,7 +1,8 @@
 //! What a daemon over a socket serves with.
+use dsn_book::Limits;
 use dsn_report::Site;
 
-/// The site of a daemon over a socket, and its agents.
+/// The site of a daemon over a socket, its agents, and the limits of its book.
 #[derive(Drop)]
 pub struct Serving {
     /// The site that its notices come from.
@@ -10,4 +11,6 @@ pub struct Serving {
     pub agents: u32,
     /// How many connections each agent serves.
     pub max_use: u32,
+    /// How many keys and outcomes are held, and how many requests an agent may make.
+    pub limits: Limits,
 }

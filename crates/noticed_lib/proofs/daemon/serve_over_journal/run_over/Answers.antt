@@ -2,6 +2,7 @@ use Rattle.std.proofs.Common.{◌≡◌, inl, inr, length, ap, subst, ◌∙◌}
 use Rattle.std.specs.Prelude.{IfSome, is_some}
 use Rattle.dsn_crew.specs.Crew.{CrewFault, MayCrashWithin}
 use Rattle.dsn_ledger.specs.KeptBook.{keeper_of_ledger}
+use Rattle.dsn_ledger.specs.OpenLedger.{rules_of}
 use Rattle.dsn_ledger.proofs.Goodbyes.{none_to_carry_out}
 use Rattle.dsn_journal.specs.MarkedOutbox.{MarkedOutbox}
 use Rattle.dsn_journal.specs.Marks.{Marks}
@@ -45,5 +46,5 @@ returns-in-Err g c =
       left_is = back.1;
       last_is = subst (λ book. IfSome book (λ left. c.disk_of.result ≡ left.journal.disk)) (ap (λ (fault : CrewFault _ _). fault.book) c.fault.view_is ∙ back.1) c.disk_of.ensures;
       last_marks_are = c.into_disk.ensures.disk ∙ ap (λ (marks : Marks _). marks.journal.disk) c.into_parts-outbox.ensures.marks ∙ ap (λ (outbox : MarkedOutbox _ _). outbox.marks.journal.disk) c.into_outbox.ensures ∙ ap (λ (fault : CrewFault (MarkedOutbox _ _) _). fault.outbox.marks.journal.disk) c.fault.view_is;
-      crash = λ before with_it. subst (λ book. IfSome book (MayCrashWithin (keeper_of_ledger g.D.Disk g.C.MarkCount.may_reach) c.args.start.keeper c.args.start.keeper.book.limits before (length c.args.ports.items) c.in-Err.fault.taken c.in-Err.fault.behind)) back.1 (run.crash_at_fault before with_it);
+      crash = λ before with_it. subst (λ book. IfSome book (MayCrashWithin (keeper_of_ledger g.D.Disk g.C.MarkCount.may_reach) c.args.start.keeper (rules_of c.args.start.keeper) before (length c.args.ports.items) c.in-Err.fault.taken c.in-Err.fault.behind)) back.1 (run.crash_at_fault before with_it);
     })

@@ -1,0 +1,124 @@
+"""A daemon with `--release-closed` goes on past its limit of keys: the key that was closed longest ago makes room for a
+new one, also after a kill, and a new key is refused only while each log is open. Without the option it is refused.
+
+    python3 -m tests.release_closed [MESSAGES]
+
+Without an argument 6,000 messages use the 4,096 keys of the program.
+"""
+import os
+import sys
+import tempfile
+from pathlib import Path
+
+from tests.support.daemon_and_clients import Daemon, append, frames
+from tests.support.faults import fault_line
+from tests.support.running import Checks, Ran, run
+
+LOGS, FEW, BOUNCE = 4096, 64, 1
+SIZE = 8 << 20  # bytes of a journal
+FAST = "/dev/shm" if os.path.isdir("/dev/shm") else None  # a sync costs nothing there
+
+
+def key(turn: int) -> bytes:
+    """A queue id of its own for each turn."""
+    return b"K%07d" % turn
+
+
+def discarded(first: int, count: int):
+    """So many messages, each logged and then discarded, and their answers."""
+    given, answers = [], []
+    for turn in range(first, first + count):
+        at = len(given)
+        given += [append(at, key(turn)), frames.discard(at + 1, BOUNCE, key(turn))]
+        answers += [b"%d logged 0" % at, b"%d discarded 1" % (at + 1)]
+    return b"".join(given), answers
+
+
+class Folder:
+    """A folder with a journal in it, and daemons over it, each with an outbox of its own."""
+
+    def __init__(self, room: str):
+        self.room, self.runs = Path(room), 0
+        self.journal = self.room / "journal"
+        self.journal.mkdir()
+        (self.journal / "journal").write_bytes(bytes(SIZE))
+
+    def daemon(self, logs: int, *options) -> Daemon:
+        """A daemon over the journal with so many keys."""
+        self.runs += 1
+        outbox = self.room / f"outbox.{self.runs}"
+        words = ("--journal", str(self.journal), "--outbox", str(outbox), "--logs", str(logs), *options)
+        return Daemon(1, 1000, options=words)
+
+
+def asked(daemon: Daemon, bodies: list) -> list:
+    """The answers to some frames, each without its number."""
+    ran = daemon.send(b"".join(make(number) for number, make in enumerate(bodies)))
+    return [line.split(b" ", 1)[1] for line in ran.outbox.splitlines()]
+
+
+def appends(turns) -> list:
+    """An append about each of these keys."""
+    return [lambda number, turn=turn: append(number, key(turn)) for turn in turns]
+
+
+def goes_on(checks: Checks, messages: int):
+    """More messages than keys: none is refused, and a late outcome is refused for as long as its key is held."""
+    with tempfile.TemporaryDirectory(dir=FAST, prefix="noticed-") as room:
+        with Folder(room).daemon(LOGS, "--release-closed") as daemon:
+            given, answers = discarded(0, messages)
+            ran = daemon.send(given)
+            checks.equal(f"{messages:,} messages: answers", ran.outbox.splitlines(), answers)
+            late = asked(daemon, appends([messages - 1, messages - LOGS, messages - LOGS - 1]))
+            checks.equal("late outcomes", late, [b"closed", b"closed", b"logged 0"])
+
+
+def order_survives(checks: Checks):
+    """The order of closing outlives a kill, and the shorter journal that each start writes."""
+    with tempfile.TemporaryDirectory(dir=FAST, prefix="noticed-") as room:
+        folder = Folder(room)
+        with folder.daemon(FEW, "--release-closed") as daemon:
+            daemon.send(discarded(0, FEW + 10)[0])
+            daemon.running.kill()
+            daemon.running.wait()
+        with folder.daemon(FEW, "--release-closed") as daemon:
+            # Keys 10 to 73 are closed, so new ones release 10, 11 and 12; then 13 is the one closed longest ago.
+            said = asked(daemon, appends([10, 100, 101, 13, 12]))
+            checks.equal("after a kill", said, [b"closed", b"logged 0", b"logged 0", b"closed", b"logged 0"])
+            opened = asked(daemon, appends(range(200, 200 + FEW)))
+            checks.equal("only open logs are left", opened, [b"logged 0"] * (FEW - 3) + [b"table full"] * 3)
+            bodies = [lambda number: frames.discard(number, BOUNCE, key(200)), *appends([300, 301])]
+            checks.equal("one is closed", asked(daemon, bodies), [b"discarded 1", b"logged 0", b"table full"])
+            daemon.running.kill()
+            daemon.running.wait()
+        with folder.daemon(FEW) as daemon:
+            bodies = [lambda number: frames.discard(number, BOUNCE, key(300)), *appends([301, 300])]
+            checks.equal("without the option", asked(daemon, bodies), [b"discarded 1", b"table full", b"closed"])
+        ran = run(["journal", str(folder.journal)])
+        checks.equal("the listing's status", ran.status, 0)
+        checks.equal("the listing's open logs", ran.outbox.count(b"open "), FEW - 1)
+
+
+def refused(checks: Checks):
+    """The option needs a journal, and a journal the limits that it was made with."""
+    with tempfile.TemporaryDirectory(dir=FAST, prefix="noticed-") as room:
+        ran = run(["serve", "--release-closed", f"{room}/socket", "mx.example.net", "1", "1"])
+        checks.equal("without a journal: status", ran.status, 2)
+        folder = Folder(room)
+        with folder.daemon(FEW) as daemon:
+            daemon.send(discarded(0, 1)[0])
+        with folder.daemon(FEW + 1) as daemon:
+            checks.equal("other limits", daemon.end(), Ran(b"", fault_line(74), 1))
+
+
+def main():
+    messages = int(sys.argv[1]) if len(sys.argv) > 1 else 6_000
+    checks = Checks(f"release_closed: {messages:,} messages within {LOGS:,} keys, and the order of closing")
+    goes_on(checks, messages)
+    order_survives(checks)
+    refused(checks)
+    checks.done()
+
+
+if __name__ == "__main__":
+    main()

@@ -225,7 +225,7 @@ module _ {D M W : Type 0} (disk : Disk.Ghosts D) (marks_disk : Disk.Ghosts M) (d
         base = opened.base;
         history = stands.history;
         said = subst (λ l. SayHistory l opened.base (with_header limits (recovered (disk.seen journal))) stands.history) limits_are stands.said;
-        many = subst (λ n. base_limit ≤ opened.base + n) stands.stands.sealed many;
+        many = subst (λ n. base_limit ≤ opened.base + n) stands.stands.represents.sealed many;
       })
       (subst (λ f. HasPostedFirst disk marks_disk drain host limits journal marks outbox f back last_marks) is posted)
 

@@ -8,7 +8,8 @@ use Rattle.dsn_ledger.specs.Posting.{AreToPost, to_post}
 use Rattle.dsn_journal.specs.Records.{encoded, recovered}
 use Rattle.dsn_ledger.specs.declared.opening.Opened.{Opened}
 use Rattle.dsn_listing.specs.declared.copied_disk.CopiedDisk.{CopiedDisk}
-use Rattle.dsn_listing.specs.inner.CopiedFolder.{copied_seen, IsOpenedCopy}
+use Rattle.dsn_listing.specs.CopiedDisk.{copied_seen}
+use Rattle.dsn_listing.specs.inner.CopiedFolder.{IsOpenedCopy}
 
 -- ---- an opened copy
 

@@ -11,7 +11,8 @@ use Rattle.dsn_text.specs.declared.key.Key.{Key}
 use Rattle.dsn_listing.specs.declared.copied_disk.CopiedDisk.{CopiedDisk}
 use Rattle.dsn_listing.specs.declared.listing_fault.ListingFault.{ListingFault}
 use Rattle.dsn_listing.specs.declared.listing_fault.ListingFault.TheVariants.{NotWritten}
-use Rattle.dsn_listing.specs.inner.CopiedFolder.{copied_seen, IsOpenedCopy}
+use Rattle.dsn_listing.specs.CopiedDisk.{copied_seen}
+use Rattle.dsn_listing.specs.inner.CopiedFolder.{IsOpenedCopy}
 use Rattle.dsn_ledger.specs.JournalFolder.{HaveMark}
 use Rattle.dsn_listing.specs.Listing.{AreClosedKeys, IsListed, IsListing, not_written, whole}
 use Rattle.dsn_listing.specs.ListingLines.{last_lines, listing_lines}

@@ -1,3 +1,4 @@
+pub mod CopiedDisk
 pub mod Listing
 pub mod ListingFault
 pub mod ListingLines

@@ -2,7 +2,7 @@
 ghost use Rattle.std.specs.Prelude.{◌≡◌, ◌+◌, IfErr, is_err, false, length};
 ghost use Rattle.dsn_device.specs.Failures.{counted};
 ghost use Rattle.dsn_device.specs.UntilFailure.{WritesUntilFailure, WrittenAndFlushed};
-ghost use Rattle.dsn_listing.specs.inner.CopiedFolder.{copied_seen};
+ghost use Rattle.dsn_listing.specs.CopiedDisk.{copied_seen};
 ghost use Rattle.dsn_listing.specs.ListingLines.{bytes_line, closed_lines, last_lines, listing_lines, sealed_line, unmarked_line, unmarked_lines};
 
 use crate::copied_disk::CopiedDisk;

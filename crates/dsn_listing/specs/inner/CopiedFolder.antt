@@ -1,4 +1,4 @@
--- Copies of disks.
+-- Opened copies of a journal.
 use Rattle.std.specs.Prelude.{ℕ, List, ◌≡◌, length}
 use Rattle.dsn_book.specs.Book.{Represents}
 use Rattle.dsn_ledger.specs.Header.{with_header}
@@ -8,10 +8,7 @@ use Rattle.dsn_ledger.specs.declared.opening.Opened.{Opened}
 use Rattle.dsn_outcome.specs.History.{Limits, Exchange, sealed_letters}
 use Rattle.dsn_listing.specs.declared.copied_disk.CopiedDisk.{CopiedDisk}
 use Rattle.dsn_ledger.specs.JournalFolder.{HasHistory}
-
--- the bytes that a read of a copy returns
-abbrev pub copied_seen : CopiedDisk → List ℕ
-copied_seen copy = copy.bytes.items
+use Rattle.dsn_listing.specs.CopiedDisk.{copied_seen}
 
 -- an opened copy of a journal: it has the journal's base, a book that models its history, and the letters that the mark
 -- doesn't count. The lengths of its records and of its file are those of the journal, with the header of a new one

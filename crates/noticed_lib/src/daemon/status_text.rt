@@ -2,6 +2,7 @@
 //! docs/FORMATS.md, "The status of a daemon", has its lines.
 use crate::daemon::board::Board;
 use crate::daemon::open_logs::OpenLog;
+use dsn_text::fault_words;
 use std::alloc::{AllocError, Global};
 use std::fmt::Write;
 
@@ -53,10 +54,13 @@ fn add_all(text: &mut String, lines: &[(&'static str, u64)]) -> Result<(), Alloc
 
 /// Adds the line of the last fault, if there is one.
 fn add_fault(text: &mut String, board: &Board) -> Result<(), AllocError> {
-    match board.last_fault() {
-        None => Ok(()),
-        Some((code, None)) => writeln!(text, "last_fault {code}"),
-        Some((code, Some(error))) => writeln!(text, "last_fault {code} {error}"),
+    let Some((code, error)) = board.last_fault() else {
+        return Ok(());
+    };
+    let words = fault_words(code);
+    match error {
+        None => writeln!(text, "last_fault {code}: {words}"),
+        Some(error) => writeln!(text, "last_fault {code}: {words}: {error}"),
     }
 }
 

@@ -1,5 +1,5 @@
 use Rattle.std.proofs.Common.{List, ℕ, subst}
-use Rattle.dsn_listing.specs.inner.CopiedFolder.{copied_seen}
+use Rattle.dsn_listing.specs.CopiedDisk.{copied_seen}
 use Rattle.dsn_ledger.specs.JournalFolder.{IsJournalRefusedFor}
 use Rattle.dsn_ledger.proofs.Awaiting.{stands_for_all}
 use Rattle.dsn_ledger.proofs.JournalFolderLemmas.{journal_refused}

@@ -4,6 +4,7 @@ import tempfile
 from pathlib import Path
 
 from tests.support.daemon_and_clients import FRAMES, OUTBOX, Daemon, socket_fault
+from tests.support.faults import fault_line
 from tests.support.running import EXAMPLES, HOST, Checks, run
 
 ALL = {
@@ -13,7 +14,7 @@ ALL = {
     "max-use": "1",
     "journal": "/nonexistent/journal",
     "outbox": "/dev/null",
-    "release-closed": "yes",
+    "release-closed": "no",
     "logs": "65536",
     "entries": "1000",
     "idle": "300",
@@ -56,7 +57,7 @@ def wrong(checks: Checks, file: Path):
         file.write_text("# a comment\n\n" + line + "\n" + text_of({it: ALL[it] for it in ALL if it != key}))
         checks.equal(line[:40], reason_of(words), (f"error: {file}:3: {why}", 2))
     file.write_text(text_of(ALL) + "host = other\n")
-    checks.equal("a key twice", reason_of(words), (f"error: {file}:11: has a key that was set before: 'host'", 2))
+    checks.equal("a key twice", reason_of(words), (f"error: {file}:14: has a key that was set before: 'host'", 2))
     for key in ("socket", "host", "agents", "max-use"):
         file.write_text(text_of({it: ALL[it] for it in ALL if it != key}))
         checks.equal(f"no {key}", reason_of(words), (f"error: {file}: {key} is not set", 2))
@@ -93,7 +94,7 @@ def main():
         wrong(checks, Path(room) / "noticed.conf")
         right(checks, Path(room) / "noticed.conf")
     words = ["serve", "--config", str(EXAMPLES / "noticed.conf"), "--journal", "/nonexistent", "--outbox", "/dev/null"]
-    fault = b"fault 72\n/nonexistent: No such file or directory (os error 2)\n"
+    fault = fault_line(72) + b"/nonexistent: No such file or directory (os error 2)\n"
     checks.equal("the example", run([*words, "/nonexistent/socket"]).notes, fault)
     checks.done()
 

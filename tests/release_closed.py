@@ -82,8 +82,8 @@ def order_survives(checks: Checks):
             daemon.running.kill()
             daemon.running.wait()
         with folder.daemon(FEW, "--release-closed") as daemon:
-            # Keys 10 to 73 are closed, so new ones release 10, 11 and 12; then 13 is the one closed longest ago.
-            said = asked(daemon, appends([10, 100, 101, 13, 12]))
+            # Keys 10 to 73 are closed, so 100 and 101 release 10 and 11; then 11 is a new key, which releases 12.
+            said = asked(daemon, appends([12, 100, 101, 13, 11]))
             checks.equal("after a kill", said, [b"closed", b"logged 0", b"logged 0", b"closed", b"logged 0"])
             opened = asked(daemon, appends(range(200, 200 + FEW)))
             checks.equal("only open logs are left", opened, [b"logged 0"] * (FEW - 3) + [b"table full"] * 3)

@@ -9,6 +9,7 @@ from collections import Counter
 from pathlib import Path
 
 from tests.support.daemon_and_clients import OUTBOX, Daemon, append, asked, flush, frames, until
+from tests.support.faults import fault_line
 from tests.support.running import Checks, run
 
 CLIENTS, MESSAGES = 4, 150
@@ -162,7 +163,7 @@ def socket_files(checks: Checks):
             checks.equal("not of a file: it serves all the same", third.end().status, 0)
         checks.equal("the file", path.read_text(), "kept")
     gone = run(["status", daemon.path])
-    checks.equal("without a daemon", (gone.status, gone.notes.splitlines()[0]), (1, b"fault 61"))
+    checks.equal("without a daemon", (gone.status, gone.notes.splitlines()[0]), (1, fault_line(61).strip()))
 
 
 def slow_reader(checks: Checks):

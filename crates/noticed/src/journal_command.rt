@@ -1,12 +1,12 @@
 //! The command `journal`: prints what a journal's folder holds, also beside a running daemon.
 use crate::buffer::{ROOM, let_go};
 use crate::fault_note::print_fault_line;
-use crate::journal_copies::copy_files;
+use crate::journal_copies::{Copies, copy_files};
 use crate::journal_files::print_journal_fault;
 use crate::start_error::StartError;
 use dsn_outcome::Plain;
 use dsn_text::fault_code;
-use noticed_lib::{JournalFolder, Limits, ListingFault, list_journal};
+use noticed_lib::{JournalFolder, ListingFault, list_journal};
 use std::io;
 use std::io::{BufWriter, Eprint, Write};
 
@@ -53,14 +53,14 @@ fn list<W: Write + Drop>(
     folder: &str,
     lines: &mut Plain<W>,
 ) -> Result<(), NotListed> {
-    let JournalFolder {
-        mut journal,
-        mut marks,
-    } = match copy_files(rt, folder) {
+    let Copies { folder, limits } = match copy_files(rt, folder) {
         Ok(copies) => copies,
         Err(error) => return Err(NotListed::Unread(error)),
     };
-    let limits = Limits::of_program();
+    let JournalFolder {
+        mut journal,
+        mut marks,
+    } = folder;
     match list_journal(rt.alloc(), limits, &mut journal, &mut marks, lines) {
         Ok(()) => Ok(()),
         Err(fault) => Err(NotListed::Fault(fault)),

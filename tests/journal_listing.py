@@ -257,8 +257,8 @@ def files(checks: Checks, room: Path):
         ("marks of text", right, text, 73, "the file isn't one of marks"),
         ("both of text", text, text, 73, "the file isn't one of marks"),
         (
-            "a journal under other limits",
-            journal.at_rest([journal.header(Limits(logs=3))], SIZE),
+            "a journal under limits that no run has",
+            journal.at_rest([journal.header(Limits(logs=65_537))], SIZE),
             marks,
             74,
             "the journal is of another version, or was kept under other limits",

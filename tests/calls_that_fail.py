@@ -143,10 +143,10 @@ def check_connection(checks: Checks, library: Path):
 
 def check_accept(checks: Checks, library: Path):
     """The first accept of a daemon fails: its agent accepts no more (61). After an interruption it does. The daemon's
-    own socket has descriptor 3; that of its status is accepted on, too."""
+    own socket has descriptor 4, behind the run's file; that of its status is accepted on, too."""
     given = (EXAMPLES / "one-bounce.frames").read_bytes()
-    checks.equal("an interrupted accept", serve(library, given, "accept:3", 1, errno.EINTR), served(given))
-    with Daemon(1, 1, env=failing(library, "accept:3", 1, errno.EMFILE)) as daemon:
+    checks.equal("an interrupted accept", serve(library, given, "accept:4", 1, errno.EINTR), served(given))
+    with Daemon(1, 1, env=failing(library, "accept:4", 1, errno.EMFILE)) as daemon:
         notes = line(0, 0, 0) + socket_fault(daemon.path, "Too many open files (os error 24)")
         checks.equal("an accept that fails", daemon.end(), Ran(outbox(HOST.encode(), []), notes, 1))
 

@@ -104,7 +104,7 @@ def severities(checks: Checks):
                 if is_stream:
                     stream.seek(0)
                     told = stream.read()
-        for severity, text in ((b"<3>", FULL), (b"<4>", CUT_OFF), (b"<6>", b"ending: the socket's file is gone\n")):
+        for severity, text in ((b"<3>", FULL), (b"<4>", CUT_OFF), (b"<6>", b"ending: the run was stopped\n")):
             wanted = b"\n" + (severity if is_stream else b"") + text
             checks.true(f"{about}: {wanted} in {told}", wanted in told)
 

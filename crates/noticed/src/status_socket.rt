@@ -122,6 +122,8 @@ impl<'a> StatusSocket<'a> {
                     let _ = self.answer(rt, stream, watch);
                 }
                 Err(error) if is_tick(&error) => {}
+                // The end of the run shuts the socket down.
+                Err(_) if self.is_over.load(Ordering::SeqCst) => return,
                 // As long as the system has no descriptor left, say.
                 Err(_) => thread::sleep(rt, Duration::from_secs(TICK)),
             }

@@ -21,6 +21,7 @@ from tests.support.formats.logs import CLOSED, FORGOTTEN, NOT_CLOSED, Letter, Li
 from tests.support.formats.notices import SERVICE_LETTERS, mail
 from tests.support.formats.sessions import Fault, answer, answers
 from tests.support.hostile import LETTERS_AND_DIGITS, Hostile
+from tests.support.preloading import built, preloading
 from tests.support.running import HOST, Checks, Ran, example_module, run
 
 FRAMES = example_module("frames")
@@ -214,8 +215,8 @@ class Outbox:
 class Client:
     """A client that keeps to the rules, but leaves now and then: its keys are its own."""
 
-    def __init__(self, place: int, model: Model, dice: random.Random):
-        self.place, self.model, self.dice = place, model, dice
+    def __init__(self, place: int, model: Model, dice: random.Random, lines: tuple):
+        self.place, self.model, self.dice, self.lines = place, model, dice, lines
         self.made, self.open, self.closed, self.aside = 0, [], [], []
 
     def begin(self):
@@ -242,7 +243,7 @@ class Client:
             return self.append(number, key)
         if kind > 0.95:
             return FRAMES.discard(number, *key)
-        header = b"Subject: %d\n" % number * self.dice.choice([0, 0, 0, 2, 60])
+        header = b"Subject: %d\n" % number * self.dice.choice(self.lines)
         service, queue_id = key
         return flush(
             number,
@@ -386,23 +387,28 @@ class HostileClient:
 
 
 class Load:
-    """A journal's folder, an outbox, and daemons over both, one after another. The journal's file has so many bytes, or
-    is the daemon's own."""
+    """A journal's folder, an outbox, and daemons over both, one after another. The journal's file has `size` bytes, or
+    is the daemon's own. A header has one of these numbers of `lines`. A sync of the outbox takes `slow` milliseconds
+    more."""
 
-    def __init__(self, checks: Checks, room: Path, dice: random.Random, size: int = 0, hostile: int = HOSTILE):
+    def __init__(
+        self, checks: Checks, room: Path, dice: random.Random, size=0, hostile=HOSTILE, lines=(0, 0, 0, 2, 60), slow=0
+    ):
         self.checks, self.room, self.dice, self.model = checks, room, dice, Model(checks)
+        self.slow = preloading(built(room, "slow"), SLOW=room / "outbox", MILLISECONDS=slow) if slow else None
         self.folder, self.runs, self.full, self.shortened = room / "journal", 0, 0, 0
         self.folder.mkdir(mode=0o700)
         if size:
             (self.folder / "journal").write_bytes(bytes(size))
         self.outbox = Outbox(room / "outbox", self.model)
-        self.clients = [Client(it, self.model, dice) for it in range(CLIENTS - hostile)]
+        self.clients = [Client(it, self.model, dice, lines) for it in range(CLIENTS - hostile)]
         self.hostile = [HostileClient(it, self.model, dice) for it in range(hostile)]
 
     def daemon(self, **how) -> Daemon:
         """A daemon over both."""
         self.runs += 1
-        return Daemon(16, 1_000_000, options=("--journal", self.folder, "--outbox", self.room / "outbox"), **how)
+        options = ("--journal", self.folder, "--outbox", self.room / "outbox")
+        return Daemon(16, 1_000_000, options=options, **{"env": self.slow, **how})
 
     def serves(self, daemon: Daemon, forgets: bool = False) -> bool:
         """Waits until a daemon serves: by then all letters of earlier runs stand in the outbox, and the journal has all

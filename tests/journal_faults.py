@@ -378,7 +378,8 @@ def outboxes(checks: Checks, room: Path):
     )
     checks.equal("it stays as it was", (room / "some.outbox").read_bytes(), b"EHLO mx.example.net\r\nMAIL FR")
     check_still_there(checks, "after outboxes that failed", place)
-    checks.equal("an outbox is its owner's alone", place.outbox.stat().st_mode & 0o777, 0o600)
+    for file in (place.outbox, place.folder / "journal", place.folder / "marks"):
+        checks.equal(f"{file.name} is its owner's alone", file.stat().st_mode & 0o777, 0o600)
 
 
 def ends(checks: Checks, room: Path):

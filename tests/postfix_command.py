@@ -2,6 +2,8 @@
 that ask as its programs do, a mail server that refuses at each step, and services of its own that take what is passed
 on. What was asked is answered 0 only once the server took the notice; else the log stays. And kills, two processes, a
 log that is locked, a disk that is full, and requests that are none."""
+import email
+import email.utils
 import fcntl
 import os
 import random
@@ -104,6 +106,20 @@ def check_append_and_flush(checks: Checks):
             sorted(str(path.relative_to(it.folder)) for path in it.folder.rglob("*") if not path.is_dir()),
             ["deferred/0/" + ONE, *(f"private/noticed{name}" for name in ("-bounce", "-defer", "-trace", ".lock"))],
         )
+
+
+def check_dates(checks: Checks):
+    """Notices of one second: each is dated by the clock, and no two have the same Message-ID."""
+    with Postfix() as it:
+        began = int(time.time())
+        for _ in range(4):
+            it.put("one", "bounce")
+            checks.equal("a flush", it.ask("bounce", asked_in("one", "failure")), 0)
+        heads = [email.message_from_bytes(text) for *_, text in it.server.taken]
+        checks.equal("Message-IDs", len({head["Message-ID"] for head in heads}), 4)
+        for head in heads:
+            moment = email.utils.parsedate_to_datetime(head["Date"]).timestamp()
+            checks.true(f"{head['Date']} is by the clock", began <= moment <= time.time())
 
 
 def check_modes(checks: Checks):
@@ -1086,6 +1102,7 @@ def main():
     )
     for check in (
         check_append_and_flush,
+        check_dates,
         check_modes,
         check_hashing,
         check_hashing_at_start,

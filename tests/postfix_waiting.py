@@ -1,6 +1,6 @@
 """What `noticed postfix` does where a mail server, or other clients, are slow. An append is answered within a second
 all the same; a request for notices waits for its turn, for a limited time, or is told at once that it can't be done
-now; and a client that doesn't say its list at once is cut off."""
+now; and a client that doesn't say its list at once is cut off. An append is answered only once its record is synced."""
 import os
 import re
 import threading
@@ -18,6 +18,7 @@ from tests.support.postfix_folder import (
     heard_to_end,
     notice,
 )
+from tests.support.preloading import built, preloading
 from tests.support.running import Checks
 
 ONE = "090B8A85C9C"  # the queue id of the message `one`
@@ -25,6 +26,7 @@ AT_ONCE = 2  # notices that are handed in at once
 TELLING, WAITING = 8, 200  # of one service: threads that make notices, and requests that wait for one
 SECONDS_FOR_LIST, SECONDS_FOR_TURN = 5, 60
 FURTHER = 20  # requests for notices beyond those that wait
+SLOW_SYNC = 500  # milliseconds
 
 
 def put_messages(it: Postfix, count: int) -> list:
@@ -44,6 +46,20 @@ def expect_appends(checks: Checks, it: Postfix, while_: str, services=("bounce",
         status = it.ask(service, append(ONE))
         seconds = time.monotonic() - began
         checks.true(f"{while_}: an append to {service}: {status} after {seconds:.2f} s", status == 0 and seconds < 1)
+
+
+def check_synced(checks: Checks):
+    """The sync of a log is slow: so is the answer to an append, since it comes after it."""
+    for log, service in ((f"bounce/{ONE}", "bounce"), (f"defer/0/{ONE}", "defer"), (f"trace/{ONE}", "trace")):
+        with Postfix(start=False) as it:
+            library = built(it.room.name, "slow")
+            it.environment = preloading(library, SLOW=it.at(log), MILLISECONDS=SLOW_SYNC)
+            it.start()
+            began = time.monotonic()
+            status = it.ask(service, append(ONE))
+            seconds = time.monotonic() - began
+            checks.equal(f"an append to {service}", (status, it.at(log).exists()), (0, True))
+            checks.true(f"an append to {service} waits for the sync: {seconds:.2f} s", seconds >= SLOW_SYNC / 1000)
 
 
 def check_one_log(checks: Checks):
@@ -184,6 +200,7 @@ def main():
     with hanging.postfix:
         for check in (
             hanging.check_refused,
+            check_synced,
             check_one_log,
             check_slow_server,
             check_silent_clients,

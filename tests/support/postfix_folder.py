@@ -263,6 +263,7 @@ class Postfix:
         self.room = tempfile.TemporaryDirectory(prefix="noticed-")
         self.folder = folder or Path(self.room.name) / "queue"
         self.server, self.running, self.limits, self.close_fds = MailServer(), None, None, True
+        self.environment = None
         self.options, self.hand_in = options, hand_in or self.server.address
         self.errors = Path(self.room.name) / "errors"
         if not folder:
@@ -299,6 +300,7 @@ class Postfix:
                 stdin=subprocess.DEVNULL,
                 stdout=errors,
                 stderr=errors,
+                env=self.environment,
                 umask=umask,
                 preexec_fn=self.limits,
                 close_fds=self.close_fds,

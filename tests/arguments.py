@@ -176,7 +176,7 @@ POSTFIX_OPTIONS = {
     "--hash-queue-depth": "1",
 }
 NO_NAMES = ["defer;bounce", "../defer", "a_b", "defer\n", "d\u00e9fer", "x" * 101, "defer, " + "x" * 101]
-# wrong as HAND-IN: no IP address with a port
+# wrong as HAND-IN: no IP address with a port, and no path
 NO_HAND_INS = [
     "",
     "25",
@@ -200,7 +200,10 @@ NO_HAND_INS = [
     "[::1:25",
     "inet:127.0.0.1:25",
     "unix:private/smtp",
-    "/run/socket",
+    "run/socket",
+    "./socket",
+    "@socket",
+    "/" + 107 * "x",
     b"\xff:25",
 ]
 
@@ -279,7 +282,12 @@ REASONS = {
     b"error: MAX-USE must be 1 to 1000000, not '01'": ["serve", SOCKET, HOST, "1", "01"],
     b"error: idle must be 1 to 86400, not '5m'": ["serve", "--idle", "5m", SOCKET, HOST, "1", "1"],
     b"error: HOST must be 1 to 255 letters, digits, dots and hyphens, not 'a_b'": ["batch", "a_b"],
-    b"error: HAND-IN must be an IP address with a port, not 'localhost:25'": ["postfix", QUEUE, HOST, "localhost:25"],
+    b"error: HAND-IN must be an IP address with a port, or a path of at most 107 bytes, not 'localhost:25'": [
+        "postfix",
+        QUEUE,
+        HOST,
+        "localhost:25",
+    ],
     b"error: an argument is not UTF-8": ["batch", b"\xff"],
     b"error: unexpected argument '--hlep' found": ["batch", "--hlep"],
     b"error: unrecognized subcommand 'bounce'": ["bounce", HOST],

@@ -23,6 +23,7 @@ from tests.support.postfix_folder import (
     FILES,
     SERVICES,
     Client,
+    MailServer,
     OwnService,
     Postfix,
     append,
@@ -636,6 +637,24 @@ def check_no_server(checks: Checks):
         )
 
 
+def check_unix_server(checks: Checks):
+    """The mail server is at the path of a Unix socket: a notice is taken. If nobody listens there, a flush is answered
+    -1, and a line says why."""
+    with Postfix(start=False) as it:
+        it.server.close()
+        it.hand_in = str(it.at("private/submit"))
+        it.server = MailServer(it.hand_in)
+        it.start()
+        it.put("one", "bounce")
+        asked = it.ask("bounce", asked_in("one", "failure"))
+        checks.equal("a notice by a Unix socket", (asked, len(it.server.taken)), (0, 1))
+        it.server.close()
+        it.server.hang_up()
+        it.put("one", "bounce")
+        checks.equal("nobody at the Unix socket", it.ask("bounce", asked_in("one", "failure")), FAILED)
+        checks.true("its line", until(lambda: f"{it.hand_in}: connection refused" in it.lines()))
+
+
 def check_passed_on(checks: Checks):
     """What is no request, or can't be said, goes to Postfix's own service as it is, and its status comes back; without
     such a service it is -1."""
@@ -1120,6 +1139,7 @@ def main():
         check_sessions,
         check_twice,
         check_no_server,
+        check_unix_server,
         check_passed_on,
         check_reasons,
         check_send_options,

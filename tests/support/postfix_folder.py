@@ -84,9 +84,9 @@ def append(message: str, recipient: str = "no.bob@example.org", flags: int = 0, 
 
 
 class MailServer:
-    """A mail server on loopback that takes notices, and says at each step what `replies` has for it, 0 for nothing and
-    a close. What `waits` has for a step is called before the reply. It notes what was said in each session, and each
-    message that it took.
+    """A mail server on loopback, or at a socket's path, that takes notices, and says at each step what `replies` has
+    for it, 0 for nothing and a close. What `waits` has for a step is called before the reply. It notes what was said in
+    each session, and each message that it took.
     """
 
     GOOD = {
@@ -98,11 +98,16 @@ class MailServer:
         "QUIT": b"221 bye",
     }
 
-    def __init__(self):
+    def __init__(self, path: str = ""):
         self.replies, self.waits, self.taken, self.said, self.count, self.peers = {}, {}, [], [], 0, []
         self.lock = threading.Lock()
-        self.listening = socket.create_server(("127.0.0.1", 0), backlog=200)
-        self.address = "127.0.0.1:%d" % self.listening.getsockname()[1]
+        if path:
+            self.listening, self.address = socket.socket(socket.AF_UNIX), path
+            self.listening.bind(path)
+            self.listening.listen(200)
+        else:
+            self.listening = socket.create_server(("127.0.0.1", 0), backlog=200)
+            self.address = "127.0.0.1:%d" % self.listening.getsockname()[1]
         threading.Thread(target=self.accept, daemon=True).start()
 
     def accept(self):

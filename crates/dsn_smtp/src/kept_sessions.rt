@@ -3,15 +3,13 @@
 use crate::hand_in_fault::HandInFault;
 use crate::hand_in_step::HandInStep;
 use crate::kept_or_new::hand_in_over;
-use crate::mail_server::MailServer;
+use crate::mail_server::{MailConnection, MailServer};
 use crate::reply_buffer::ReplyBuffer;
 use crate::reply_fault::ReplyFault;
 use crate::session::Session;
 use crate::submission::Submission;
 use crossbeam_channel::{Receiver, Sender, bounded};
-use dsn_device::{Connection, Plain};
 use std::alloc::{AllocError, Global};
-use std::net::TcpStream;
 use std::sync::Wait;
 use std::time::{Clock, Duration};
 
@@ -27,7 +25,7 @@ const MOST_AT_ONCE: usize = 2;
 const SECONDS_FOR_TURN: u64 = 60;
 
 /// A session over a socket.
-type MailSession = Session<Plain<Connection<TcpStream>>>;
+type MailSession = Session<MailConnection>;
 
 /// The turn to submit one notice, with the session that the last notice left.
 #[derive(Drop)]

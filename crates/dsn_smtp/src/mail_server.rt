@@ -3,25 +3,31 @@
 use crate::connect::Connect;
 use crate::hand_in_fault::HandInFault;
 use crate::hand_in_step::HandInStep;
+use crate::mail_stream::MailStream;
 use crate::reply_fault::ReplyFault;
+use crate::server_address::ServerAddress;
 use dsn_device::{Connection, Plain};
 use dsn_text::MtaName;
 use std::io;
 use std::net::{SocketAddr, TcpStream};
+use std::os::unix::net::UnixStream;
 use std::time::Duration;
 
-/// The time limit for making a connection, in seconds.
+/// The time limit for making a TCP connection, in seconds.
 const SECONDS_TO_CONNECT: u64 = 30;
 
 /// The time limit for receiving a piece of a reply and for sending a piece, in seconds. RFC 5321
 /// section 4.5.3.2 sets it for the reply to a message's end, the longest limit there.
 const SECONDS_FOR_PIECE: u64 = 600;
 
+/// A connection to a mail server.
+pub type MailConnection = Plain<Connection<MailStream>>;
+
 /// A mail server to which connections are made.
 #[derive(Drop)]
 pub struct MailServer<'a> {
     rt: &'a HostRuntime,
-    address: &'a SocketAddr,
+    address: &'a ServerAddress,
     /// The name by which it knows the client.
     pub(crate) host: &'a MtaName,
     /// The error of the last connection that failed, if one failed.
@@ -30,7 +36,11 @@ pub struct MailServer<'a> {
 
 impl<'a> MailServer<'a> {
     /// The server at this address; `host` is the client's name in EHLO.
-    pub fn new(rt: &'a HostRuntime, address: &'a SocketAddr, host: &'a MtaName) -> MailServer<'a> {
+    pub fn new(
+        rt: &'a HostRuntime,
+        address: &'a ServerAddress,
+        host: &'a MtaName,
+    ) -> MailServer<'a> {
         MailServer {
             rt,
             address,
@@ -40,11 +50,11 @@ impl<'a> MailServer<'a> {
     }
 }
 
-impl Connect<Plain<Connection<TcpStream>>> for MailServer<'_> {
+impl Connect<MailConnection> for MailServer<'_> {
     ghost gives = { λ _ _ _. Unit {0} };
 
     // A connection that can't be made counts as a greeting that wasn't received.
-    fn connect(&mut self) -> Result<Plain<Connection<TcpStream>>, HandInFault> {
+    fn connect(&mut self) -> Result<MailConnection, HandInFault> {
         match connect_with_limits(self.rt, self.address) {
             Ok(stream) => Ok(Plain::new(Connection::new(stream))),
             Err(error) => {
@@ -55,13 +65,30 @@ impl Connect<Plain<Connection<TcpStream>>> for MailServer<'_> {
     }
 }
 
-/// Connects to an address, with time limits for the connection and on it.
-fn connect_with_limits(rt: &HostRuntime, address: &SocketAddr) -> io::Result<TcpStream> {
+/// Connects to an address, with time limits on the connection.
+fn connect_with_limits(rt: &HostRuntime, address: &ServerAddress) -> io::Result<MailStream> {
+    match address {
+        ServerAddress::Tcp(address) => connect_by_tcp(rt, address),
+        ServerAddress::Unix(path) => connect_to_path(rt, path.as_str()),
+    }
+}
+
+fn connect_by_tcp(rt: &HostRuntime, address: &SocketAddr) -> io::Result<MailStream> {
     let to_connect = Duration::from_secs(SECONDS_TO_CONNECT);
     let for_piece = Duration::from_secs(SECONDS_FOR_PIECE);
     let stream = TcpStream::connect_timeout(rt, address, to_connect)?;
     stream.set_read_timeout(Some(for_piece))?;
     stream.set_write_timeout(Some(for_piece))?;
     stream.set_nodelay(true)?;
-    Ok(stream)
+    Ok(MailStream::Tcp(stream))
+}
+
+/// Connects to a Unix socket. The kit has no time limit for that: it waits while as many
+/// connections as the server's backlog takes wait to be accepted.
+fn connect_to_path(rt: &HostRuntime, path: &str) -> io::Result<MailStream> {
+    let for_piece = Duration::from_secs(SECONDS_FOR_PIECE);
+    let stream = UnixStream::connect(rt, path)?;
+    stream.set_read_timeout(Some(for_piece))?;
+    stream.set_write_timeout(Some(for_piece))?;
+    Ok(MailStream::Unix(stream))
 }

@@ -25,7 +25,7 @@ pub(crate) const MOST_USE: u32 = 1_000_000;
 pub(crate) const MOST_IDLE: u32 = 86_400;
 
 /// The longest path of a socket that the system takes, in bytes.
-const LONGEST_PATH: usize = 107;
+pub(crate) const LONGEST_PATH: usize = 107;
 
 /// What the arguments ask for.
 #[derive(Drop)]

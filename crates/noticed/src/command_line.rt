@@ -160,7 +160,7 @@ fn postfix<'a>(alloc: Global) -> Result<Command<'a>, AllocError> {
         .arg(argument(alloc, "QUEUE-FOLDER").help("Postfix's queue folder"))?
         .arg(host(alloc))?
         .arg(argument(alloc, "HAND-IN").help(
-            "The IP address and port of the mail server that takes the notices",
+            "The mail server that takes the notices: an IP address with a port, or a socket's path",
         ))
 }
 

@@ -4,8 +4,8 @@ use dsn_postfix::QueueName;
 use dsn_postfix_notices::ServiceSettings;
 use dsn_postfix_queue::{FolderHashing, PostfixSetup};
 use dsn_report::Site;
+use dsn_smtp::ServerAddress;
 use dsn_text::MtaName;
-use std::net::SocketAddr;
 
 /// The arguments of `postfix`.
 #[derive(Drop)]
@@ -17,7 +17,7 @@ pub(crate) struct PostfixServing {
     /// The client's name in EHLO to the mail server that takes the notices.
     pub(crate) client: MtaName,
     /// The address to which notices are submitted.
-    pub(crate) hand_in: SocketAddr,
+    pub(crate) hand_in: ServerAddress,
     /// The values that options change.
     pub(crate) values: PostfixValues,
 }
@@ -32,7 +32,7 @@ impl PostfixServing {
                 queues: hashed,
                 depth: self.values.depth,
             },
-            hand_in: self.hand_in,
+            hand_in: &self.hand_in,
             host: &self.client,
         }
     }

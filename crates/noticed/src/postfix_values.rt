@@ -1,12 +1,13 @@
 //! The arguments of `postfix`.
 //! main.cf isn't read: its values may name one another and come from tables, and only Postfix's own
 //! library reads it as Postfix does. The few that count are options with Postfix's defaults.
-use crate::arguments::{number_of, owned, site_of, text_of};
+use crate::arguments::{LONGEST_PATH, number_of, owned, site_of, text_of};
 use crate::postfix_serving::PostfixServing;
 use crate::start_error::StartError;
 use clap::ArgMatches;
 use dsn_postfix::QueueName;
 use dsn_postfix_queue::MOST_DEPTH;
+use dsn_smtp::ServerAddress;
 use dsn_text::{MtaName, TextFault};
 use std::alloc::Global;
 use std::net::SocketAddr;
@@ -16,6 +17,9 @@ const MOST_LIFETIME: u32 = 8_640_000;
 
 /// The largest `bounce_size_limit` of Postfix, in bytes.
 const MOST_SIZE_LIMIT: u32 = 2_147_483_647;
+
+/// What HAND-IN may be.
+const HAND_IN: &str = "an IP address with a port, or a path of at most 107 bytes";
 
 /// The values of the options of `postfix`.
 #[derive(Drop)]
@@ -60,7 +64,7 @@ pub(crate) fn postfix_serving(
     Ok(PostfixServing {
         site: site_of(alloc, host)?,
         client: client_of(alloc, host)?,
-        hand_in: address_of(alloc, text_of(given, "HAND-IN"))?,
+        hand_in: server_of(alloc, text_of(given, "HAND-IN"))?,
         values: values_of(alloc, given, host)?,
         folder: owned(alloc, text_of(given, "QUEUE-FOLDER"))?,
     })
@@ -94,12 +98,16 @@ fn double_bounce_of(
     }
 }
 
-/// The address and the port that a word names; a server listens at none with the number 0. It is no
-/// name: a name would be looked up for each notice, and a notice would wait for that.
-fn address_of(alloc: Global, word: &str) -> Result<SocketAddr, StartError> {
+/// The mail server that a word names: the path of a Unix socket, which begins with `/`, or an
+/// address and a port. A server listens at none with the number 0. It is no name: a name would be
+/// looked up for each notice, and a notice would wait for that.
+fn server_of(alloc: Global, word: &str) -> Result<ServerAddress, StartError> {
+    if word.starts_with('/') && word.len() <= LONGEST_PATH {
+        return Ok(ServerAddress::Unix(owned(alloc, word)?));
+    }
     match word.parse::<SocketAddr>() {
-        Ok(address) if address.port() > 0 => Ok(address),
-        _ => Err(StartError::wrong(alloc, "HAND-IN", "an IP address with a port", word)),
+        Ok(address) if address.port() > 0 => Ok(ServerAddress::Tcp(address)),
+        _ => Err(StartError::wrong(alloc, "HAND-IN", HAND_IN, word)),
     }
 }
 

@@ -1,7 +1,7 @@
 //! The places of a Postfix's files and services, and the mail server for its notices.
 use crate::queue_folder::folder_hashing::FolderHashing;
+use dsn_smtp::ServerAddress;
 use dsn_text::MtaName;
-use std::net::SocketAddr;
 
 /// The places of a Postfix's files and services, and the mail server to which its notices are
 /// submitted.
@@ -12,7 +12,7 @@ pub struct PostfixSetup<'a> {
     /// Which of its queues are hashed.
     pub hashing: FolderHashing<'a>,
     /// The address of that mail server.
-    pub hand_in: SocketAddr,
+    pub hand_in: &'a ServerAddress,
     /// The client's name in EHLO to that server.
     pub host: &'a MtaName,
 }

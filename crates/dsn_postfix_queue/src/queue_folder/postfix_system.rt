@@ -307,7 +307,7 @@ impl<W: Wait + Clock> MailSystem for PostfixSystem<'_, W> {
     ) -> Result<(), HandInFault> {
         let (rt, place): (&HostRuntime, &PostfixSetup<'_>) = (self.rt, self.place);
         let sessions: &KeptSessions = self.sessions;
-        let mut server = MailServer::new(rt, &place.hand_in, place.host);
+        let mut server = MailServer::new(rt, place.hand_in, place.host);
         let handed = sessions.hand_in(
             self.waiting,
             &mut server,

@@ -1,14 +1,16 @@
 -- Sessions with a mail server that are kept: how one goes on or ends, and how a notice is submitted over a kept session
 -- or over a new one.
-use Rattle.std.specs.Prelude.{◌≡◌, ℕ, true, false, List, [], ◌∷◌, Option, Some, None, Result, Ok, Err, IfErr}
+use Rattle.std.specs.Prelude.{◌≡◌, ℕ, true, false, List, [], ◌∷◌, Option, Some, None, Result, Ok, Err, IfErr, IfSome}
 use Rattle.dsn_device.specs.declared.drain.Drain
 use Rattle.dsn_device.specs.declared.source.Source
 use Rattle.dsn_smtp.specs.Command.{Command}
 use Rattle.dsn_smtp.specs.CommandLine.{hello_line}
 use Rattle.dsn_smtp.specs.Dialogue.{TakesTurns, Turn}
-use Rattle.dsn_smtp.specs.HandIn.{AsksAll, Greets, Leaves, Listens, TurnsOver, commands_of, is_at_sender}
+use Rattle.dsn_smtp.specs.HandIn.{AsksAll, Greets, Leaves, Listens, TurnsOver, commands_of, fault_said, is_at_sender}
 use Rattle.dsn_smtp.specs.declared.hand_in_fault.HandInFault.{HandInFault}
+use Rattle.dsn_smtp.specs.declared.hand_in_fault.HandInFault.TheVariants.{Unheard}
 use Rattle.dsn_smtp.specs.declared.hand_in_step.HandInStep.TheVariants.{Greeting, Hello}
+use Rattle.dsn_smtp.specs.declared.reply_fault.ReplyFault.TheVariants.{Read}
 
 -- A stream over which a session was begun, and in which nothing went wrong so far. It had the greeting and EHLO, and
 -- then whole transactions, each from the state in which the turns before it left the stream.
@@ -77,3 +79,13 @@ pub data AsksOver {S C : Type 0} (source : Source.Ghosts S) (drain : Drain.Ghost
   anew : (between : List ℕ) → GivesWay source drain kept commands before between
       → AsksAnew source drain gives old new host commands between after result
       → AsksOver source drain gives old new kept host commands before after result
+
+-- A transaction's commands are sent over some session that was begun and kept, or over none, as `AsksOver` says. Which
+-- session that is, the channel that keeps them doesn't expose. Or the notice had no turn, and nothing was done for it.
+pub data AsksOverSome {S C : Type 0} (source : Source.Ghosts S) (drain : Drain.Ghosts S) (gives : C → C → Result S HandInFault → Type 0)
+    (old new : C) (host : List ℕ) (commands : List Command) (before after : List ℕ) (outcome : Option HandInFault) : Type 0 where
+  over_some : (kept : Option S) (handed : Result S HandInFault) → IfSome kept (IsBegun source drain)
+      → AsksOver source drain gives old new kept host commands before after handed → outcome ≡ fault_said handed
+      → AsksOverSome source drain gives old new host commands before after outcome
+  no_turn : outcome ≡ Some (Unheard Greeting Read) → new ≡ old → after ≡ before
+      → AsksOverSome source drain gives old new host commands before after outcome

@@ -1,14 +1,20 @@
 //! The sessions with the mail server that are kept from one notice to the next.
 //! Implements docs/FORMATS.md, "A connection".
+ghost use Rattle.std.specs.Prelude.{◌≡◌};
+ghost use Rattle.dsn_smtp.specs.HandIn.{commands_of, fault_said};
+ghost use Rattle.dsn_smtp.specs.Session.{AsksOverSome};
+
+use crate::connect::Connect;
 use crate::hand_in_fault::HandInFault;
 use crate::hand_in_step::HandInStep;
 use crate::kept_or_new::hand_in_over;
-use crate::mail_server::{MailConnection, MailServer};
 use crate::reply_buffer::ReplyBuffer;
 use crate::reply_fault::ReplyFault;
 use crate::session::Session;
 use crate::submission::Submission;
 use crossbeam_channel::{Receiver, Sender, bounded};
+use dsn_device::Stream;
+use dsn_text::MtaName;
 use std::alloc::{AllocError, Global};
 use std::sync::Wait;
 use std::time::{Clock, Duration};
@@ -24,27 +30,24 @@ const MOST_AT_ONCE: usize = 2;
 /// only the requests of that time.
 const SECONDS_FOR_TURN: u64 = 60;
 
-/// A session over a socket.
-type MailSession = Session<MailConnection>;
-
 /// The turn to submit one notice, with the session that the last notice left.
 #[derive(Drop)]
-struct KeptSession {
-    session: Option<MailSession>,
+struct KeptSession<S: Stream> {
+    session: Option<Session<S>>,
     /// Whether the session was used since the last round.
     is_fresh: bool,
 }
 
 /// The turns that no thread has. A thread submits a notice only while it has a turn.
 #[derive(Drop)]
-pub struct KeptSessions {
-    back: Sender<KeptSession>,
-    turns: Receiver<KeptSession>,
+pub struct KeptSessions<S: Stream> {
+    back: Sender<KeptSession<S>>,
+    turns: Receiver<KeptSession<S>>,
 }
 
-impl KeptSessions {
+impl<S: Stream + Drop> KeptSessions<S> {
     /// All turns, without a session. Returns `AllocError` if memory was refused.
-    pub fn new<W: Wait>(alloc: Global, waiting: &W) -> Result<KeptSessions, AllocError> {
+    pub fn new<W: Wait>(alloc: Global, waiting: &W) -> Result<KeptSessions<S>, AllocError> {
         let (back, turns) = bounded(alloc, MOST_AT_ONCE)?;
         let kept = KeptSessions { back, turns };
         for _ in 0..MOST_AT_ONCE {
@@ -54,7 +57,7 @@ impl KeptSessions {
     }
 
     /// Returns a turn, with the session to be kept.
-    fn put_back<W: Wait>(&self, waiting: &W, session: Option<MailSession>, is_fresh: bool) {
+    fn put_back<W: Wait>(&self, waiting: &W, session: Option<Session<S>>, is_fresh: bool) {
         // The channel has room for all turns.
         let _ = self
             .back
@@ -62,7 +65,7 @@ impl KeptSessions {
     }
 
     /// The session of a turn, or else that of another free turn.
-    fn session_for<W: Wait>(&self, waiting: &W, turn: KeptSession) -> Option<MailSession> {
+    fn session_for<W: Wait>(&self, waiting: &W, turn: KeptSession<S>) -> Option<Session<S>> {
         if turn.session.is_some() {
             return turn.session;
         }
@@ -71,33 +74,55 @@ impl KeptSessions {
         other.session
     }
 
-    /// Submits a notice in a kept session, or else in a new one. Returns the fault of the
-    /// submission, or `Unheard` at the greeting if no turn was free for 60 seconds.
-    pub fn hand_in<W: Wait + Clock>(
+    /// Submits a notice in a kept session, or else in a new one that `server` connects, in which
+    /// `host` is the client's name in EHLO. Returns the fault of the submission, or `Unheard` at
+    /// the greeting if no turn was free for 60 seconds. If the server accepted the notice, the
+    /// buffer holds the reply to the message.
+    pub fn hand_in<W: Wait + Clock, C: Connect<S>>(
         &self,
         waiting: &W,
-        server: &mut MailServer<'_>,
+        server: &mut C,
+        host: &MtaName,
         submission: &Submission<'_>,
-        reply: &mut ReplyBuffer,
-    ) -> Result<(), HandInFault> {
+        buffer: &mut ReplyBuffer,
+    ) -> Result<(), HandInFault>
+        ensures { AsksOverSome S.Source S.Drain C.gives server.old server.new host.now
+            (commands_of submission.now.path.now submission.now.message.now) buffer.old buffer.new
+            (fault_said result) }
+    {
         let limit = Duration::from_secs(SECONDS_FOR_TURN);
         let Ok(turn) = self.turns.recv_timeout(waiting, limit) else {
             return Err(HandInFault::Unheard(HandInStep::Greeting, ReplyFault::Read));
         };
         let session = self.session_for(waiting, turn);
-        let host = server.host;
-        let (session, handed) = match hand_in_over(server, session, host, submission, reply) {
-            Ok(session) => (Some(session), Ok(())),
-            Err(fault) => (None, Err(fault)),
-        };
-        match session {
-            Some(session) if !session.may_go_on() => {
+        let handed = hand_in_over(server, session, host, submission, buffer);
+        self.end_turn(waiting, handed)
+    }
+
+    /// Keeps the session of a submission that succeeded, or ends it if it was used often enough.
+    /// Returns the fault of the submission.
+    fn end_turn<W: Wait>(
+        &self,
+        waiting: &W,
+        handed: Result<Session<S>, HandInFault>,
+    ) -> Result<(), HandInFault>
+        ensures { fault_said result ≡ fault_said handed }
+    {
+        match handed {
+            Ok(session) if session.may_go_on() => {
+                self.put_back(waiting, Some(session), true);
+                Ok(())
+            }
+            Ok(session) => {
                 self.put_back(waiting, None, false);
                 session.end();
+                Ok(())
             }
-            kept => self.put_back(waiting, kept, true),
+            Err(fault) => {
+                self.put_back(waiting, None, true);
+                Err(fault)
+            }
         }
-        handed
     }
 
     /// Ends the sessions of free turns that weren't used since the last call.
@@ -117,7 +142,7 @@ impl KeptSessions {
     }
 }
 
-fn end(session: Option<MailSession>) {
+fn end<S: Stream + Drop>(session: Option<Session<S>>) {
     if let Some(session) = session {
         session.end();
     }

@@ -7,7 +7,6 @@ use crate::mail_stream::MailStream;
 use crate::reply_fault::ReplyFault;
 use crate::server_address::ServerAddress;
 use dsn_device::{Connection, Plain};
-use dsn_text::MtaName;
 use std::io;
 use std::net::{SocketAddr, TcpStream};
 use std::os::unix::net::UnixStream;
@@ -28,23 +27,16 @@ pub type MailConnection = Plain<Connection<MailStream>>;
 pub struct MailServer<'a> {
     rt: &'a HostRuntime,
     address: &'a ServerAddress,
-    /// The name by which it knows the client.
-    pub(crate) host: &'a MtaName,
     /// The error of the last connection that failed, if one failed.
     pub unconnected: Option<io::Error>,
 }
 
 impl<'a> MailServer<'a> {
-    /// The server at this address; `host` is the client's name in EHLO.
-    pub fn new(
-        rt: &'a HostRuntime,
-        address: &'a ServerAddress,
-        host: &'a MtaName,
-    ) -> MailServer<'a> {
+    /// The server at this address.
+    pub fn new(rt: &'a HostRuntime, address: &'a ServerAddress) -> MailServer<'a> {
         MailServer {
             rt,
             address,
-            host,
             unconnected: None,
         }
     }

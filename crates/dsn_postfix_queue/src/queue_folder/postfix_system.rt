@@ -17,7 +17,9 @@ use crate::queue_folder::service_name::service_name;
 use dsn_device::{Connection, Plain};
 use dsn_postfix::{PostfixRequest, QueueName};
 use dsn_postfix_notices::{DeedFault, MailSystem, PassReason, queue_id_of};
-use dsn_smtp::{HandInFault, KeptSessions, MailServer, ReplyBuffer, Submission, queue_id_in};
+use dsn_smtp::{
+    HandInFault, KeptSessions, MailConnection, MailServer, ReplyBuffer, Submission, queue_id_in,
+};
 use dsn_text::{Address, QueueId, Service};
 use std::alloc::Global;
 use std::fmt::Display;
@@ -44,7 +46,7 @@ pub struct PostfixSystem<'a, W> {
     waiting: &'a W,
     place: &'a PostfixSetup<'a>,
     /// The sessions with the mail server, which all threads share.
-    sessions: &'a KeptSessions,
+    sessions: &'a KeptSessions<MailConnection>,
     /// The turn to hold a large queue file, which all threads share.
     large_files: &'a LargeFiles,
     /// The event log for its lines.
@@ -71,7 +73,7 @@ impl<'a, W> PostfixSystem<'a, W> {
         rt: &'a HostRuntime,
         waiting: &'a W,
         place: &'a PostfixSetup<'a>,
-        sessions: &'a KeptSessions,
+        sessions: &'a KeptSessions<MailConnection>,
         large_files: &'a LargeFiles,
         events: &'a EventLog,
         double_bounce: &'a [u8],
@@ -306,11 +308,11 @@ impl<W: Wait + Clock> MailSystem for PostfixSystem<'_, W> {
         reply: &mut ReplyBuffer,
     ) -> Result<(), HandInFault> {
         let (rt, place): (&HostRuntime, &PostfixSetup<'_>) = (self.rt, self.place);
-        let sessions: &KeptSessions = self.sessions;
-        let mut server = MailServer::new(rt, place.hand_in, place.host);
-        let handed = sessions.hand_in(
+        let mut server = MailServer::new(rt, place.hand_in);
+        let handed = self.sessions.hand_in(
             self.waiting,
             &mut server,
+            place.host,
             &Submission { path, message },
             reply,
         );

@@ -2,7 +2,7 @@
 use crate::serving::service_queue::ServiceQueue;
 use dsn_postfix_notices::ServiceSettings;
 use dsn_postfix_queue::{EventLog, LargeFiles, PostfixSetup};
-use dsn_smtp::KeptSessions;
+use dsn_smtp::{KeptSessions, MailConnection};
 use dsn_text::Service;
 use std::alloc::{AllocError, Global};
 use std::sync::atomic::{AtomicBool, AtomicU64, Ordering};
@@ -21,7 +21,7 @@ pub(super) struct PostfixShare<'a> {
     /// The settings that its notices depend on.
     pub(super) settings: ServiceSettings<'a>,
     /// The sessions with its mail server.
-    pub(super) sessions: KeptSessions,
+    pub(super) sessions: KeptSessions<MailConnection>,
     /// The turn to hold a large queue file.
     pub(super) large_files: LargeFiles,
     /// The event log.

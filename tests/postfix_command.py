@@ -648,11 +648,11 @@ def check_unix_server(checks: Checks):
         it.put("one", "bounce")
         asked = it.ask("bounce", asked_in("one", "failure"))
         checks.equal("a notice by a Unix socket", (asked, len(it.server.taken)), (0, 1))
-        it.server.close()
         it.server.hang_up()
+        Path(it.hand_in).unlink()
         it.put("one", "bounce")
-        checks.equal("nobody at the Unix socket", it.ask("bounce", asked_in("one", "failure")), FAILED)
-        checks.true("its line", until(lambda: f"{it.hand_in}: connection refused" in it.lines()))
+        checks.equal("no Unix socket", it.ask("bounce", asked_in("one", "failure")), FAILED)
+        checks.true("its line", until(lambda: f"{it.hand_in}: entity not found" in it.lines()))
 
 
 def check_passed_on(checks: Checks):

@@ -4,7 +4,6 @@ use Rattle.std.specs.Prelude.{codes}
 use Rattle.dsn_smtp.specs.CommandLine.{hello_line, recipient_line}
 use Rattle.dsn_smtp.specs.Dialogue.{Turn, Heard, HeardNone, Said}
 use Rattle.dsn_smtp.specs.HandIn.{AsksAll, Greets, Leaves, commands_of, is_at_sender, may_be_taken}
-use Rattle.dsn_smtp.specs.Session.{GreetsAndAsks}
 use Rattle.dsn_smtp.specs.declared.hand_in_fault.HandInFault.TheVariants.{Refused, Unheard}
 use Rattle.dsn_smtp.specs.declared.hand_in_step.HandInStep.TheVariants.{Greeting, Sender, Recipient, Data, Message}
 use Rattle.dsn_smtp.specs.declared.reply_fault.ReplyFault.TheVariants.{Nothing, CutShort, Read}
@@ -58,12 +57,6 @@ may_be = refl
 
 may_not : may_be_taken (Refused Message (codes "451")) ≡ false
 may_not = refl
-
--- a whole dialogue, from the greeting to the refusal of a recipient
-whole : GreetsAndAsks (codes "a.example") (commands_of (codes "b@c.example") message)
-    (heard (codes "220") ∷ Said (line (codes "EHLO a.example")) ∷ heard (codes "250") ∷ (to_recipient ++ heard (codes "550") ∷ []))
-    (Some (Refused Recipient (codes "550")))
-whole = (refl, (refl, (refl, (refl, refl))))
 
 -- a kept session is followed by a new one if it fails at MAIL, and at no other step
 gone : is_at_sender (Unheard Sender Nothing) ≡ true

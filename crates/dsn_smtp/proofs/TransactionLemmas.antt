@@ -159,11 +159,6 @@ asks_no_more [] more turns why h = absurd (never_none why h.1)
 asks_no_more (command ∷ commands) more turns why h =
     asks_to_fault command (AsksAll commands) (AsksAll (commands ++ more)) turns why (λ rest went. asks_no_more commands more rest why went) h
 
-pub listens_no_more : (step : HandInStep) (commands more : List Command) (turns : List Turn) (why : HandInFault)
-    → Listens step (AsksAll commands) turns (Some why) → Listens step (AsksAll (commands ++ more)) turns (Some why)
-listens_no_more step commands more turns why h =
-    listens_to_fault step (AsksAll commands) (AsksAll (commands ++ more)) turns why (λ rest went. asks_no_more commands more rest why went) h
-
 -- ---- one command more
 
 -- the commands from an index on
@@ -228,16 +223,6 @@ pub asked_after : {S : Type 0} → (source : Source.Ghosts S) (drain : Drain.Gho
 asked_after source drain old between new step commands more first held after outcome one two =
     joined source drain old between new (Listens step (AsksAll commands)) (AsksAll more) (Listens step (AsksAll (commands ++ more))) first held after outcome
     (λ turns others went next. listens_more step commands more turns others outcome went next) one two
-
--- no command is sent after a fault
-pub not_asked_after : {S : Type 0} → (source : Source.Ghosts S) (drain : Drain.Ghosts S) (old new : S) (step : HandInStep) (commands more : List Command) (first after : List ℕ) (why : HandInFault)
-    → TurnsOver source drain old new (Listens step (AsksAll commands)) first after (Some why) → TurnsOver source drain old new (Listens step (AsksAll (commands ++ more))) first after (Some why)
-not_asked_after source drain old new step commands more first after why over = record {
-  turns = over.turns;
-  taken = over.taken;
-  go = listens_no_more step commands more over.turns why over.go;
-  last = λ e. absurd (never_none why e);
-}
 
 pub greeted : {S : Type 0} → (source : Source.Ghosts S) (drain : Drain.Ghosts S) (old between new : S) (line first held after : List ℕ) (outcome : Option HandInFault)
     → TurnsOver source drain old between (Listens Greeting (AsksAll [])) first held None → TurnsOver source drain between new (AsksAll (record { step = Hello; text = line } ∷ [])) held after outcome

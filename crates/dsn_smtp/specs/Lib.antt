@@ -1,6 +1,7 @@
 pub mod Command
 pub mod CommandLine
 pub mod Dialogue
+pub mod Extensions
 pub mod HandIn
 pub mod QueueIdIn
 pub mod Reply

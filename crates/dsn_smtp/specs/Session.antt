@@ -1,24 +1,31 @@
--- Sessions with a mail server that are kept: how one goes on or ends, and how a notice is submitted over a kept session
--- or over a new one.
+-- Sessions with a mail server that are kept: how one begins, goes on or ends, and how a notice is submitted over a kept
+-- session or over a new one.
 use Rattle.std.specs.Prelude.{◌≡◌, ℕ, true, false, List, [], ◌∷◌, Option, Some, None, Result, Ok, Err, IfErr, IfSome}
 use Rattle.dsn_device.specs.declared.drain.Drain
 use Rattle.dsn_device.specs.declared.source.Source
 use Rattle.dsn_smtp.specs.Command.{Command}
-use Rattle.dsn_smtp.specs.CommandLine.{hello_line}
 use Rattle.dsn_smtp.specs.Dialogue.{TakesTurns, Turn}
-use Rattle.dsn_smtp.specs.HandIn.{AsksAll, Greets, Leaves, Listens, TurnsOver, commands_of, fault_said, is_at_sender}
+use Rattle.dsn_smtp.specs.Extensions.{extensions_of}
+use Rattle.dsn_smtp.specs.HandIn.{AsksAll, Greets, Leaves, TurnsOver, commands_of, fault_said, is_at_sender}
+use Rattle.dsn_smtp.specs.declared.extensions.Extensions.{Extensions}
 use Rattle.dsn_smtp.specs.declared.hand_in_fault.HandInFault.{HandInFault}
 use Rattle.dsn_smtp.specs.declared.hand_in_fault.HandInFault.TheVariants.{Unheard}
-use Rattle.dsn_smtp.specs.declared.hand_in_step.HandInStep.TheVariants.{Greeting, Hello}
+use Rattle.dsn_smtp.specs.declared.hand_in_step.HandInStep.TheVariants.{Greeting}
 use Rattle.dsn_smtp.specs.declared.reply_fault.ReplyFault.TheVariants.{Read}
 
--- A stream over which a session was begun, and in which nothing went wrong so far. It had the greeting and EHLO, and
--- then whole transactions, each from the state in which the turns before it left the stream.
-pub data IsBegun {S : Type 0} (source : Source.Ghosts S) (drain : Drain.Ghosts S) : S → Type 0 where
-  greeted : (old now : S) (host before after : List ℕ) → TurnsOver source drain old now (Greets host) before after None
-      → IsBegun source drain now
-  handed_in : (old now : S) (path message before after : List ℕ) → IsBegun source drain old
-      → TurnsOver source drain old now (AsksAll (commands_of path message)) before after None → IsBegun source drain now
+-- a session: its stream, and the extensions that the server offered in its reply to EHLO
+pub record OpenSession (S : Type 0) : Type 0 where
+  pub stream : S
+  pub extensions : Extensions
+
+-- A session that was begun, and in which nothing went wrong so far. It had the greeting and EHLO, whose reply offered
+-- its extensions. Whole transactions followed, each from the state in which the turns before it left the stream.
+pub data IsBegun {S : Type 0} (source : Source.Ghosts S) (drain : Drain.Ghosts S) : OpenSession S → Type 0 where
+  greeted : (old : S) (now : OpenSession S) (host before after : List ℕ) → TurnsOver source drain old now.stream (Greets host) before after None
+      → now.extensions ≡ extensions_of after → IsBegun source drain now
+  handed_in : (old now : OpenSession S) (path message before after : List ℕ) → IsBegun source drain old
+      → TurnsOver source drain old.stream now.stream (AsksAll (commands_of path message)) before after None
+      → now.extensions ≡ old.extensions → IsBegun source drain now
 
 -- a session ends after the outcome of its last step
 pub record Ends {S : Type 0} (source : Source.Ghosts S) (drain : Drain.Ghosts S) (old : S) (outcome : Option HandInFault) : Type 0 where
@@ -34,36 +41,43 @@ pub record FailsAndEnds {S : Type 0} (source : Source.Ghosts S) (drain : Drain.G
   pub over : TurnsOver source drain old failed Go before after (Some why)
   pub ended : Ends source drain failed (Some why)
 
--- turns for which `Go` holds took a stream to that of the session that goes on, without a fault; or the session ended
-abbrev pub Continues : {S : Type 0} → Source.Ghosts S → Drain.Ghosts S → S → (List Turn → Option HandInFault → Type 0) → List ℕ → List ℕ → Result S HandInFault → Type 0
-Continues source drain old Go before after (Ok session) = TurnsOver source drain old session Go before after None
-Continues source drain old Go before after (Err why) = FailsAndEnds source drain old Go before after why
+-- The greeting and EHLO took a stream to that of a new session, without a fault, and the reply to EHLO offers the
+-- session's extensions. Or the session ended.
+abbrev pub Begins : {S : Type 0} → Source.Ghosts S → Drain.Ghosts S → S → List ℕ → List ℕ → List ℕ → Result (OpenSession S) HandInFault → Type 0
+Begins source drain old host before after (Ok session) =
+    TurnsOver source drain old session.stream (Greets host) before after None × (session.extensions ≡ extensions_of after)
+Begins source drain old host before after (Err why) = FailsAndEnds source drain old (Greets host) before after why
 
--- a whole dialogue: the greeting is received, then EHLO is sent by a client with this name, and then these commands
-abbrev pub GreetsAndAsks : List ℕ → List Command → List Turn → Option HandInFault → Type 0
-GreetsAndAsks host commands turns outcome =
-    Listens Greeting (AsksAll (record { step = Hello; text = hello_line host } ∷ commands)) turns outcome
+-- turns for which `Go` holds took a session's stream to that of the session that goes on, without a fault; or it ended
+abbrev pub Continues : {S : Type 0} → Source.Ghosts S → Drain.Ghosts S → OpenSession S → (List Turn → Option HandInFault → Type 0) → List ℕ → List ℕ → Result (OpenSession S) HandInFault → Type 0
+Continues source drain old Go before after (Ok session) =
+    TurnsOver source drain old.stream session.stream Go before after None × (session.extensions ≡ old.extensions)
+Continues source drain old Go before after (Err why) = FailsAndEnds source drain old.stream Go before after why
 
--- A server was asked for one stream. Either it gave one, and the commands were sent in a new session over it. Or it
--- gave a fault, which is the result.
+-- A server was asked for one stream. It gave one, a session was begun over it, and the commands were sent in the
+-- session. Or the session couldn't be begun. Or the server gave a fault, which is the result.
 pub data AsksAnew {S C : Type 0} (source : Source.Ghosts S) (drain : Drain.Ghosts S) (gives : C → C → Result S HandInFault → Type 0)
-    (old new : C) (host : List ℕ) (commands : List Command) (before after : List ℕ) (result : Result S HandInFault) : Type 0 where
-  connected : (begun : S) → gives old new (Ok begun)
-      → Continues source drain begun (GreetsAndAsks host commands) before after result
+    (old new : C) (host : List ℕ) (commands : List Command) (before after : List ℕ) (result : Result (OpenSession S) HandInFault) : Type 0 where
+  asked : (stream : S) (begun : OpenSession S) (between : List ℕ) → gives old new (Ok stream)
+      → Begins source drain stream host before between (Ok begun)
+      → Continues source drain begun (AsksAll commands) between after result
+      → AsksAnew source drain gives old new host commands before after result
+  ungreeted : (stream : S) (why : HandInFault) → gives old new (Ok stream)
+      → Begins source drain stream host before after (Err why) → result ≡ Err why
       → AsksAnew source drain gives old new host commands before after result
   unconnected : (why : HandInFault) → gives old new (Err why) → result ≡ Err why → after ≡ before
       → AsksAnew source drain gives old new host commands before after result
 
 -- a session failed at MAIL, and ended
-pub record FailsAtSender {S : Type 0} (source : Source.Ghosts S) (drain : Drain.Ghosts S) (session : S) (commands : List Command)
+pub record FailsAtSender {S : Type 0} (source : Source.Ghosts S) (drain : Drain.Ghosts S) (session : OpenSession S) (commands : List Command)
     (before : List ℕ) : Type 0 where
   pub why : HandInFault
   pub at_sender : is_at_sender why ≡ true
   pub held : List ℕ
-  pub fails : FailsAndEnds source drain session (AsksAll commands) before held why
+  pub fails : FailsAndEnds source drain session.stream (AsksAll commands) before held why
 
 -- no session was kept; or the kept one failed at MAIL and ended, and its replies are dropped
-abbrev pub GivesWay : {S : Type 0} → Source.Ghosts S → Drain.Ghosts S → Option S → List Command → List ℕ → List ℕ → Type 0
+abbrev pub GivesWay : {S : Type 0} → Source.Ghosts S → Drain.Ghosts S → Option (OpenSession S) → List Command → List ℕ → List ℕ → Type 0
 GivesWay source drain None commands before after = after ≡ before
 GivesWay source drain (Some session) commands before after = FailsAtSender source drain session commands before × (after ≡ [])
 
@@ -71,8 +85,9 @@ GivesWay source drain (Some session) commands before after = FailsAtSender sourc
 -- result, and the server isn't asked for a stream. Otherwise the server is asked for one stream, and the commands are
 -- sent in a new session.
 pub data AsksOver {S C : Type 0} (source : Source.Ghosts S) (drain : Drain.Ghosts S) (gives : C → C → Result S HandInFault → Type 0)
-    (old new : C) (kept : Option S) (host : List ℕ) (commands : List Command) (before after : List ℕ) (result : Result S HandInFault) : Type 0 where
-  over_kept : (session : S) → kept ≡ Some session → new ≡ old
+    (old new : C) (kept : Option (OpenSession S)) (host : List ℕ) (commands : List Command) (before after : List ℕ)
+    (result : Result (OpenSession S) HandInFault) : Type 0 where
+  over_kept : (session : OpenSession S) → kept ≡ Some session → new ≡ old
       → Continues source drain session (AsksAll commands) before after result
       → IfErr result (λ why. is_at_sender why ≡ false)
       → AsksOver source drain gives old new kept host commands before after result
@@ -84,7 +99,7 @@ pub data AsksOver {S C : Type 0} (source : Source.Ghosts S) (drain : Drain.Ghost
 -- session that is, the channel that keeps them doesn't expose. Or the notice had no turn, and nothing was done for it.
 pub data AsksOverSome {S C : Type 0} (source : Source.Ghosts S) (drain : Drain.Ghosts S) (gives : C → C → Result S HandInFault → Type 0)
     (old new : C) (host : List ℕ) (commands : List Command) (before after : List ℕ) (outcome : Option HandInFault) : Type 0 where
-  over_some : (kept : Option S) (handed : Result S HandInFault) → IfSome kept (IsBegun source drain)
+  over_some : (kept : Option (OpenSession S)) (handed : Result (OpenSession S) HandInFault) → IfSome kept (IsBegun source drain)
       → AsksOver source drain gives old new kept host commands before after handed → outcome ≡ fault_said handed
       → AsksOverSome source drain gives old new host commands before after outcome
   no_turn : outcome ≡ Some (Unheard Greeting Read) → new ≡ old → after ≡ before

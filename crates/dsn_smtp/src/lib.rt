@@ -5,6 +5,7 @@ mod command;
 mod command_line;
 mod connect;
 mod dialogue;
+mod extensions;
 mod hand_in_fault;
 mod hand_in_step;
 mod kept_or_new;
@@ -24,6 +25,7 @@ mod transaction;
 
 pub use connect::Connect;
 pub use dialogue::say;
+pub use extensions::Extensions;
 pub use hand_in_fault::HandInFault;
 pub use hand_in_step::HandInStep;
 pub use kept_or_new::hand_in_over;

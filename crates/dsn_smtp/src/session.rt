@@ -2,9 +2,11 @@
 //! Implements docs/FORMATS.md, "A connection".
 //! A connection, a greeting and EHLO for each notice would take more processor time than bounce(8),
 //! which writes straight to cleanup(8).
-ghost use Rattle.dsn_smtp.specs.HandIn.{AsksAll, Greets, commands_of};
-ghost use Rattle.dsn_smtp.specs.Session.{Continues, Ends, IsBegun};
+ghost use Rattle.std.specs.Prelude.{◌≡◌};
+ghost use Rattle.dsn_smtp.specs.HandIn.{AsksAll, commands_of};
+ghost use Rattle.dsn_smtp.specs.Session.{Begins, Continues, Ends, IsBegun};
 
+use crate::extensions::Extensions;
 use crate::hand_in_fault::HandInFault;
 use crate::reply_buffer::ReplyBuffer;
 use crate::transaction::{greet, hand_in_notice, leave};
@@ -20,18 +22,20 @@ const MOST_USES: u32 = 100;
 #[derive(Drop)]
 pub struct Session<S: Stream> {
     stream: S,
+    /// What the server offered in its reply to EHLO.
+    extensions: Extensions,
     /// The number of its transactions so far.
     uses: u32,
 }
 
 impl<S: Stream> Model for Session<S> {
-    ghost use Rattle.dsn_smtp.specs.Session.{IsBegun};
+    ghost use Rattle.dsn_smtp.specs.Session.{IsBegun, OpenSession};
 
-    ghost Value = { S };
+    ghost Value = { OpenSession S };
 
-    ghost view = { λ s. s.stream };
+    ghost view = { λ s. record { stream = s.stream; extensions = s.extensions } };
 
-    ghost invariant = { λ s. IsBegun S.Source S.Drain s.stream };
+    ghost invariant = { λ s. IsBegun S.Source S.Drain (record { stream = s.stream; extensions = s.extensions }) };
 }
 
 impl<S: Stream + Drop> Session<S> {
@@ -42,11 +46,18 @@ impl<S: Stream + Drop> Session<S> {
         buffer: &mut ReplyBuffer,
         host: &MtaName,
     ) -> Result<Session<S>, HandInFault>
-        ensures { Continues S.Source S.Drain stream (Greets host.now) buffer.old buffer.new result }
+        ensures { Begins S.Source S.Drain stream host.now buffer.old buffer.new result }
     {
         let mut stream = stream;
         match greet(&mut stream, buffer, host) {
-            Ok(()) => Ok(Session { stream, uses: 0 }),
+            Ok(()) => {
+                let extensions = Extensions::of_reply(buffer.bytes());
+                Ok(Session {
+                    stream,
+                    extensions,
+                    uses: 0,
+                })
+            }
             Err(fault) => {
                 end_failed(stream, &fault);
                 Err(fault)
@@ -66,15 +77,30 @@ impl<S: Stream + Drop> Session<S> {
             buffer.old buffer.new result }
         ensures begun { IsBegun S.Source S.Drain self }
     {
-        let Session { mut stream, uses } = self;
+        let Session {
+            mut stream,
+            extensions,
+            uses,
+        } = self;
         let uses = uses.saturating_add(1);
         match hand_in_notice(&mut stream, buffer, path, message) {
-            Ok(()) => Ok(Session { stream, uses }),
+            Ok(()) => Ok(Session {
+                stream,
+                extensions,
+                uses,
+            }),
             Err(fault) => {
                 end_failed(stream, &fault);
                 Err(fault)
             }
         }
+    }
+
+    /// The extensions that the server offered in its reply to EHLO.
+    pub fn extensions(&self) -> Extensions
+        ensures { result ≡ self.now.extensions }
+    {
+        self.extensions
     }
 
     /// Whether it may be used for one more transaction.
@@ -84,10 +110,11 @@ impl<S: Stream + Drop> Session<S> {
 
     /// Ends it with QUIT, as [`leave`] does.
     pub fn end(self)
-        ensures { Ends S.Source S.Drain self None }
+        ensures { Ends S.Source S.Drain self.stream None }
     {
         let Session {
             mut stream,
+            extensions: _,
             uses: _,
         } = self;
         leave(&mut stream, &Ok(()));

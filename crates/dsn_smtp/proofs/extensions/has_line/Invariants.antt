@@ -1,0 +1,13 @@
+-- No line so far begins with the keyword.
+use Rattle.std.proofs.Common.{◌≡◌, length}
+use Rattle.std.specs.List.{list_any}
+use Rattle.dsn_text.specs.Extension.{lines_ended_by_lf}
+use Rattle.dsn_smtp.specs.Extensions.{has_keyword}
+use Rattle.dsn_smtp.proofs.extensions.has_line.Given as goal
+
+abbrev pub invariant-loop-line : goal.invariant-loop-line
+invariant-loop-line l =
+    list_any (has_keyword l.fn.keyword) (lines_ended_by_lf l.rest) ≡ list_any (has_keyword l.fn.keyword) (lines_ended_by_lf l.fn.lines)
+
+abbrev pub decreases-loop-line : goal.decreases-loop-line
+decreases-loop-line l = length l.rest

@@ -579,6 +579,56 @@ def check_sessions(checks: Checks):
         )
 
 
+class GroupServer:
+    """A mail server that offers PIPELINING. It answers nothing before DATA is there; then it says `replies` at once, and
+    closes if they are no three. It keeps what came after DATA, up to a line of one dot, which it takes, or QUIT."""
+
+    def __init__(self, replies: bytes):
+        self.replies, self.group, self.rest = replies, b"", b""
+        self.listening = socket.create_server(("127.0.0.1", 0))
+        self.address = "127.0.0.1:%d" % self.listening.getsockname()[1]
+        threading.Thread(target=self.serve, daemon=True).start()
+
+    def serve(self):
+        with self.listening.accept()[0] as peer, peer.makefile("rb") as lines:
+            peer.sendall(b"220 mx.example.net ESMTP\r\n")
+            lines.readline()
+            peer.sendall(b"250-mx.example.net\r\n250-SIZE 1000\r\n250 Pipelining\r\n")
+            while not self.group.endswith(b"DATA\r\n"):
+                self.group += lines.readline()
+            peer.sendall(self.replies)
+            while self.replies.count(b"\n") > 2 and (line := lines.readline()) not in (b"QUIT\r\n", b""):
+                self.rest += line
+                if line == b".\r\n":
+                    peer.sendall(b"250 2.0.0 Ok: queued as NEW1\r\n")
+
+
+def check_groups(checks: Checks):
+    """With a server that offers PIPELINING, MAIL, RCPT and DATA are sent before their replies, which may come in one
+    piece. What is refused stays refused, whatever the other replies say, and the message isn't sent then. Bytes behind
+    the last reply are a fault."""
+    group = b"".join(TRANSACTION[:3])
+    told = f"{ONE}: sender non-delivery notification: NEW1"
+    refused = f"{ONE}: notice not accepted: refused: "
+    unheard = f"{ONE}: notice not accepted: no reply was heard: "
+    for name, replies, wanted in (
+        ("taken", b"250 a\r\n250 b\r\n354 c\r\n", (0, True, told)),
+        ("refused", b"250 a\r\n450 b\r\n554 c\r\n", (FAILED, b"", refused + "b")),
+        ("refused, and DATA accepted", b"250 a\r\n450 b\r\n354 c\r\n", (FAILED, b".\r\n", refused + "b")),
+        ("the sender refused", b"450 a\r\n503 b\r\n503 c\r\n", (FAILED, b"", refused + "a")),
+        ("cut off", b"250 a\r\n", (FAILED, b"", unheard)),
+        ("bytes behind", b"250 a\r\n250 b\r\n354 c\r\n250 d\r\n", (FAILED, b"", unheard)),
+    ):
+        server = GroupServer(replies)
+        with Postfix(hand_in=server.address) as it:
+            it.put("one", "bounce")
+            status = it.ask("bounce", asked_in("one", "failure"))
+            rest = server.rest.endswith(b"\r\n.\r\n") if wanted[1] is True else server.rest
+            lines = until(lambda: any(line.startswith(wanted[2]) for line in it.lines()))
+            checks.equal(f"a group: {name}", (status, server.group, rest, lines), (wanted[0], group, wanted[1], True))
+        server.listening.close()
+
+
 def check_refused_for_good(checks: Checks):
     """What is refused for good before a notice of the request was taken goes to Postfix's own service as it is, with
     the log, and its status comes back; what is refused for now, or after one was taken, is answered -1."""
@@ -1137,6 +1187,7 @@ def main():
         check_refusals,
         check_refused_for_good,
         check_sessions,
+        check_groups,
         check_twice,
         check_no_server,
         check_unix_server,

@@ -6,7 +6,7 @@ use Rattle.dsn_device.specs.declared.drain.Drain
 use Rattle.dsn_device.specs.declared.source.Source
 use Rattle.dsn_smtp.specs.Command.{Command}
 use Rattle.dsn_smtp.specs.CommandLine.{quit_line}
-use Rattle.dsn_smtp.specs.Dialogue.{TakesTurn, TakesTurns, Turn, Heard, HeardNone, Said, SaidPart}
+use Rattle.dsn_smtp.specs.Dialogue.{TakesTurn, TakesTurns, Turn, Heard, HeardEach, HeardNone, Said, SaidPart}
 use Rattle.dsn_smtp.specs.HandIn.{AsksCommand, AsksAll, GreetsWith, Listens, SaysGoodbye, TurnsOver, is_wanted_reply, last_heard_after}
 use Rattle.dsn_smtp.specs.ReplyCode.{class_of}
 use Rattle.dsn_smtp.specs.declared.hand_in_fault.HandInFault.{HandInFault}
@@ -18,10 +18,10 @@ use Rattle.dsn_smtp.specs.declared.reply_fault.ReplyFault.{ReplyFault}
 abbrev Goes : Type 1
 Goes = List Turn → Option HandInFault → Type 0
 
-never_none : (why : HandInFault) → Some why ≡ None → ⊥
+pub never_none : (why : HandInFault) → Some why ≡ None → ⊥
 never_none why e = cc
 
-never_some : (why : HandInFault) → None ≡ Some why → ⊥
+pub never_some : (why : HandInFault) → None ≡ Some why → ⊥
 never_some why e = cc
 
 -- ---- turns after others
@@ -32,13 +32,14 @@ takes_more source drain old between new [] more first second = subst (λ s. Take
 takes_more source drain old between new (turn ∷ turns) more first second =
     (first.0, first.1, takes_more source drain first.0 between new turns more first.2 second)
 
-takes_one : {S : Type 0} → (source : Source.Ghosts S) (drain : Drain.Ghosts S) (old new : S) (turn : Turn) → TakesTurn source drain old new turn → TakesTurns source drain old new (turn ∷ [])
+pub takes_one : {S : Type 0} → (source : Source.Ghosts S) (drain : Drain.Ghosts S) (old new : S) (turn : Turn) → TakesTurn source drain old new turn → TakesTurns source drain old new (turn ∷ [])
 takes_one source drain old new turn takes = (new, takes, refl)
 
 pub last-append : (before : List ℕ) (turns more : List Turn) → last_heard_after before (turns ++ more) ≡ last_heard_after (last_heard_after before turns) more
 last-append before [] more = refl
 last-append before (Heard code bytes ∷ turns) more = last-append bytes turns more
 last-append before (HeardNone why ∷ turns) more = last-append before turns more
+last-append before (HeardEach codes missing ∷ turns) more = last-append before turns more
 last-append before (Said text ∷ turns) more = last-append before turns more
 last-append before (SaidPart text ∷ turns) more = last-append before turns more
 
@@ -108,6 +109,7 @@ listens_on step First Next [] after outcome follow h = absurd h
 listens_on step First Next (Heard code bytes ∷ rest) after outcome follow h =
     then_bool (is_wanted_reply step (class_of code)) (First rest None) (Next (rest ++ after) outcome) rest (Refused step code) ((rest ++ after ≡ []) × (outcome ≡ Some (Refused step code))) (follow rest) h
 listens_on step First Next (HeardNone why ∷ rest) after outcome follow h = absurd (never_some (Unheard step why) h.1)
+listens_on step First Next (HeardEach codes missing ∷ rest) after outcome follow h = absurd h
 listens_on step First Next (Said text ∷ rest) after outcome follow h = absurd h
 listens_on step First Next (SaidPart text ∷ rest) after outcome follow h = absurd h
 
@@ -118,6 +120,7 @@ asks_on command First Next (Said text ∷ rest) after outcome follow h = (h.0, l
 asks_on command First Next (SaidPart text ∷ rest) after outcome follow h = absurd (never_some (Unsaid command.step) h.1.1)
 asks_on command First Next (Heard code bytes ∷ rest) after outcome follow h = absurd h
 asks_on command First Next (HeardNone why ∷ rest) after outcome follow h = absurd h
+asks_on command First Next (HeardEach codes missing ∷ rest) after outcome follow h = absurd h
 
 -- more commands are sent after some that succeeded
 pub asks_more : (commands more : List Command) (turns after : List Turn) (outcome : Option HandInFault)
@@ -142,6 +145,7 @@ listens_to_fault step First Next [] why follow h = absurd h
 listens_to_fault step First Next (Heard code bytes ∷ rest) why follow h =
     fault_bool (is_wanted_reply step (class_of code)) (First rest (Some why)) (Next rest (Some why)) ((rest ≡ []) × (Some why ≡ Some (Refused step code))) (follow rest) h
 listens_to_fault step First Next (HeardNone other ∷ rest) why follow h = h
+listens_to_fault step First Next (HeardEach codes missing ∷ rest) why follow h = absurd h
 listens_to_fault step First Next (Said text ∷ rest) why follow h = absurd h
 listens_to_fault step First Next (SaidPart text ∷ rest) why follow h = absurd h
 
@@ -152,6 +156,7 @@ asks_to_fault command First Next (Said text ∷ rest) why follow h = (h.0, liste
 asks_to_fault command First Next (SaidPart text ∷ rest) why follow h = h
 asks_to_fault command First Next (Heard code bytes ∷ rest) why follow h = absurd h
 asks_to_fault command First Next (HeardNone other ∷ rest) why follow h = absurd h
+asks_to_fault command First Next (HeardEach codes missing ∷ rest) why follow h = absurd h
 
 -- no more commands are sent after a fault
 pub asks_no_more : (commands more : List Command) (turns : List Turn) (why : HandInFault) → AsksAll commands turns (Some why) → AsksAll (commands ++ more) turns (Some why)

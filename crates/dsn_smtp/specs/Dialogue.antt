@@ -1,19 +1,21 @@
 -- The turns of a dialogue over a stream: what was sent and what was received, in this order.
-use Rattle.std.specs.Prelude.{◌≡◌, ℕ, Bool, true, false, List, [], ◌∷◌}
+use Rattle.std.specs.Prelude.{◌≡◌, ℕ, Bool, true, false, List, [], ◌∷◌, Option, Some, None}
 use Rattle.std.specs.Io.KnownBytes.{Appends, Keeps}
 use Rattle.dsn_device.specs.Failures.{counted}
 use Rattle.dsn_device.specs.Flushes.{flushed}
 use Rattle.dsn_device.specs.Transfer.{AppendsPart}
 use Rattle.dsn_device.specs.declared.drain.Drain
 use Rattle.dsn_device.specs.declared.source.Source
-use Rattle.dsn_smtp.specs.ReplyReading.{ReadsNoReply, ReadsReply}
+use Rattle.dsn_smtp.specs.ReplyReading.{ReadsEach, ReadsNoReply, ReadsReply}
 use Rattle.dsn_smtp.specs.declared.reply_fault.ReplyFault.{ReplyFault}
 use Rattle.dsn_smtp.specs.declared.reply_fault.ReplyFault.TheVariants.{Nothing, CutShort, NoReply, TooLong, Trailing, Read}
 
--- one turn: a reply was received, with its code and all its bytes, or couldn't be; a text was sent whole, or wasn't
+-- one turn: a reply was received, with its code and all its bytes, or couldn't be; replies to a group of commands were
+-- received, with their codes, up to one that couldn't be, if there is one; a text was sent whole, or wasn't
 pub data Turn : Type 0 where
   Heard : List ℕ → List ℕ → Turn
   HeardNone : ReplyFault → Turn
+  HeardEach : List (List ℕ) → Option ReplyFault → Turn
   Said : List ℕ → Turn
   SaidPart : List ℕ → Turn
 
@@ -25,6 +27,11 @@ is_of_device NoReply = false
 is_of_device TooLong = false
 is_of_device Trailing = false
 is_of_device Read = true
+
+-- whether a reply is missing since the device failed
+abbrev pub is_lost_by_device : Option ReplyFault → Bool
+is_lost_by_device None = false
+is_lost_by_device (Some fault) = is_of_device fault
 
 -- a stream was read from, and not written to; `failed` says whether it failed once
 pub record OnlyReads {S : Type 0} (source : Source.Ghosts S) (failed : Bool) (old new : S) : Type 0 where
@@ -62,6 +69,8 @@ TakesTurn source drain old new (Heard code bytes) =
     ReadsReply (source.remaining old) (source.remaining new) code bytes × OnlyReads source false old new
 TakesTurn source drain old new (HeardNone fault) =
     ReadsNoReply (source.remaining old) (source.remaining new) fault × OnlyReads source (is_of_device fault) old new
+TakesTurn source drain old new (HeardEach codes missing) =
+    ReadsEach (source.remaining old) (source.remaining new) codes missing × OnlyReads source (is_lost_by_device missing) old new
 TakesTurn source drain old new (Said text) = Says drain old new text
 TakesTurn source drain old new (SaidPart text) = FailsToSay drain old new text
 

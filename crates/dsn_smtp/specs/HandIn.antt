@@ -5,7 +5,7 @@ use Rattle.dsn_device.specs.declared.drain.Drain
 use Rattle.dsn_device.specs.declared.source.Source
 use Rattle.dsn_smtp.specs.Command.{Command}
 use Rattle.dsn_smtp.specs.CommandLine.{data_line, hello_line, quit_line, recipient_line, sender_line}
-use Rattle.dsn_smtp.specs.Dialogue.{TakesTurns, Turn, Heard, Said, HeardNone, SaidPart, is_of_device}
+use Rattle.dsn_smtp.specs.Dialogue.{TakesTurns, Turn, Heard, Said, HeardEach, HeardNone, SaidPart, is_of_device}
 use Rattle.dsn_smtp.specs.ReplyCode.{class_of}
 use Rattle.dsn_smtp.specs.declared.hand_in_fault.HandInFault.{HandInFault}
 use Rattle.dsn_smtp.specs.declared.hand_in_fault.HandInFault.TheVariants.{Refused, Unheard, Unsaid}
@@ -46,6 +46,7 @@ Listens step Follow (Heard code bytes ∷ turns) outcome =
     MatchBool (is_wanted_reply step (class_of code)) (Follow turns outcome)
     ((turns ≡ []) × (outcome ≡ Some (Refused step code)))
 Listens step Follow (HeardNone why ∷ turns) outcome = (turns ≡ []) × (outcome ≡ Some (Unheard step why))
+Listens step Follow (HeardEach codes missing ∷ turns) outcome = ⊥
 Listens step Follow (Said text ∷ turns) outcome = ⊥
 Listens step Follow (SaidPart text ∷ turns) outcome = ⊥
 
@@ -57,6 +58,7 @@ AsksCommand command Follow (SaidPart text ∷ turns) outcome =
     (text ≡ command.text) × ((turns ≡ []) × (outcome ≡ Some (Unsaid command.step)))
 AsksCommand command Follow (Heard code bytes ∷ turns) outcome = ⊥
 AsksCommand command Follow (HeardNone why ∷ turns) outcome = ⊥
+AsksCommand command Follow (HeardEach codes missing ∷ turns) outcome = ⊥
 
 -- commands are sent in their order, each after the one before it succeeded
 abbrev pub AsksAll : List Command → List Turn → Option HandInFault → Type 0
@@ -85,16 +87,18 @@ SaysGoodbye (Said text ∷ turns) = (text ≡ quit_line) × (turns ≡ [])
 SaysGoodbye (SaidPart text ∷ turns) = (text ≡ quit_line) × (turns ≡ [])
 SaysGoodbye (Heard code bytes ∷ turns) = ⊥
 SaysGoodbye (HeardNone why ∷ turns) = ⊥
+SaysGoodbye (HeardEach codes missing ∷ turns) = ⊥
 
 -- a session ends with QUIT; over a device that failed nothing is sent
 abbrev pub Leaves : Option HandInFault → List Turn → Type 0
 Leaves outcome turns = MatchBool (is_broken outcome) (turns ≡ []) (SaysGoodbye turns)
 
--- the bytes of the reply that was received last
+-- the bytes of the reply that was received last, except of those to a group, which aren't held
 abbrev pub last_heard_after : List ℕ → List Turn → List ℕ
 last_heard_after before [] = before
 last_heard_after before (Heard code bytes ∷ turns) = last_heard_after bytes turns
 last_heard_after before (HeardNone why ∷ turns) = last_heard_after before turns
+last_heard_after before (HeardEach codes missing ∷ turns) = last_heard_after before turns
 last_heard_after before (Said text ∷ turns) = last_heard_after before turns
 last_heard_after before (SaidPart text ∷ turns) = last_heard_after before turns
 

@@ -3,6 +3,7 @@ pub mod CommandLine
 pub mod Dialogue
 pub mod Extensions
 pub mod HandIn
+pub mod Pipelining
 pub mod QueueIdIn
 pub mod Reply
 pub mod ReplyCode

@@ -1,6 +1,6 @@
 -- Replies that are read from a device in pieces: what was read, and how reading ends. If a device doesn't expose its
 -- bytes, this says what the reply is, and not where it came from.
-use Rattle.std.specs.Prelude.{◌≡◌, ℕ, ◌<◌, ◌≤◌, Bool, true, false, List, [], length, Option, Result, Ok, Err}
+use Rattle.std.specs.Prelude.{◌≡◌, ℕ, ◌<◌, ◌≤◌, Bool, true, false, List, [], ◌∷◌, ◌++◌, length, Option, Some, None, Result, Ok, Err}
 use Rattle.std.specs.Io.KnownBytes.{Consumes, IsAtEnd}
 use Rattle.dsn_smtp.specs.Reply.{HasFurtherBytes, HasNoReply, IsFrontOfReply, IsNoFrontOfReply, IsServerReply, longest_server_reply}
 use Rattle.dsn_smtp.specs.declared.reply_fault.ReplyFault.{ReplyFault}
@@ -42,6 +42,21 @@ pub record ReadsNoReply (old new : Option (List ℕ)) (fault : ReplyFault) : Typ
   pub consumed : Consumes old new part
   pub stops : StopsReply fault part
   pub ends : EndsBeforeReply fault new
+
+-- One more reply couldn't be read: `part` was read of it, and `behind` came with that.
+pub record ReadsNoMore (old new : Option (List ℕ)) (fault : ReplyFault) : Type 0 where
+  pub part : List ℕ
+  pub behind : List ℕ
+  pub consumed : Consumes old new (part ++ behind)
+  pub stops : StopsReply fault part
+  pub ends : EndsBeforeReply fault new
+
+-- Replies with these codes were read, one right after another, and nothing after them. Or the next one couldn't be.
+abbrev pub ReadsEach : Option (List ℕ) → Option (List ℕ) → List (List ℕ) → Option ReplyFault → Type 0
+ReadsEach old new [] None = new ≡ old
+ReadsEach old new [] (Some fault) = ReadsNoMore old new fault
+ReadsEach old new (code ∷ codes) missing =
+    (between : Option (List ℕ)) × (bytes : List ℕ) × ReadsReply old between code bytes × ReadsEach between new codes missing
 
 -- whether a result says that the device failed
 abbrev pub reply_device_failed : {T : Type 0} → Result T ReplyFault → Bool

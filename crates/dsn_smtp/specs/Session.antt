@@ -1,12 +1,12 @@
 -- Sessions with a mail server that are kept: how one begins, goes on or ends, and how a notice is submitted over a kept
 -- session or over a new one.
-use Rattle.std.specs.Prelude.{◌≡◌, ℕ, true, false, List, [], ◌∷◌, Option, Some, None, Result, Ok, Err, IfErr, IfSome}
+use Rattle.std.specs.Prelude.{◌≡◌, ℕ, true, false, List, [], Option, Some, None, Result, Ok, Err, IfErr, IfSome}
 use Rattle.dsn_device.specs.declared.drain.Drain
 use Rattle.dsn_device.specs.declared.source.Source
-use Rattle.dsn_smtp.specs.Command.{Command}
 use Rattle.dsn_smtp.specs.Dialogue.{TakesTurns, Turn}
 use Rattle.dsn_smtp.specs.Extensions.{extensions_of}
-use Rattle.dsn_smtp.specs.HandIn.{AsksAll, Greets, Leaves, TurnsOver, commands_of, fault_said, is_at_sender}
+use Rattle.dsn_smtp.specs.HandIn.{Greets, Leaves, TurnsOver, fault_said, is_at_sender}
+use Rattle.dsn_smtp.specs.Pipelining.{Transacts}
 use Rattle.dsn_smtp.specs.declared.extensions.Extensions.{Extensions}
 use Rattle.dsn_smtp.specs.declared.hand_in_fault.HandInFault.{HandInFault}
 use Rattle.dsn_smtp.specs.declared.hand_in_fault.HandInFault.TheVariants.{Unheard}
@@ -24,7 +24,7 @@ pub data IsBegun {S : Type 0} (source : Source.Ghosts S) (drain : Drain.Ghosts S
   greeted : (old : S) (now : OpenSession S) (host before after : List ℕ) → TurnsOver source drain old now.stream (Greets host) before after None
       → now.extensions ≡ extensions_of after → IsBegun source drain now
   handed_in : (old now : OpenSession S) (path message before after : List ℕ) → IsBegun source drain old
-      → TurnsOver source drain old.stream now.stream (AsksAll (commands_of path message)) before after None
+      → TurnsOver source drain old.stream now.stream (Transacts old.extensions path message) before after None
       → now.extensions ≡ old.extensions → IsBegun source drain now
 
 -- a session ends after the outcome of its last step
@@ -54,53 +54,53 @@ Continues source drain old Go before after (Ok session) =
     TurnsOver source drain old.stream session.stream Go before after None × (session.extensions ≡ old.extensions)
 Continues source drain old Go before after (Err why) = FailsAndEnds source drain old.stream Go before after why
 
--- A server was asked for one stream. It gave one, a session was begun over it, and the commands were sent in the
+-- A server was asked for one stream. It gave one, a session was begun over it, and the transaction was tried in the
 -- session. Or the session couldn't be begun. Or the server gave a fault, which is the result.
 pub data AsksAnew {S C : Type 0} (source : Source.Ghosts S) (drain : Drain.Ghosts S) (gives : C → C → Result S HandInFault → Type 0)
-    (old new : C) (host : List ℕ) (commands : List Command) (before after : List ℕ) (result : Result (OpenSession S) HandInFault) : Type 0 where
+    (old new : C) (host path message before after : List ℕ) (result : Result (OpenSession S) HandInFault) : Type 0 where
   asked : (stream : S) (begun : OpenSession S) (between : List ℕ) → gives old new (Ok stream)
       → Begins source drain stream host before between (Ok begun)
-      → Continues source drain begun (AsksAll commands) between after result
-      → AsksAnew source drain gives old new host commands before after result
+      → Continues source drain begun (Transacts begun.extensions path message) between after result
+      → AsksAnew source drain gives old new host path message before after result
   ungreeted : (stream : S) (why : HandInFault) → gives old new (Ok stream)
       → Begins source drain stream host before after (Err why) → result ≡ Err why
-      → AsksAnew source drain gives old new host commands before after result
+      → AsksAnew source drain gives old new host path message before after result
   unconnected : (why : HandInFault) → gives old new (Err why) → result ≡ Err why → after ≡ before
-      → AsksAnew source drain gives old new host commands before after result
+      → AsksAnew source drain gives old new host path message before after result
 
 -- a session failed at MAIL, and ended
-pub record FailsAtSender {S : Type 0} (source : Source.Ghosts S) (drain : Drain.Ghosts S) (session : OpenSession S) (commands : List Command)
-    (before : List ℕ) : Type 0 where
+pub record FailsAtSender {S : Type 0} (source : Source.Ghosts S) (drain : Drain.Ghosts S) (session : OpenSession S)
+    (path message before : List ℕ) : Type 0 where
   pub why : HandInFault
   pub at_sender : is_at_sender why ≡ true
   pub held : List ℕ
-  pub fails : FailsAndEnds source drain session.stream (AsksAll commands) before held why
+  pub fails : FailsAndEnds source drain session.stream (Transacts session.extensions path message) before held why
 
 -- no session was kept; or the kept one failed at MAIL and ended, and its replies are dropped
-abbrev pub GivesWay : {S : Type 0} → Source.Ghosts S → Drain.Ghosts S → Option (OpenSession S) → List Command → List ℕ → List ℕ → Type 0
-GivesWay source drain None commands before after = after ≡ before
-GivesWay source drain (Some session) commands before after = FailsAtSender source drain session commands before × (after ≡ [])
+abbrev pub GivesWay : {S : Type 0} → Source.Ghosts S → Drain.Ghosts S → Option (OpenSession S) → List ℕ → List ℕ → List ℕ → List ℕ → Type 0
+GivesWay source drain None path message before after = after ≡ before
+GivesWay source drain (Some session) path message before after = FailsAtSender source drain session path message before × (after ≡ [])
 
--- A transaction's commands are sent in the kept session, if there is one. Unless that fails at MAIL, its result is the
--- result, and the server isn't asked for a stream. Otherwise the server is asked for one stream, and the commands are
--- sent in a new session.
+-- A transaction is tried in the kept session, if there is one. Unless that fails at MAIL, its result is the
+-- result, and the server isn't asked for a stream. Otherwise the server is asked for one stream, and the transaction is
+-- tried in a new session.
 pub data AsksOver {S C : Type 0} (source : Source.Ghosts S) (drain : Drain.Ghosts S) (gives : C → C → Result S HandInFault → Type 0)
-    (old new : C) (kept : Option (OpenSession S)) (host : List ℕ) (commands : List Command) (before after : List ℕ)
+    (old new : C) (kept : Option (OpenSession S)) (host path message before after : List ℕ)
     (result : Result (OpenSession S) HandInFault) : Type 0 where
   over_kept : (session : OpenSession S) → kept ≡ Some session → new ≡ old
-      → Continues source drain session (AsksAll commands) before after result
+      → Continues source drain session (Transacts session.extensions path message) before after result
       → IfErr result (λ why. is_at_sender why ≡ false)
-      → AsksOver source drain gives old new kept host commands before after result
-  anew : (between : List ℕ) → GivesWay source drain kept commands before between
-      → AsksAnew source drain gives old new host commands between after result
-      → AsksOver source drain gives old new kept host commands before after result
+      → AsksOver source drain gives old new kept host path message before after result
+  anew : (between : List ℕ) → GivesWay source drain kept path message before between
+      → AsksAnew source drain gives old new host path message between after result
+      → AsksOver source drain gives old new kept host path message before after result
 
--- A transaction's commands are sent over some session that was begun and kept, or over none, as `AsksOver` says. Which
+-- A transaction is tried over some session that was begun and kept, or over none, as `AsksOver` says. Which
 -- session that is, the channel that keeps them doesn't expose. Or the notice had no turn, and nothing was done for it.
 pub data AsksOverSome {S C : Type 0} (source : Source.Ghosts S) (drain : Drain.Ghosts S) (gives : C → C → Result S HandInFault → Type 0)
-    (old new : C) (host : List ℕ) (commands : List Command) (before after : List ℕ) (outcome : Option HandInFault) : Type 0 where
+    (old new : C) (host path message before after : List ℕ) (outcome : Option HandInFault) : Type 0 where
   over_some : (kept : Option (OpenSession S)) (handed : Result (OpenSession S) HandInFault) → IfSome kept (IsBegun source drain)
-      → AsksOver source drain gives old new kept host commands before after handed → outcome ≡ fault_said handed
-      → AsksOverSome source drain gives old new host commands before after outcome
+      → AsksOver source drain gives old new kept host path message before after handed → outcome ≡ fault_said handed
+      → AsksOverSome source drain gives old new host path message before after outcome
   no_turn : outcome ≡ Some (Unheard Greeting Read) → new ≡ old → after ≡ before
-      → AsksOverSome source drain gives old new host commands before after outcome
+      → AsksOverSome source drain gives old new host path message before after outcome

@@ -1,2 +1,4 @@
 pub mod CommandLine
+pub mod GroupReplies
+pub mod ReadAhead
 pub mod ReplyState

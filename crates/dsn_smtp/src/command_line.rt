@@ -3,6 +3,7 @@
 ghost use Rattle.std.specs.Prelude.{◌≡◌, ◌+◌, ◌≤◌, ◌++◌, [], length};
 ghost use Rattle.dsn_smtp.specs.inner.CommandLine.{IsCommandLine, longest_command_line};
 ghost use Rattle.dsn_smtp.specs.CommandLine.{hello_line, recipient_line};
+ghost use Rattle.dsn_smtp.specs.Pipelining.{group_text};
 
 use dsn_text::{Address, MtaName};
 use std::marker::Model;
@@ -17,7 +18,7 @@ pub(crate) const SENDER_LINE: &[u8] = b"MAIL FROM:<>\r\n";
 
 pub(crate) const QUIT_LINE: &[u8] = b"QUIT\r\n";
 
-/// A command line, stored in place.
+/// A command line, or a group of them, stored in place.
 #[derive(Drop)]
 pub(crate) struct CommandLine {
     buffer: [u8; LONGEST_COMMAND_LINE],
@@ -64,6 +65,20 @@ impl CommandLine {
         line
     }
 
+    /// MAIL, RCPT for one path, and DATA: a group (RFC 2920).
+    pub(crate) fn group(path: &Address) -> CommandLine
+        ensures { result ≡ group_text path.now }
+    {
+        let address = path.bytes();
+        let mut group = CommandLine::empty();
+        group.push(SENDER_LINE);
+        group.push(b"RCPT TO:<");
+        group.push(address);
+        group.push(b">\r\n");
+        group.push(DATA_LINE);
+        group
+    }
+
     fn empty() -> CommandLine
         ensures { result ≡ [] }
     {
@@ -83,7 +98,7 @@ impl CommandLine {
         self.size = size;
     }
 
-    /// The line, with its CRLF.
+    /// The bytes, with the CRLF at their end.
     pub(crate) fn bytes(&self) -> &[u8]
         ensures { result.now ≡ self.now }
     {

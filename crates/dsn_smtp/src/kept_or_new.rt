@@ -1,7 +1,6 @@
 //! Submission over a kept session, or over a new one.
 //! Implements docs/FORMATS.md, "A connection".
 ghost use Rattle.std.specs.Prelude.{IfSome};
-ghost use Rattle.dsn_smtp.specs.HandIn.{commands_of};
 ghost use Rattle.dsn_smtp.specs.Session.{AsksAnew, AsksOver, IsBegun};
 
 use crate::connect::Connect;
@@ -22,7 +21,7 @@ pub fn hand_in_over<S: Stream + Drop, C: Connect<S>>(
     buffer: &mut ReplyBuffer,
 ) -> Result<Session<S>, HandInFault>
     ensures over { AsksOver S.Source S.Drain C.gives server.old server.new kept host.now
-        (commands_of submission.now.path.now submission.now.message.now) buffer.old buffer.new result }
+        submission.now.path.now submission.now.message.now buffer.old buffer.new result }
     ensures begun { IfSome kept (IsBegun S.Source S.Drain) }
 {
     let Some(session) = kept else {
@@ -48,7 +47,7 @@ fn hand_in_anew<S: Stream + Drop, C: Connect<S>>(
     buffer: &mut ReplyBuffer,
 ) -> Result<Session<S>, HandInFault>
     ensures { AsksAnew S.Source S.Drain C.gives server.old server.new host.now
-        (commands_of submission.now.path.now submission.now.message.now) buffer.old buffer.new result }
+        submission.now.path.now submission.now.message.now buffer.old buffer.new result }
 {
     let stream = server.connect()?;
     let session = Session::begin(stream, buffer, host)?;

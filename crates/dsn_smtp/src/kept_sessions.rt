@@ -1,7 +1,7 @@
 //! The sessions with the mail server that are kept from one notice to the next.
 //! Implements docs/FORMATS.md, "A connection".
 ghost use Rattle.std.specs.Prelude.{◌≡◌};
-ghost use Rattle.dsn_smtp.specs.HandIn.{commands_of, fault_said};
+ghost use Rattle.dsn_smtp.specs.HandIn.{fault_said};
 ghost use Rattle.dsn_smtp.specs.Session.{AsksOverSome};
 
 use crate::connect::Connect;
@@ -87,7 +87,7 @@ impl<S: Stream + Drop> KeptSessions<S> {
         buffer: &mut ReplyBuffer,
     ) -> Result<(), HandInFault>
         ensures { AsksOverSome S.Source S.Drain C.gives server.old server.new host.now
-            (commands_of submission.now.path.now submission.now.message.now) buffer.old buffer.new
+            submission.now.path.now submission.now.message.now buffer.old buffer.new
             (fault_said result) }
     {
         let limit = Duration::from_secs(SECONDS_FOR_TURN);

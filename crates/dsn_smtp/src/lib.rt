@@ -1,4 +1,5 @@
-//! Submits notices to a mail server: a client of SMTP (RFC 5321) that waits for each reply.
+//! Submits notices to a mail server: a client of SMTP (RFC 5321) that waits for each reply, or for
+//! those to a group of commands (RFC 2920).
 #![tactic(auto)]
 
 mod command;
@@ -6,13 +7,16 @@ mod command_line;
 mod connect;
 mod dialogue;
 mod extensions;
+mod group_replies;
 mod hand_in_fault;
 mod hand_in_step;
 mod kept_or_new;
 mod kept_sessions;
 mod mail_server;
 mod mail_stream;
+mod pipelining;
 mod queue_id_text;
+mod read_ahead;
 mod reply_buffer;
 mod reply_class;
 mod reply_code;

@@ -3,11 +3,13 @@
 //! A connection, a greeting and EHLO for each notice would take more processor time than bounce(8),
 //! which writes straight to cleanup(8).
 ghost use Rattle.std.specs.Prelude.{◌≡◌};
-ghost use Rattle.dsn_smtp.specs.HandIn.{AsksAll, commands_of};
+ghost use Rattle.dsn_smtp.specs.HandIn.{TurnsOver, fault_said};
+ghost use Rattle.dsn_smtp.specs.Pipelining.{Transacts};
 ghost use Rattle.dsn_smtp.specs.Session.{Begins, Continues, Ends, IsBegun};
 
 use crate::extensions::Extensions;
 use crate::hand_in_fault::HandInFault;
+use crate::pipelining::hand_in_group;
 use crate::reply_buffer::ReplyBuffer;
 use crate::transaction::{greet, hand_in_notice, leave};
 use dsn_device::Stream;
@@ -65,25 +67,26 @@ impl<S: Stream + Drop> Session<S> {
         }
     }
 
-    /// Submits one notice, as [`hand_in_notice`] does. If that fails, ends the session and returns
-    /// the fault.
+    /// Submits one notice, as [`hand_in_notice`] does, or by a group of commands if the server
+    /// offers PIPELINING (RFC 2920). If that fails, ends the session and returns the fault.
     pub fn hand_in(
         self,
         buffer: &mut ReplyBuffer,
         path: &Address,
         message: &[u8],
     ) -> Result<Session<S>, HandInFault>
-        ensures over { Continues S.Source S.Drain self (AsksAll (commands_of path.now message.now))
-            buffer.old buffer.new result }
+        ensures over { Continues S.Source S.Drain self
+            (Transacts self.extensions path.now message.now) buffer.old buffer.new result }
         ensures begun { IsBegun S.Source S.Drain self }
     {
         let Session {
-            mut stream,
+            stream,
             extensions,
             uses,
         } = self;
         let uses = uses.saturating_add(1);
-        match hand_in_notice(&mut stream, buffer, path, message) {
+        let (stream, handed) = transact(stream, extensions, buffer, path, message);
+        match handed {
             Ok(()) => Ok(Session {
                 stream,
                 extensions,
@@ -119,6 +122,25 @@ impl<S: Stream + Drop> Session<S> {
         } = self;
         leave(&mut stream, &Ok(()));
     }
+}
+
+/// Submits one notice over a stream whose server offers these extensions.
+fn transact<S: Stream>(
+    stream: S,
+    extensions: Extensions,
+    buffer: &mut ReplyBuffer,
+    path: &Address,
+    message: &[u8],
+) -> (S, Result<(), HandInFault>)
+    ensures { TurnsOver S.Source S.Drain stream result.0
+        (Transacts extensions path.now message.now) buffer.old buffer.new (fault_said result.1) }
+{
+    if extensions.pipelining {
+        return hand_in_group(stream, buffer, path, message);
+    }
+    let mut stream = stream;
+    let handed = hand_in_notice(&mut stream, buffer, path, message);
+    (stream, handed)
 }
 
 /// Ends the session over a stream, after this fault.

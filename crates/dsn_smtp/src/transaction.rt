@@ -1,9 +1,9 @@
 //! A session with a mail server: it begins, submits notices one after another, and ends.
 //! Implements RFC 5321 sections 3.1 to 3.3 and docs/FORMATS.md, "A connection".
-//! Nothing is pipelined (RFC 2920), so bytes behind a reply answer nothing that was sent. If a
-//! server sends bytes between two notices, they are read as the reply to MAIL. Each reply is then
-//! one step late, and DATA gets 2yz instead of 3yz. So no reply to another command is taken for the
-//! reply to the message.
+//! Nothing is pipelined here (pipelining.rt does that), so bytes behind a reply answer nothing that
+//! was sent. If a server sends bytes between two notices, they are read as the reply to MAIL, also
+//! to that of a group. Each reply is then one step late, and DATA gets 2yz instead of 3yz. So no
+//! reply to another command is taken for the reply to the message.
 ghost use Rattle.std.specs.Prelude.{◌≡◌, List, [], ◌∷◌};
 ghost use Rattle.dsn_smtp.specs.Dialogue.{TakesTurns, Turn};
 ghost use Rattle.dsn_smtp.specs.HandIn.{AsksAll, Greets, GreetsWith, Leaves, Listens, SaysGoodbye, TurnsOver, commands_of, commands_with, fault_said};
@@ -134,7 +134,7 @@ fn ask_all<S: Stream>(
 }
 
 /// Sends a command, and receives its reply, which must be of the class that the step wants.
-fn ask<S: Stream>(
+pub(crate) fn ask<S: Stream>(
     stream: &mut S,
     buffer: &mut ReplyBuffer,
     command: &Command<'_>,

@@ -1,5 +1,5 @@
 -- The turns so far succeeded, and the commands that are left go on from them.
-use Rattle.std.proofs.Common.{◌≡◌, ℕ, List, ◌++◌, Option, drop}
+use Rattle.std.proofs.Common.{◌≡◌, List, ◌++◌, Option, drop}
 use Rattle.dsn_smtp.specs.Dialogue.{TakesTurns, Turn}
 use Rattle.dsn_smtp.specs.HandIn.{AsksAll, last_heard_after}
 use Rattle.dsn_smtp.specs.declared.hand_in_fault.HandInFault.{HandInFault}

@@ -1,5 +1,5 @@
 -- the session that was used, kept or none
-use Rattle.dsn_smtp.specs.Session.{AsksOverSome, over_some}
+use Rattle.dsn_smtp.specs.Session.{over_some}
 use Rattle.dsn_smtp.proofs.kept_sessions.KeptSessions.hand_in.Goals as goal
 
 pub returns : goal.returns

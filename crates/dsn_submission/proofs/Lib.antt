@@ -1,0 +1,4 @@
+mod WaitingExamples
+pub mod WaitingLemmas
+pub mod LawLemmas
+pub mod NextMomentLemmas

@@ -2,3 +2,4 @@ mod WaitingExamples
 pub mod WaitingLemmas
 pub mod LawLemmas
 pub mod NextMomentLemmas
+pub mod SubmitterLemmas

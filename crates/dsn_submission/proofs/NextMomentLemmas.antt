@@ -67,7 +67,3 @@ due_from queue due now free least =
     is_some_cond _ _ ∙ (any_within (is_due now) queue.letters ∙ (sym (fold_reached None queue.letters now) ∙ ap (λ (o : Option ℕ). is_reached o now) least)) in
     ap (λ (b : Bool). is_some (if b || nat_lt now queue.opens then None else position (is_due now) queue.letters)) free
     ∙ (if_none _ _ ∙ (ap (λ (b : Bool). not (nat_lt now queue.opens) && b) found ∙ later_reached queue.opens due now))
-
--- a letter in hand keeps all others
-pub none_in_hand : {T : Type 0} (queue : Queue T) (now : ℕ) → is_some queue.in_hand ≡ true → is_some (due_place queue now) ≡ false
-none_in_hand queue now busy = ap (λ (b : Bool). is_some (if b || nat_lt now queue.opens then None else position (is_due now) queue.letters)) busy

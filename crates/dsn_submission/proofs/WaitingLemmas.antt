@@ -57,7 +57,7 @@ due_waits now letters place found =
     let here = due_is_at now letters place found in
     ap is_some (letter_at-get_or letters place here.0) ∙ is_some_if_due now _ here.1
 
-some_if_else : {X : Type 0} (test : Bool) (found : Option X) (x : X) → (if test then None else found) ≡ Some x → found ≡ Some x
+pub some_if_else : {X : Type 0} (test : Bool) (found : Option X) (x : X) → (if test then None else found) ≡ Some x → found ≡ Some x
 some_if_else true found x is = cc
 some_if_else false found x is = is
 
@@ -145,3 +145,9 @@ IsQueue-settled queue (Some place) is = record {
   first_waits = first_waits_dropped (slice_set queue.letters place None);
   hand_waits = refl;
 }
+
+-- the letter in hand is in the list
+pub hand_within : {T : Type 0} (letters : List (Option (Waits T))) (place : ℕ) → is_some (letter_at letters (Some place)) ≡ true → place < length letters
+hand_within [] place waits = cc
+hand_within (letter ∷ rest) zero waits = omega arith
+hand_within (letter ∷ rest) (suc place) waits = let less = hand_within rest place waits in omega arith

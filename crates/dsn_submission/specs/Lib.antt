@@ -1,3 +1,5 @@
+pub mod Submitter
+pub mod Verdict
 pub mod Waiting
 pub mod WaitingLaws
 pub mod inner

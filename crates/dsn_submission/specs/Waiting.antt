@@ -115,6 +115,14 @@ server_away queue now = record queue {
   opens = later now (delay longest_server_wait queue.failures);
 }
 
+-- the letter in hand goes back, as if it wasn't taken
+abbrev pub given_back : {T : Type 0} → Queue T → Queue T
+given_back queue = record queue { in_hand = None }
+
+-- the serial of the letter in hand
+abbrev pub serial_in_hand : {T : Type 0} → Queue T → Option ℕ
+serial_in_hand queue = option_map (λ place. queue.mark + place) queue.in_hand
+
 -- whether a moment is there, if there is one
 abbrev pub is_reached : Option ℕ → ℕ → Bool
 is_reached None now = false

@@ -5,7 +5,7 @@ ghost use Rattle.std.specs.Prelude.{◌≡◌, ℕ, ◌<◌, ◌≤◌, Some, []
 ghost use Rattle.std.specs.List.{position};
 ghost use Rattle.std.specs.Option.{option_copied, option_map};
 ghost use Rattle.dsn_submission.specs.inner.Waiting.{earlier_due, least_due};
-ghost use Rattle.dsn_submission.specs.Waiting.{IsQueue, due_place, empty_queue, is_due, is_given_up, is_reached, item_of, letter_at, letter_in_hand, new_letter, put_off, put_off_letter, pushed, server_away, settled, settled_front, taken};
+ghost use Rattle.dsn_submission.specs.Waiting.{IsQueue, due_place, empty_queue, given_back, serial_in_hand, is_due, is_given_up, is_reached, item_of, letter_at, letter_in_hand, new_letter, put_off, put_off_letter, pushed, server_away, settled, settled_front, taken};
 
 use crate::delay::{delay, later};
 use std::alloc::Global;
@@ -127,6 +127,23 @@ impl<T: Drop> Waiting<T> {
             Some(Some(letter)) => Some(&letter.item),
             _ => None,
         }
+    }
+
+    /// The serial of the letter in hand.
+    pub fn serial_in_hand(&self) -> Option<u64>
+        ensures { result ≡ serial_in_hand self.now }
+    {
+        match self.in_hand {
+            Some(place) => Some(self.mark + place as u64),
+            None => None,
+        }
+    }
+
+    /// Gives the letter in hand back, as if it wasn't taken.
+    pub fn give_back(&mut self)
+        ensures { self.new ≡ given_back self.old }
+    {
+        self.in_hand = None;
     }
 
     /// Settles the letter in hand. The mark rises past it if all letters before it are settled. The

@@ -1,0 +1,92 @@
+-- Submission of the letters that wait, one after another: what is asked of the server, and what becomes of each letter.
+use Rattle.std.specs.Prelude.{◌≡◌, ℕ, Bool, true, false, List, [], ◌∷◌, ◌++◌, Option, Some, None, Result, Ok, Err, if◌then◌else◌}
+use Rattle.dsn_device.specs.declared.drain.Drain
+use Rattle.dsn_device.specs.declared.source.Source
+use Rattle.dsn_smtp.specs.Command.{Command}
+use Rattle.dsn_smtp.specs.HandIn.{fault_said}
+use Rattle.dsn_smtp.specs.Session.{AsksOver, Ends}
+use Rattle.dsn_smtp.specs.declared.hand_in_fault.HandInFault.{HandInFault}
+use Rattle.dsn_submission.specs.Verdict.{verdict_of}
+use Rattle.dsn_submission.specs.Waiting.{Queue, due_place, is_given_up, put_off, server_away, settled, taken}
+use Rattle.dsn_submission.specs.declared.verdict.Verdict.{Verdict}
+use Rattle.dsn_submission.specs.declared.verdict.Verdict.TheVariants.{Accepted, RefusedForGood, PutOff, ServerAway}
+
+-- a letter that was refused for good, and the reply
+pub record Refusal (T : Type 0) : Type 0 where
+  pub item : T
+  pub reply : List ℕ
+
+-- The letters that wait, the session that is kept, the last reply, the client's name, after how many milliseconds a
+-- letter is given up, and whether nothing is submitted any more.
+pub record Submitter (T S : Type 0) : Type 0 where
+  pub waiting : Queue T
+  pub session : Option S
+  pub reply : List ℕ
+  pub host : List ℕ
+  pub give_up : ℕ
+  pub stopped : Bool
+
+-- the place of the letter to be submitted next, unless nothing is submitted any more
+abbrev pub next_place : {T S : Type 0} → Submitter T S → ℕ → Option ℕ
+next_place submitter now = if submitter.stopped then None else due_place submitter.waiting now
+
+-- the submitter once that letter is in hand
+abbrev pub taken_by : {T S : Type 0} → Submitter T S → Option ℕ → Submitter T S
+taken_by submitter place = record submitter { waiting = taken submitter.waiting place }
+
+-- after a transaction that succeeded the session goes on, or ends with QUIT; after a fault it has ended
+pub data LeavesSession {S : Type 0} (source : Source.Ghosts S) (drain : Drain.Ghosts S) : Result S HandInFault → Option S → Type 0 where
+  goes_on : (session : S) → LeavesSession source drain (Ok session) (Some session)
+  quits : (session : S) → Ends source drain session None → LeavesSession source drain (Ok session) None
+  has_ended : (why : HandInFault) → LeavesSession source drain (Err why) None
+
+-- one transaction was asked of the server, over the session that was kept or over a new one: its fault, and the session
+-- that is kept now
+pub record AsksOnce {S C : Type 0} (source : Source.Ghosts S) (drain : Drain.Ghosts S) (gives : C → C → Result S HandInFault → Type 0)
+    (old new : C) (kept left : Option S) (host : List ℕ) (commands : List Command) (before after : List ℕ) (fault : Option HandInFault) : Type 0 where
+  pub outcome : Result S HandInFault
+  pub over : AsksOver source drain gives old new kept host commands before after outcome
+  pub fault_is : fault ≡ fault_said outcome
+  pub leaves : LeavesSession source drain outcome left
+
+-- a letter that is put off once more is refused for good if it is given up
+abbrev pub given_up_verdict : Bool → Verdict → Verdict
+given_up_verdict gives_up Accepted = Accepted
+given_up_verdict gives_up RefusedForGood = RefusedForGood
+given_up_verdict gives_up PutOff = if gives_up then RefusedForGood else PutOff
+given_up_verdict gives_up ServerAway = ServerAway
+
+-- what an outcome says of the letter in hand
+abbrev pub verdict_in : {T : Type 0} → Queue T → ℕ → ℕ → Option HandInFault → Verdict
+verdict_in queue now limit fault = given_up_verdict (is_given_up queue now limit) (verdict_of fault)
+
+-- a letter that is refused for good was kept with the reply, or else it is put off; no other letter is kept
+pub data KeepsRefused {T : Type 0} (old : List (Refusal T)) (refusal : Refusal T) : Verdict → List (Refusal T) → Verdict → Type 0 where
+  kept : KeepsRefused old refusal RefusedForGood (old ++ refusal ∷ []) RefusedForGood
+  not_kept : KeepsRefused old refusal RefusedForGood old PutOff
+  not_refused : (verdict : Verdict) → (verdict ≡ RefusedForGood → ⊥) → KeepsRefused old refusal verdict old verdict
+
+-- the queue after a verdict on the letter in hand
+abbrev pub concluded : {T : Type 0} → Queue T → ℕ → Verdict → Queue T
+concluded queue now Accepted = settled queue
+concluded queue now RefusedForGood = settled queue
+concluded queue now PutOff = put_off queue now
+concluded queue now ServerAway = server_away queue now
+
+-- a mark that rose was kept, or else nothing is submitted any more; no other mark is kept
+pub data TellsMark (old : List ℕ) (before mark : ℕ) : List ℕ → Bool → Type 0 where
+  same : mark ≡ before → TellsMark old before mark old false
+  told_on : (mark ≡ before → ⊥) → TellsMark old before mark (old ++ mark ∷ []) false
+  lost : (mark ≡ before → ⊥) → TellsMark old before mark old true
+
+-- A letter was submitted: asked of the server once, kept if it is refused for good, and concluded as the verdict says;
+-- the mark was kept if it rose. `taken` is the submitter once the letter was in hand.
+pub record Handles {T S C : Type 0} (source : Source.Ghosts S) (drain : Drain.Ghosts S) (gives : C → C → Result S HandInFault → Type 0)
+    (taken new : Submitter T S) (server_old server_new : C) (commands : List Command) (item : T) (now : ℕ) (fault : Option HandInFault)
+    (verdict : Verdict) (kept_old kept_new : List (Refusal T)) (told_old told_new : List ℕ) : Type 0 where
+  pub asked : AsksOnce source drain gives server_old server_new taken.session new.session taken.host commands taken.reply new.reply fault
+  pub refusal : KeepsRefused kept_old (record { item = item; reply = new.reply }) (verdict_in taken.waiting now taken.give_up fault) kept_new verdict
+  pub concluded_is : new.waiting ≡ concluded taken.waiting now verdict
+  pub mark : TellsMark told_old taken.waiting.mark new.waiting.mark told_new new.stopped
+  pub same_host : new.host ≡ taken.host
+  pub same_limit : new.give_up ≡ taken.give_up

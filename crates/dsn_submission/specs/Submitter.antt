@@ -1,5 +1,5 @@
 -- Submission of the letters that wait, one after another: what is asked of the server, and what becomes of each letter.
-use Rattle.std.specs.Prelude.{◌≡◌, ℕ, Bool, true, false, List, [], ◌∷◌, ◌++◌, Option, Some, None, Result, Ok, Err, if◌then◌else◌}
+use Rattle.std.specs.Prelude.{◌≡◌, ℕ, Bool, true, false, List, Option, Some, None, Result, Ok, Err, if◌then◌else◌}
 use Rattle.dsn_device.specs.declared.drain.Drain
 use Rattle.dsn_device.specs.declared.source.Source
 use Rattle.dsn_smtp.specs.Command.{Command}
@@ -10,11 +10,6 @@ use Rattle.dsn_submission.specs.Verdict.{verdict_of}
 use Rattle.dsn_submission.specs.Waiting.{Queue, due_place, is_given_up, put_off, server_away, settled, taken}
 use Rattle.dsn_submission.specs.declared.verdict.Verdict.{Verdict}
 use Rattle.dsn_submission.specs.declared.verdict.Verdict.TheVariants.{Accepted, RefusedForGood, PutOff, ServerAway}
-
--- a letter that was refused for good, and the reply
-pub record Refusal (T : Type 0) : Type 0 where
-  pub item : T
-  pub reply : List ℕ
 
 -- The letters that wait, the session that is kept, the last reply, the client's name, after how many milliseconds a
 -- letter is given up, and whether nothing is submitted any more.
@@ -61,10 +56,10 @@ abbrev pub verdict_in : {T : Type 0} → Queue T → ℕ → ℕ → Option Hand
 verdict_in queue now limit fault = given_up_verdict (is_given_up queue now limit) (verdict_of fault)
 
 -- a letter that is refused for good was kept with the reply, or else it is put off; no other letter is kept
-pub data KeepsRefused {T : Type 0} (old : List (Refusal T)) (refusal : Refusal T) : Verdict → List (Refusal T) → Verdict → Type 0 where
-  kept : KeepsRefused old refusal RefusedForGood (old ++ refusal ∷ []) RefusedForGood
-  not_kept : KeepsRefused old refusal RefusedForGood old PutOff
-  not_refused : (verdict : Verdict) → (verdict ≡ RefusedForGood → ⊥) → KeepsRefused old refusal verdict old verdict
+pub data KeepsRefused {T K : Type 0} (keeps : K → T → List ℕ → Bool → K → Type 0) (old new : K) (item : T) (reply : List ℕ) : Verdict → Verdict → Type 0 where
+  kept : keeps old item reply true new → KeepsRefused keeps old new item reply RefusedForGood RefusedForGood
+  not_kept : keeps old item reply false new → KeepsRefused keeps old new item reply RefusedForGood PutOff
+  not_refused : (verdict : Verdict) → (verdict ≡ RefusedForGood → ⊥) → new ≡ old → KeepsRefused keeps old new item reply verdict verdict
 
 -- the queue after a verdict on the letter in hand
 abbrev pub concluded : {T : Type 0} → Queue T → ℕ → Verdict → Queue T
@@ -74,19 +69,20 @@ concluded queue now PutOff = put_off queue now
 concluded queue now ServerAway = server_away queue now
 
 -- a mark that rose was kept, or else nothing is submitted any more; no other mark is kept
-pub data TellsMark (old : List ℕ) (before mark : ℕ) : List ℕ → Bool → Type 0 where
-  same : mark ≡ before → TellsMark old before mark old false
-  told_on : (mark ≡ before → ⊥) → TellsMark old before mark (old ++ mark ∷ []) false
-  lost : (mark ≡ before → ⊥) → TellsMark old before mark old true
+pub data TellsMark {M : Type 0} (tells : M → ℕ → Bool → M → Type 0) (old new : M) (before mark : ℕ) : Bool → Type 0 where
+  same : mark ≡ before → new ≡ old → TellsMark tells old new before mark false
+  told_on : (mark ≡ before → ⊥) → tells old mark true new → TellsMark tells old new before mark false
+  lost : (mark ≡ before → ⊥) → tells old mark false new → TellsMark tells old new before mark true
 
 -- A letter was submitted: asked of the server once, kept if it is refused for good, and concluded as the verdict says;
 -- the mark was kept if it rose. `taken` is the submitter once the letter was in hand.
-pub record Handles {T S C : Type 0} (source : Source.Ghosts S) (drain : Drain.Ghosts S) (gives : C → C → Result S HandInFault → Type 0)
-    (taken new : Submitter T S) (server_old server_new : C) (commands : List Command) (item : T) (now : ℕ) (fault : Option HandInFault)
-    (verdict : Verdict) (kept_old kept_new : List (Refusal T)) (told_old told_new : List ℕ) : Type 0 where
+pub record Handles {T S C K M : Type 0} (source : Source.Ghosts S) (drain : Drain.Ghosts S) (gives : C → C → Result S HandInFault → Type 0)
+    (keeps : K → T → List ℕ → Bool → K → Type 0) (tells : M → ℕ → Bool → M → Type 0)
+    (taken new : Submitter T S) (server_old server_new : C) (refused_old refused_new : K) (marks_old marks_new : M)
+    (commands : List Command) (item : T) (now : ℕ) (fault : Option HandInFault) (verdict : Verdict) : Type 0 where
   pub asked : AsksOnce source drain gives server_old server_new taken.session new.session taken.host commands taken.reply new.reply fault
-  pub refusal : KeepsRefused kept_old (record { item = item; reply = new.reply }) (verdict_in taken.waiting now taken.give_up fault) kept_new verdict
+  pub refusal : KeepsRefused keeps refused_old refused_new item new.reply (verdict_in taken.waiting now taken.give_up fault) verdict
   pub concluded_is : new.waiting ≡ concluded taken.waiting now verdict
-  pub mark : TellsMark told_old taken.waiting.mark new.waiting.mark told_new new.stopped
+  pub mark : TellsMark tells marks_old marks_new taken.waiting.mark new.waiting.mark new.stopped
   pub same_host : new.host ≡ taken.host
   pub same_limit : new.give_up ≡ taken.give_up

@@ -1,34 +1,32 @@
 //! What lies behind a submitter: where refused letters are kept, and where the mark is.
-ghost use Rattle.std.specs.Prelude.{◌≡◌, [], ◌∷◌, ◌++◌, is_ok, if◌then◌else◌};
+ghost use Rattle.std.specs.Prelude.{is_ok};
 
 use dsn_device::Broken;
 
 /// A place where letters that are refused for good are kept.
 pub trait RefusedLetters<T> {
-    ghost use Rattle.std.specs.Prelude.{List};
-    ghost use Rattle.dsn_submission.specs.Submitter.{Refusal};
+    ghost use Rattle.std.specs.Prelude.{ℕ, Bool, List};
 
-    // The letters that were kept, each with the reply, in their order.
-    ghost kept: { Self → List (Refusal T) };
+    // What the place becomes when a letter with a reply is to be kept, and whether that succeeds.
+    // Each implementation defines it, since no contract can describe a file.
+    ghost keeps: { Self → T → List ℕ → Bool → Self → Type 0 };
 
     /// Keeps a letter and the reply by which it was refused, so that no crash loses them. Returns
-    /// `Broken` if it may be lost.
+    /// `Broken` if one may.
     fn keep(&mut self, letter: &T, reply: &[u8]) -> Result<(), Broken>
-        ensures { kept self.new ≡ (if is_ok result
-            then kept self.old ++ record { item = letter.now; reply = reply.now } ∷ []
-            else kept self.old) };
+        ensures { keeps self.old letter.now reply.now (is_ok result) self.new };
 }
 
 /// A place where the mark is kept.
 pub trait Marks {
-    ghost use Rattle.std.specs.Prelude.{ℕ, List};
+    ghost use Rattle.std.specs.Prelude.{ℕ, Bool};
 
-    // The marks that were kept, in their order.
-    ghost told: { Self → List ℕ };
+    // What the place becomes when a mark is to be kept, and whether that succeeds. Each
+    // implementation defines it, since no contract can describe a file.
+    ghost tells: { Self → ℕ → Bool → Self → Type 0 };
 
     /// Keeps the mark: all letters with a smaller serial are settled. Returns `Broken` if a crash
     /// may lose it.
     fn settled_to(&mut self, mark: u64) -> Result<(), Broken>
-        ensures { told self.new
-            ≡ (if is_ok result then told self.old ++ mark ∷ [] else told self.old) };
+        ensures { tells self.old mark (is_ok result) self.new };
 }

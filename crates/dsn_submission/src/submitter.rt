@@ -122,6 +122,15 @@ impl<T: Mail + Drop, S: Stream + Drop> Submitter<T, S> {
         self.waiting.push(letter, now)
     }
 
+    /// Ends the session with QUIT, if one is kept.
+    pub fn end_session(&mut self)
+        ensures { self.new ≡ record self.old { session = None } }
+    {
+        if let Some(session) = self.session.take() {
+            session.end();
+        }
+    }
+
     /// Takes the letter that is to be submitted next in hand, and returns whether there is one.
     fn take(&mut self, now: u64) -> bool
         ensures found { result ≡ is_some (next_place self.old now) }
@@ -181,9 +190,7 @@ impl<T: Mail + Drop, S: Stream + Drop> Submitter<T, S> {
     fn keep_if_refused<K: RefusedLetters<T>>(&self, verdict: Verdict, refused: &mut K) -> Verdict
         requires { is_some (letter_in_hand self.now.waiting) ≡ true }
         ensures { (letter : Waits T) → letter_in_hand self.now.waiting ≡ Some letter
-            → KeepsRefused (K.kept refused.old)
-            (record { item = letter.item; reply = self.now.reply }) verdict (K.kept refused.new)
-            result }
+            → KeepsRefused K.keeps refused.old refused.new letter.item self.now.reply verdict result }
     {
         match verdict {
             Verdict::RefusedForGood => self.keep(refused),
@@ -195,9 +202,8 @@ impl<T: Mail + Drop, S: Stream + Drop> Submitter<T, S> {
     fn keep<K: RefusedLetters<T>>(&self, refused: &mut K) -> Verdict
         requires { is_some (letter_in_hand self.now.waiting) ≡ true }
         ensures { (letter : Waits T) → letter_in_hand self.now.waiting ≡ Some letter
-            → KeepsRefused (K.kept refused.old)
-            (record { item = letter.item; reply = self.now.reply }) RefusedForGood
-            (K.kept refused.new) result }
+            → KeepsRefused K.keeps refused.old refused.new letter.item self.now.reply RefusedForGood
+            result }
     {
         let Some(letter) = self.waiting.in_hand() else {
             unreachable!()
@@ -217,9 +223,8 @@ impl<T: Mail + Drop, S: Stream + Drop> Submitter<T, S> {
     ) -> Verdict
         requires { is_some (letter_in_hand self.old.waiting) ≡ true }
         ensures kept { (letter : Waits T) → letter_in_hand self.old.waiting ≡ Some letter
-            → KeepsRefused (K.kept refused.old)
-            (record { item = letter.item; reply = self.old.reply })
-            (verdict_in self.old.waiting now self.old.give_up fault.now) (K.kept refused.new) result }
+            → KeepsRefused K.keeps refused.old refused.new letter.item self.old.reply
+            (verdict_in self.old.waiting now self.old.give_up fault.now) result }
         ensures concluded { self.new
             ≡ record self.old { waiting = concluded self.old.waiting now result } }
     {
@@ -231,8 +236,8 @@ impl<T: Mail + Drop, S: Stream + Drop> Submitter<T, S> {
     /// Has the mark kept if it rose from `before`, and submits nothing any more if that fails.
     fn tell<M: Marks>(&mut self, before: u64, marks: &mut M)
         requires { self.old.stopped ≡ false }
-        ensures told { TellsMark (M.told marks.old) before self.old.waiting.mark
-            (M.told marks.new) self.new.stopped }
+        ensures told { TellsMark M.tells marks.old marks.new before self.old.waiting.mark
+            self.new.stopped }
         ensures same { self.new ≡ record self.old { stopped = self.new.stopped } }
     {
         let mark = self.waiting.mark();
@@ -253,15 +258,14 @@ impl<T: Mail + Drop, S: Stream + Drop> Submitter<T, S> {
         requires going { self.old.stopped ≡ false }
         ensures handled { IfOk result (λ handled. (letter : Waits T)
             → letter_in_hand self.old.waiting ≡ Some letter
-            → Handles S.Source S.Drain C.gives self.old self.new server.old server.new
+            → Handles S.Source S.Drain C.gives K.keeps M.tells self.old self.new server.old
+            server.new refused.old refused.new marks.old marks.new
             (commands_of (T.path_of letter.item) (T.message_of letter.item)) letter.item now
-            handled.fault handled.verdict (K.kept refused.old) (K.kept refused.new)
-            (M.told marks.old) (M.told marks.new)) }
+            handled.fault handled.verdict) }
         ensures serial { IfOk result
             (λ handled. Some handled.serial ≡ serial_in_hand self.old.waiting) }
         ensures unasked { OnErr result ((self.new ≡ self.old) × (server.new ≡ server.old)) }
-        ensures unkept { OnErr result (K.kept refused.new ≡ K.kept refused.old) }
-        ensures untold { OnErr result (M.told marks.new ≡ M.told marks.old) }
+        ensures unkept { OnErr result ((refused.new ≡ refused.old) × (marks.new ≡ marks.old)) }
     {
         let before = self.waiting().mark();
         let Some(serial) = self.waiting().serial_in_hand() else {
@@ -299,20 +303,19 @@ impl<T: Mail + Drop, S: Stream + Drop> Submitter<T, S> {
         ensures some { IfOk result (λ done. is_some done ≡ is_some (next_place self.old now)) }
         ensures handled { IfOk result (λ done. IfSome done (λ handled. (letter : Waits T)
             → letter_at self.old.waiting.letters (next_place self.old now) ≡ Some letter
-            → Handles S.Source S.Drain C.gives (taken_by self.old (next_place self.old now)) self.new
-            server.old server.new
+            → Handles S.Source S.Drain C.gives K.keeps M.tells
+            (taken_by self.old (next_place self.old now)) self.new server.old server.new refused.old
+            refused.new marks.old marks.new
             (commands_of (T.path_of letter.item) (T.message_of letter.item)) letter.item now
-            handled.fault handled.verdict (K.kept refused.old) (K.kept refused.new)
-            (M.told marks.old) (M.told marks.new))) }
+            handled.fault handled.verdict)) }
         ensures serial { IfOk result (λ done. IfSome done (λ handled. Some handled.serial
             ≡ serial_in_hand (taken self.old.waiting (next_place self.old now)))) }
         ensures idle { IfOk result (λ done. IfNone done
             ((self.new ≡ self.old) × (server.new ≡ server.old))) }
         ensures none_kept { IfOk result (λ done. IfNone done
-            ((K.kept refused.new ≡ K.kept refused.old) × (M.told marks.new ≡ M.told marks.old))) }
+            ((refused.new ≡ refused.old) × (marks.new ≡ marks.old))) }
         ensures unasked { OnErr result ((self.new ≡ self.old) × (server.new ≡ server.old)) }
-        ensures unkept { OnErr result
-            ((K.kept refused.new ≡ K.kept refused.old) × (M.told marks.new ≡ M.told marks.old)) }
+        ensures unkept { OnErr result ((refused.new ≡ refused.old) × (marks.new ≡ marks.old)) }
     {
         if !self.take(now) {
             return Ok(None);

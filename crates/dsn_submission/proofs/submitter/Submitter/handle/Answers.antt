@@ -7,9 +7,10 @@ use Rattle.dsn_submission.proofs.submitter.Submitter.handle.Goals as goal
 
 pub returns-clause-handled : goal.returns-clause-handled
 returns-clause-handled g c letter here =
-    handled_by g.S.Source g.S.Drain g.C.Connect.gives c.args.self.now c.ask.new.self c.conclude-verdict.new.self c.tell.new.self c.args.server.now c.ask.new.server
+    handled_by g.S.Source g.S.Drain g.C.Connect.gives g.K.RefusedLetters.keeps g.M.Marks.tells
+    c.args.self.now c.ask.new.self c.conclude-verdict.new.self c.tell.new.self c.args.server.now c.ask.new.server
+    c.args.refused.now c.conclude-verdict.new.refused c.args.marks.now c.tell.new.marks
     (commands_of (g.T.Mail.path_of letter.item) (g.T.Mail.message_of letter.item)) letter.item c.args.now c.mark-before.result c.in-Ok.fault c.conclude-verdict.result
-    (g.K.RefusedLetters.kept c.args.refused.now) (g.K.RefusedLetters.kept c.conclude-verdict.new.refused) (g.M.Marks.told c.args.marks.now) (g.M.Marks.told c.tell.new.marks)
     c.in-Ok.ensures.same c.conclude-verdict.ensures.concluded c.tell.ensures.same
     (c.mark-before.ensures.mark ∙ ap (λ (queue : Queue _). queue.mark) c.waiting.ensures)
     (c.in-Ok.ensures.asked letter here)

@@ -702,7 +702,7 @@ def check_unix_server(checks: Checks):
         Path(it.hand_in).unlink()
         it.put("one", "bounce")
         checks.equal("no Unix socket", it.ask("bounce", asked_in("one", "failure")), FAILED)
-        checks.true("its line", until(lambda: f"{it.hand_in}: entity not found" in it.lines()))
+        checks.true("its line", until(lambda: f"{it.hand_in}: No such file or directory (os error 2)" in it.lines()))
 
 
 def check_passed_on(checks: Checks):

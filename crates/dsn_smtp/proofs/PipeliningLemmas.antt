@@ -101,11 +101,11 @@ pub group_heard : {S : Type 0} → (source : Source.Ghosts S) (drain : Drain.Gho
     → a ≡ record { stream = old; ahead = [] } → b.ahead ≡ [] → HearsReplies source a b group_steps replies
     → TurnsOver source drain b.stream last (FollowsGroup replies.fault replies.waits message) before after outcome
     → TurnsOver source drain old last (HearsGroup message) first after outcome
-group_heard {S} source drain old last a b replies message first before after outcome is none h rest =
+group_heard {S} source drain old last a b replies message first before after outcome begins empty h rest =
     let with : List ℕ → StreamAhead S = λ l. record { stream = b.stream; ahead = l } in
-    let same : b ≡ record { stream = b.stream; ahead = [] } = ap with none in
+    let same : b ≡ record { stream = b.stream; ahead = [] } = ap with empty in
     heard_group source drain old b.stream last replies message first before after outcome
-    (subst (λ (x : StreamAhead S). HearsReplies source x (record { stream = b.stream; ahead = [] }) group_steps replies) is
+    (subst (λ (x : StreamAhead S). HearsReplies source x (record { stream = b.stream; ahead = [] }) group_steps replies) begins
     (subst (λ (x : StreamAhead S). HearsReplies source a x group_steps replies) same h)) rest
 
 -- ---- a group

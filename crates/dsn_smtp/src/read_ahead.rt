@@ -71,8 +71,8 @@ impl<S> ReadAhead<S> {
         self.end = 0;
     }
 
-    /// Moves bytes of one line to the front of a buffer, and returns how many: none only if there
-    /// are none, or the buffer has no room.
+    /// Moves bytes of one line to the front of a buffer, and returns how many: 0 only if nothing is
+    /// left, or the buffer has no room.
     fn give(&mut self, buffer: &mut [u8]) -> usize
         ensures within { result ≤ length buffer.new }
         ensures stream { self.new.stream ≡ self.old.stream }

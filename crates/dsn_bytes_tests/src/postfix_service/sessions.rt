@@ -51,6 +51,15 @@ const TAKES: &[u8] =
 const WHOLE: &[u8] =
     b"<EHLO mail.example.net\r\n<MAIL FROM:<>\r\n<RCPT TO:<ann@example.org>\r\n<DATA\r\n<Subject: no\r\n\r\n.\r\n<";
 
+/// The replies of a server that offers PIPELINING and takes the message (RFC 2920 section 3.2). Those to MAIL, RCPT and DATA come
+/// in one piece.
+const GROUP_TAKES: &[u8] =
+    b"|220 a\r\n|250-a\r\n250 PIPELINING\r\n|250 b\r\n250 c\r\n354 d\r\n|250 e\r\n";
+
+/// Those of one that refuses the recipient, and waits for a message all the same.
+const GROUP_REFUSES: &[u8] =
+    b"|220 a\r\n|250-a\r\n250 PIPELINING\r\n|250 b\r\n550 c\r\n354 d\r\n|250 e\r\n";
+
 /// What one is sent that refuses the sender.
 const UP_TO_SENDER: &[u8] = b"<EHLO mail.example.net\r\n<MAIL FROM:<>\r\n<QUIT\r\n";
 
@@ -59,7 +68,7 @@ const UP_TO_SILENCE: &[u8] = b"<EHLO mail.example.net\r\n<MAIL FROM:<>\r\nQUIT\r
 
 /// A notice is handed in over the session that is kept. Only where that fails at MAIL, and where there is none, it is handed in
 /// over a new one.
-const CASES: [Case; 8] = [
+const CASES: [Case; 10] = [
     Case {
         kept: Some(TAKES),
         new: Some(TAKES),
@@ -107,6 +116,20 @@ const CASES: [Case; 8] = [
         new: None,
         fault: Some((HandInStep::Greeting, None)),
         over_kept: b"",
+        over_new: b"",
+    },
+    Case {
+        kept: Some(GROUP_TAKES),
+        new: Some(TAKES),
+        fault: None,
+        over_kept: b"<EHLO mail.example.net\r\n<MAIL FROM:<>\r\nRCPT TO:<ann@example.org>\r\nDATA\r\n<Subject: no\r\n\r\n.\r\n<",
+        over_new: b"",
+    },
+    Case {
+        kept: Some(GROUP_REFUSES),
+        new: Some(TAKES),
+        fault: Some((HandInStep::Recipient, Some(*b"550"))),
+        over_kept: b"<EHLO mail.example.net\r\n<MAIL FROM:<>\r\nRCPT TO:<ann@example.org>\r\nDATA\r\n<.\r\n<QUIT\r\n",
         over_new: b"",
     },
     Case {

@@ -1,11 +1,11 @@
 """Each wrong edit still applies to the crate that it is for: those that the gate tries (crates/*/must-fail/), those
-that `make mutants` tries (mutants/) and their controls. The gate tries at most 100, and none of them stands in
+that `make mutants` tries (mutants/) and their controls. The gate tries at most 108, and none of them stands in
 mutants/ too. The mistakes that the promises of docs/THEOREM.md are about are among them, each in the crates that
 could make it."""
 from tests.support.edits import CRATES, MUTANTS, changes, why_not
 from tests.support.running import Checks
 
-MOST = 100
+MOST = 108
 # A mistake and the crates whose contracts must refuse it. Three more are tests (docs/PROVED.md): a crew that is served
 # by one thread, a program that always refuses, and letters that are posted in the collector's thread.
 MISTAKES = {

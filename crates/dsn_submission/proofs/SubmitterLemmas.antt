@@ -3,7 +3,7 @@ use Rattle.std.proofs.Common.{◌≡◌, ℕ, Bool, true, List, Option, Some, No
 use Rattle.std.specs.Option.{option_map}
 use Rattle.dsn_submission.specs.Waiting.{Queue, item_of, letter_at, letter_in_hand}
 use Rattle.dsn_submission.specs.declared.waiting.Waits.{Waits}
-use Rattle.dsn_submission.specs.Submitter.{AsksOnce, Handles, KeepsRefused, Submitter, TellsMark, concluded, lost, next_place, taken_by, told_on, verdict_in}
+use Rattle.dsn_submission.specs.Submitter.{AsksOnce, Handles, KeepsRefused, Submitter, TellsMark, concluded, lost, next_place, with_next_taken, told_on, verdict_in}
 use Rattle.dsn_device.specs.declared.drain.Drain
 use Rattle.dsn_device.specs.declared.source.Source
 use Rattle.dsn_smtp.specs.Command.{Command}
@@ -61,16 +61,16 @@ handled_by {T} {S} {C} {K} {M} source drain gives keeps tells start asked ended 
 
 -- a submitter that has a letter to submit has it in hand then
 taken_at_waits : {T S : Type 0} (submitter : Submitter T S) (now : ℕ) (place : Option ℕ) → next_place submitter now ≡ place → is_some place ≡ true
-    → is_some (letter_in_hand (taken_by submitter place).waiting) ≡ true
+    → is_some (letter_in_hand (with_next_taken submitter place).waiting) ≡ true
 taken_at_waits submitter now None found some = cc
 taken_at_waits submitter now (Some place) found some = due_place_waits submitter.waiting now place (some_if_else submitter.stopped _ place found)
 
 pub taken_waits : {T S : Type 0} (submitter : Submitter T S) (now : ℕ) → is_some (next_place submitter now) ≡ true
-    → is_some (letter_in_hand (taken_by submitter (next_place submitter now)).waiting) ≡ true
+    → is_some (letter_in_hand (with_next_taken submitter (next_place submitter now)).waiting) ≡ true
 taken_waits submitter now some = taken_at_waits submitter now (next_place submitter now) refl some
 
 -- the letter that was taken is in hand
 pub in_hand_at : {T S : Type 0} (submitter : Submitter T S) (place : Option ℕ) (letter : Waits T) → letter_at submitter.waiting.letters place ≡ Some letter
-    → letter_in_hand (taken_by submitter place).waiting ≡ Some letter
+    → letter_in_hand (with_next_taken submitter place).waiting ≡ Some letter
 in_hand_at submitter None letter at = cc
 in_hand_at submitter (Some place) letter at = at

@@ -26,8 +26,8 @@ abbrev pub next_place : {T S : Type 0} → Submitter T S → ℕ → Option ℕ
 next_place submitter now = if submitter.stopped then None else due_place submitter.waiting now
 
 -- the submitter once that letter is in hand
-abbrev pub taken_by : {T S : Type 0} → Submitter T S → Option ℕ → Submitter T S
-taken_by submitter place = record submitter { waiting = taken submitter.waiting place }
+abbrev pub with_next_taken : {T S : Type 0} → Submitter T S → Option ℕ → Submitter T S
+with_next_taken submitter place = record submitter { waiting = taken submitter.waiting place }
 
 -- after a transaction that succeeded the session goes on, or ends with QUIT; after a fault it has ended
 pub data LeavesSession {S : Type 0} (source : Source.Ghosts S) (drain : Drain.Ghosts S) : Result S HandInFault → Option S → Type 0 where

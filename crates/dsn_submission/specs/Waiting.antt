@@ -22,7 +22,7 @@ longest_letter_wait = 1800000
 abbrev pub longest_server_wait : ℕ
 longest_server_wait = 300000
 
--- the wait after so many earlier failures: 1 second, then 2, 4, .. seconds, up to the longest
+-- the wait after a number of earlier failures: 1 second, then 2, 4, .. seconds, up to the longest
 abbrev pub delay : ℕ → ℕ → ℕ
 delay longest failures = min longest (1000 * 2 ^ failures)
 

@@ -45,8 +45,8 @@ AreAt (item ∷ items) [] = ⊥
 AreAt (item ∷ items) (None ∷ letters) = AreAt items letters
 AreAt (item ∷ items) (Some letter ∷ letters) = (letter.item ≡ item) × AreAt items letters
 
--- The letters that came are those below the mark, which began at `mark`, and behind them those in the list, each at the
--- place that it came to: so each has exactly one place.
+-- The letters that came are those below the mark, which began at `mark`, and behind them those in the list, in the
+-- order in which they came: so each has exactly one place.
 pub record HasEach {T : Type 0} (mark : ℕ) (queue : Queue T) (items : List T) : Type 0 where
   pub gone : List T
   pub held : List T

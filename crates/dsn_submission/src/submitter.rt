@@ -2,7 +2,7 @@
 //! Implements RFC 5321 sections 3.3 and 4.5.4.1.
 ghost use Rattle.std.specs.Prelude.{◌≡◌, false, true, Some, None, [], is_some, IfErr, IfNone, IfOk, IfSome, OnErr};
 ghost use Rattle.dsn_smtp.specs.HandIn.{commands_of};
-ghost use Rattle.dsn_submission.specs.Submitter.{AsksOnce, Handles, KeepsRefused, LeavesSession, TellsMark, concluded, next_place, taken_by, verdict_in};
+ghost use Rattle.dsn_submission.specs.Submitter.{AsksOnce, Handles, KeepsRefused, LeavesSession, TellsMark, concluded, next_place, with_next_taken, verdict_in};
 ghost use Rattle.dsn_submission.specs.Waiting.{empty_queue, letter_at, letter_in_hand, pushed, serial_in_hand, taken};
 ghost use Rattle.dsn_submission.specs.declared.verdict.Verdict.TheVariants.{RefusedForGood};
 ghost use Rattle.dsn_submission.specs.declared.waiting.Waits.{Waits};
@@ -134,7 +134,7 @@ impl<T: Mail + Drop, S: Stream + Drop> Submitter<T, S> {
     /// Takes the letter that is to be submitted next in hand, and returns whether there is one.
     fn take(&mut self, now: u64) -> bool
         ensures found { result ≡ is_some (next_place self.old now) }
-        ensures taken { self.new ≡ taken_by self.old (next_place self.old now) }
+        ensures taken { self.new ≡ with_next_taken self.old (next_place self.old now) }
     {
         !self.is_stopped && self.waiting.take_due(now)
     }
@@ -214,7 +214,7 @@ impl<T: Mail + Drop, S: Stream + Drop> Submitter<T, S> {
         }
     }
 
-    /// Does with the letter in hand what its outcome says, and returns what became of it.
+    /// Does with the letter in hand what its outcome says, and returns the verdict.
     fn conclude<K: RefusedLetters<T>>(
         &mut self,
         fault: &Option<HandInFault>,
@@ -285,13 +285,13 @@ impl<T: Mail + Drop, S: Stream + Drop> Submitter<T, S> {
     }
 
     /// Submits the letter that is to be submitted next, if there is one: the first that is due at
-    /// `now`, unless the server isn't to be asked or a mark couldn't be kept. Returns `None` if there
-    /// is none.
+    /// `now`, unless the server isn't to be asked or a mark couldn't be kept. Returns `None` if no
+    /// letter is.
     ///
     /// An accepted letter is settled. One that the server puts off waits by itself, unless it is
     /// given up. If the server takes no letters, all wait. One that is refused for good, or given
     /// up, is settled once `refused` kept it, and is put off if that fails. If the mark rises,
-    /// `marks` is told; if that fails, nothing is submitted any more. Returns `NoMemory` if the
+    /// `marks` keeps it; if that fails, nothing is submitted any more. Returns `NoMemory` if the
     /// message couldn't be written; then nothing was asked and nothing changes.
     pub fn step<C: Connect<S>, K: RefusedLetters<T>, M: Marks>(
         &mut self,
@@ -304,7 +304,7 @@ impl<T: Mail + Drop, S: Stream + Drop> Submitter<T, S> {
         ensures handled { IfOk result (λ done. IfSome done (λ handled. (letter : Waits T)
             → letter_at self.old.waiting.letters (next_place self.old now) ≡ Some letter
             → Handles S.Source S.Drain C.gives K.keeps M.tells
-            (taken_by self.old (next_place self.old now)) self.new server.old server.new refused.old
+            (with_next_taken self.old (next_place self.old now)) self.new server.old server.new refused.old
             refused.new marks.old marks.new
             (commands_of (T.path_of letter.item) (T.message_of letter.item)) letter.item now
             handled.fault handled.verdict)) }

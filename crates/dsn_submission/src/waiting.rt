@@ -94,7 +94,7 @@ impl<T: Drop> Waiting<T> {
         push_letter(&mut self.letters, item, now)
     }
 
-    /// Takes the first letter that is due in hand, and returns whether there is one. There is none
+    /// Takes the first letter that is due in hand, and returns whether one is due. None is due
     /// while another is in hand, and while the server isn't to be asked.
     pub fn take_due(&mut self, now: u64) -> bool
         ensures found { result ≡ is_some (due_place self.old now) }
@@ -139,7 +139,7 @@ impl<T: Drop> Waiting<T> {
         }
     }
 
-    /// Gives the letter in hand back, as if it wasn't taken.
+    /// Returns the letter in hand to its place, as if it wasn't taken.
     pub fn give_back(&mut self)
         ensures { self.new ≡ given_back self.old }
     {

@@ -6,7 +6,7 @@ use Rattle.dsn_submission.specs.declared.waiting.Waits.{Waits}
 use Rattle.dsn_submission.specs.Submitter.{AsksOnce, Handles, KeepsRefused, Submitter, TellsMark, concluded, lost, next_place, with_next_taken, told_on, verdict_in}
 use Rattle.dsn_device.specs.declared.drain.Drain
 use Rattle.dsn_device.specs.declared.source.Source
-use Rattle.dsn_smtp.specs.Command.{Command}
+use Rattle.dsn_smtp.specs.Session.{OpenSession}
 use Rattle.dsn_smtp.specs.declared.hand_in_fault.HandInFault.{HandInFault}
 use Rattle.dsn_submission.proofs.WaitingLemmas.{due_place_waits, some_if_else}
 use Rattle.dsn_submission.specs.declared.verdict.Verdict.{Verdict}
@@ -27,24 +27,24 @@ item_in_hand hand item letter gives here =
 pub handled_by : {T S C K M : Type 0} (source : Source.Ghosts S) (drain : Drain.Ghosts S) (gives : C → C → Result S HandInFault → Type 0)
     (keeps : K → T → List ℕ → Bool → K → Type 0) (tells : M → ℕ → Bool → M → Type 0)
     (start asked ended final : Submitter T S) (server_old server_new : C) (refused_old refused_new : K) (marks_old marks_new : M)
-    (commands : List Command) (item : T) (now before : ℕ) (fault : Option HandInFault) (verdict : Verdict)
+    (path message : List ℕ) (item : T) (now before : ℕ) (fault : Option HandInFault) (verdict : Verdict)
     → asked ≡ record start { session = asked.session; reply = asked.reply }
     → ended ≡ record asked { waiting = concluded asked.waiting now verdict }
     → final ≡ record ended { stopped = final.stopped }
     → before ≡ start.waiting.mark
-    → AsksOnce source drain gives server_old server_new start.session asked.session start.host commands start.reply asked.reply fault
+    → AsksOnce source drain gives server_old server_new start.session asked.session start.host path message start.reply asked.reply fault
     → KeepsRefused keeps refused_old refused_new item asked.reply (verdict_in asked.waiting now asked.give_up fault) verdict
     → TellsMark tells marks_old marks_new before ended.waiting.mark final.stopped
-    → Handles source drain gives keeps tells start final server_old server_new refused_old refused_new marks_old marks_new commands item now fault verdict
-handled_by {T} {S} {C} {K} {M} source drain gives keeps tells start asked ended final server_old server_new refused_old refused_new marks_old marks_new commands item now before fault verdict first second third mark asks keeps_one tells_one =
+    → Handles source drain gives keeps tells start final server_old server_new refused_old refused_new marks_old marks_new path message item now fault verdict
+handled_by {T} {S} {C} {K} {M} source drain gives keeps tells start asked ended final server_old server_new refused_old refused_new marks_old marks_new path message item now before fault verdict first second third mark asks keeps_one tells_one =
     let session : asked.session ≡ final.session = sym (ap (λ (s : Submitter T S). s.session) third ∙ ap (λ (s : Submitter T S). s.session) second) in
     let reply : asked.reply ≡ final.reply = sym (ap (λ (s : Submitter T S). s.reply) third ∙ ap (λ (s : Submitter T S). s.reply) second) in
     let waiting : asked.waiting ≡ start.waiting = ap (λ (s : Submitter T S). s.waiting) first in
     let limit : asked.give_up ≡ start.give_up = ap (λ (s : Submitter T S). s.give_up) first in
     record {
       asked =
-          subst (λ (r : List ℕ). AsksOnce source drain gives server_old server_new start.session final.session start.host commands start.reply r fault) reply
-          (subst (λ (s : Option S). AsksOnce source drain gives server_old server_new start.session s start.host commands start.reply asked.reply fault) session asks);
+          subst (λ (r : List ℕ). AsksOnce source drain gives server_old server_new start.session final.session start.host path message start.reply r fault) reply
+          (subst (λ (s : Option (OpenSession S)). AsksOnce source drain gives server_old server_new start.session s start.host path message start.reply asked.reply fault) session asks);
       refusal =
           subst (λ (r : List ℕ). KeepsRefused keeps refused_old refused_new item r (verdict_in start.waiting now start.give_up fault) verdict) reply
           (subst (λ (l : ℕ). KeepsRefused keeps refused_old refused_new item asked.reply (verdict_in start.waiting now l fault) verdict) limit

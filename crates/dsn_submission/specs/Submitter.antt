@@ -2,9 +2,8 @@
 use Rattle.std.specs.Prelude.{◌≡◌, ℕ, Bool, true, false, List, Option, Some, None, Result, Ok, Err, if◌then◌else◌}
 use Rattle.dsn_device.specs.declared.drain.Drain
 use Rattle.dsn_device.specs.declared.source.Source
-use Rattle.dsn_smtp.specs.Command.{Command}
 use Rattle.dsn_smtp.specs.HandIn.{fault_said}
-use Rattle.dsn_smtp.specs.Session.{AsksOver, Ends}
+use Rattle.dsn_smtp.specs.Session.{AsksOver, Ends, OpenSession}
 use Rattle.dsn_smtp.specs.declared.hand_in_fault.HandInFault.{HandInFault}
 use Rattle.dsn_submission.specs.Verdict.{verdict_of}
 use Rattle.dsn_submission.specs.Waiting.{Queue, due_place, is_given_up, put_off, server_away, settled, taken}
@@ -15,7 +14,7 @@ use Rattle.dsn_submission.specs.declared.verdict.Verdict.TheVariants.{Accepted, 
 -- letter is given up, and whether nothing is submitted any more.
 pub record Submitter (T S : Type 0) : Type 0 where
   pub waiting : Queue T
-  pub session : Option S
+  pub session : Option (OpenSession S)
   pub reply : List ℕ
   pub host : List ℕ
   pub give_up : ℕ
@@ -30,17 +29,17 @@ abbrev pub with_next_taken : {T S : Type 0} → Submitter T S → Option ℕ →
 with_next_taken submitter place = record submitter { waiting = taken submitter.waiting place }
 
 -- after a transaction that succeeded the session goes on, or ends with QUIT; after a fault it has ended
-pub data LeavesSession {S : Type 0} (source : Source.Ghosts S) (drain : Drain.Ghosts S) : Result S HandInFault → Option S → Type 0 where
-  goes_on : (session : S) → LeavesSession source drain (Ok session) (Some session)
-  quits : (session : S) → Ends source drain session None → LeavesSession source drain (Ok session) None
+pub data LeavesSession {S : Type 0} (source : Source.Ghosts S) (drain : Drain.Ghosts S) : Result (OpenSession S) HandInFault → Option (OpenSession S) → Type 0 where
+  goes_on : (session : OpenSession S) → LeavesSession source drain (Ok session) (Some session)
+  quits : (session : OpenSession S) → Ends source drain session.stream None → LeavesSession source drain (Ok session) None
   has_ended : (why : HandInFault) → LeavesSession source drain (Err why) None
 
 -- one transaction was asked of the server, over the session that was kept or over a new one: its fault, and the session
 -- that is kept now
 pub record AsksOnce {S C : Type 0} (source : Source.Ghosts S) (drain : Drain.Ghosts S) (gives : C → C → Result S HandInFault → Type 0)
-    (old new : C) (kept left : Option S) (host : List ℕ) (commands : List Command) (before after : List ℕ) (fault : Option HandInFault) : Type 0 where
-  pub outcome : Result S HandInFault
-  pub over : AsksOver source drain gives old new kept host commands before after outcome
+    (old new : C) (kept left : Option (OpenSession S)) (host path message before after : List ℕ) (fault : Option HandInFault) : Type 0 where
+  pub outcome : Result (OpenSession S) HandInFault
+  pub over : AsksOver source drain gives old new kept host path message before after outcome
   pub fault_is : fault ≡ fault_said outcome
   pub leaves : LeavesSession source drain outcome left
 
@@ -79,8 +78,8 @@ pub data TellsMark {M : Type 0} (tells : M → ℕ → Bool → M → Type 0) (o
 pub record Handles {T S C K M : Type 0} (source : Source.Ghosts S) (drain : Drain.Ghosts S) (gives : C → C → Result S HandInFault → Type 0)
     (keeps : K → T → List ℕ → Bool → K → Type 0) (tells : M → ℕ → Bool → M → Type 0)
     (taken new : Submitter T S) (server_old server_new : C) (refused_old refused_new : K) (marks_old marks_new : M)
-    (commands : List Command) (item : T) (now : ℕ) (fault : Option HandInFault) (verdict : Verdict) : Type 0 where
-  pub asked : AsksOnce source drain gives server_old server_new taken.session new.session taken.host commands taken.reply new.reply fault
+    (path message : List ℕ) (item : T) (now : ℕ) (fault : Option HandInFault) (verdict : Verdict) : Type 0 where
+  pub asked : AsksOnce source drain gives server_old server_new taken.session new.session taken.host path message taken.reply new.reply fault
   pub refusal : KeepsRefused keeps refused_old refused_new item new.reply (verdict_in taken.waiting now taken.give_up fault) verdict
   pub concluded_is : new.waiting ≡ concluded taken.waiting now verdict
   pub mark : TellsMark tells marks_old marks_new taken.waiting.mark new.waiting.mark new.stopped

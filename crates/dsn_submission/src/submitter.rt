@@ -1,7 +1,6 @@
 //! Submits the letters that wait, one at a time, and does with each what the server's reply says.
 //! Implements RFC 5321 sections 3.3 and 4.5.4.1.
 ghost use Rattle.std.specs.Prelude.{◌≡◌, false, true, Some, None, [], is_some, IfErr, IfNone, IfOk, IfSome, OnErr};
-ghost use Rattle.dsn_smtp.specs.HandIn.{commands_of};
 ghost use Rattle.dsn_submission.specs.Submitter.{AsksOnce, Handles, KeepsRefused, LeavesSession, TellsMark, concluded, next_place, with_next_taken, verdict_in};
 ghost use Rattle.dsn_submission.specs.Waiting.{empty_queue, letter_at, letter_in_hand, pushed, serial_in_hand, taken};
 ghost use Rattle.dsn_submission.specs.declared.verdict.Verdict.TheVariants.{RefusedForGood};
@@ -147,7 +146,7 @@ impl<T: Mail + Drop, S: Stream + Drop> Submitter<T, S> {
             → letter_in_hand self.old.waiting ≡ Some letter
             → AsksOnce S.Source S.Drain C.gives server.old server.new self.old.session
             self.new.session self.old.host
-            (commands_of (T.path_of letter.item) (T.message_of letter.item)) self.old.reply
+            (T.path_of letter.item) (T.message_of letter.item) self.old.reply
             self.new.reply fault) }
         ensures same { IfOk result (λ _. self.new ≡ record self.old {
           session = self.new.session;
@@ -260,7 +259,7 @@ impl<T: Mail + Drop, S: Stream + Drop> Submitter<T, S> {
             → letter_in_hand self.old.waiting ≡ Some letter
             → Handles S.Source S.Drain C.gives K.keeps M.tells self.old self.new server.old
             server.new refused.old refused.new marks.old marks.new
-            (commands_of (T.path_of letter.item) (T.message_of letter.item)) letter.item now
+            (T.path_of letter.item) (T.message_of letter.item) letter.item now
             handled.fault handled.verdict) }
         ensures serial { IfOk result
             (λ handled. Some handled.serial ≡ serial_in_hand self.old.waiting) }
@@ -306,7 +305,7 @@ impl<T: Mail + Drop, S: Stream + Drop> Submitter<T, S> {
             → Handles S.Source S.Drain C.gives K.keeps M.tells
             (with_next_taken self.old (next_place self.old now)) self.new server.old server.new refused.old
             refused.new marks.old marks.new
-            (commands_of (T.path_of letter.item) (T.message_of letter.item)) letter.item now
+            (T.path_of letter.item) (T.message_of letter.item) letter.item now
             handled.fault handled.verdict)) }
         ensures serial { IfOk result (λ done. IfSome done (λ handled. Some handled.serial
             ≡ serial_in_hand (taken self.old.waiting (next_place self.old now)))) }
@@ -351,7 +350,7 @@ fn submit<T: Mail, S: Stream + Drop, C: Connect<S>>(
     server: &mut C,
 ) -> Submitted<S>
     ensures { AsksOnce S.Source S.Drain C.gives server.old server.new kept result.session host.now
-        (commands_of (T.path_of letter.now) message.now) reply.old reply.new result.fault }
+        (T.path_of letter.now) message.now reply.old reply.new result.fault }
 {
     let submission = Submission {
         path: letter.path(),

@@ -163,12 +163,12 @@ def files(checks: Checks, room: Path):
     later = place.file("journal")
     checks.equal("the base of a journal that was put away", journal.base_of(later), 1)
     text = b"a file of text\n" * 300
-    other = journal.at_rest([journal.header(Limits(logs=3))], SIZE)
+    other = journal.at_rest([journal.header(Limits(logs=4097))], SIZE)
     damaged = journal.at_rest([*journal.records(kept), b"no body"], SIZE)
     for about, name, has, number in (
         ("a journal of text", "journal", text, 73),
         ("a journal whose first byte was lost", "journal", b"\0" + kept[1:], 73),
-        ("a journal under other limits", "journal", other, 74),
+        ("a journal under higher limits", "journal", other, 74),
         ("a journal with a record that keeps no body", "journal", damaged, 75),
         ("a journal of zeros", "journal", bytes(SIZE), 76),
         ("a journal without room", "journal", bytes(20), 71),

@@ -100,15 +100,15 @@ def order_survives(checks: Checks):
 
 
 def refused(checks: Checks):
-    """The option needs a journal, and a journal the limits that it was made with."""
+    """The option needs a journal, and a journal no lower limits than those that it was made with."""
     with tempfile.TemporaryDirectory(dir=FAST, prefix="noticed-") as room:
         ran = run(["serve", "--release-closed", f"{room}/socket", "mx.example.net", "1", "1"])
         checks.equal("without a journal: status", ran.status, 2)
         folder = Folder(room)
         with folder.daemon(FEW) as daemon:
             daemon.send(discarded(0, 1)[0])
-        with folder.daemon(FEW + 1) as daemon:
-            checks.equal("other limits", daemon.end(), Ran(b"", fault_line(74), 1))
+        with folder.daemon(FEW - 1) as daemon:
+            checks.equal("lower limits", daemon.end(), Ran(b"", fault_line(74), 1))
 
 
 def main():

@@ -12,6 +12,7 @@ mod ForgettingExamples
 mod GoingOn
 pub mod Goodbyes
 mod Heading
+mod HigherLimits
 pub mod JournalFolderLemmas
 mod Keeping
 mod KeptBookExamples
@@ -25,8 +26,10 @@ mod LettersToPost
 mod MakingRoom
 mod OneHistory
 mod OpenOnesLeft
+mod RaisingExamples
 mod Releasing
 mod ReleasingExamples
+pub mod ReplayLimits
 mod ShorterFiles
 mod SnapshotBooks
 mod SnapshotExamples

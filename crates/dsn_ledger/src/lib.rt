@@ -4,6 +4,7 @@
 
 mod compacting;
 mod compacting_marked;
+mod file_limits;
 mod forgetting;
 mod header;
 mod keep_error;
@@ -15,9 +16,12 @@ mod ledger_error;
 mod making_room;
 mod new_file;
 mod opening;
+mod opening_to_raise;
+mod raising;
 mod replay;
 mod snapshot;
 
+pub use file_limits::limits_in;
 pub use keep_error::KeepError;
 pub use kept_book::KeptBook;
 pub use laws::{
@@ -27,3 +31,4 @@ pub use laws::{
 pub use ledger::Ledger;
 pub use ledger_error::{LedgerError, LedgerNotOpened};
 pub use opening::{Opened, open};
+pub use opening_to_raise::open_to_raise;

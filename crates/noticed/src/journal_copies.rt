@@ -1,7 +1,7 @@
 //! Copies of the files of a journal's folder, in memory.
 use crate::journal_files::path_in;
-use crate::journal_limits::limits_in;
-use noticed_lib::{CopiedDisk, JournalFolder, Limits};
+use noticed_lib::{CopiedDisk, JournalFolder, Limits, limits_in};
+use std::alloc::AllocError;
 use std::fs::File;
 use std::io;
 use std::os::unix::fs::FileExt;
@@ -21,7 +21,9 @@ pub(crate) fn copy_files(rt: &HostRuntime, folder: &str) -> io::Result<Copies> {
     // journal that is read later.
     let marks = copy_file(rt, path_in(rt, folder, "marks")?.as_str())?;
     let journal = copy_file(rt, path_in(rt, folder, "journal")?.as_str())?;
-    let limits = limits_in(journal.as_slice());
+    let Ok(limits) = limits_in(rt.alloc(), journal.as_slice()) else {
+        return Err(io::Error::from(AllocError));
+    };
     Ok(Copies {
         folder: JournalFolder {
             journal: CopiedDisk::of_bytes(journal),

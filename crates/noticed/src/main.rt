@@ -11,7 +11,6 @@ mod fault_note;
 mod journal_command;
 mod journal_copies;
 mod journal_files;
-mod journal_limits;
 mod listening;
 mod log_command;
 mod outbox_writer;

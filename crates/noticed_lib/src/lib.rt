@@ -15,5 +15,6 @@ pub use daemon::{
 };
 pub use dsn_book::Limits;
 pub use dsn_frame::Spoken;
+pub use dsn_ledger::limits_in;
 pub use dsn_listing::{CopiedDisk, ListingFault, list_journal};
 pub use dsn_report::Site;

@@ -15,8 +15,8 @@ use Rattle.dsn_book.proofs.ReleaseLemmas.{under-none}
 use Rattle.dsn_crew.specs.KeeperHistory.{BeginsWith}
 use Rattle.dsn_ledger.specs.EarlierRuns.{HaveHistoryOfLedger, of_earlier_run}
 use Rattle.dsn_journal.specs.Behind.{HasMoreBehind}
-use Rattle.dsn_ledger.specs.Compacted.{compacted}
-use Rattle.dsn_ledger.specs.Header.{SayHistory, StandsForFile, base_limit, with_header}
+use Rattle.dsn_ledger.specs.Compacted.{compacted, raised}
+use Rattle.dsn_ledger.specs.Header.{AreReplayedUnder, MayBeRaised, StandsForFile, base_limit, with_header}
 use Rattle.dsn_ledger.specs.InPlace.{AreRecordsInPlaceOf, IsLedgerInPlaceOf, ReopensTo}
 use Rattle.dsn_journal.specs.Journal.{IsSettled}
 use Rattle.dsn_ledger.specs.KeepError.{settled_once_kept}
@@ -27,7 +27,7 @@ use Rattle.dsn_journal.specs.MarkedOutbox.{MarkedOutbox}
 use Rattle.dsn_journal.specs.Marks.{IsForeignToMarks, IsTooShortForMarks, LeavesTheMark, SayMark, SayNoMark}
 use Rattle.dsn_ledger.specs.Posting.{AreToPost}
 use Rattle.dsn_journal.specs.Moments.{LeavesOnly}
-use Rattle.dsn_ledger.specs.Opening.{IsForeign, IsLeftByOpening}
+use Rattle.dsn_ledger.specs.Opening.{IsLeftByOpening}
 use Rattle.dsn_journal.specs.Records.{StandsForSome, encoded, recovered}
 use Rattle.dsn_journal.specs.declared.disk.Disk
 use Rattle.dsn_journal.specs.declared.journal_error.JournalError.TheVariants.{Memory, Failed, Full}
@@ -38,11 +38,13 @@ use Rattle.dsn_journal.specs.declared.marks_error.MarksError.TheVariants as no_m
 use Rattle.dsn_ledger.proofs.Goodbyes.{kept_to_carry_out}
 use Rattle.dsn_ledger.proofs.KeptBooks.{has_kept, nothing_kept, some_kept}
 use Rattle.dsn_ledger.proofs.LedgersInPlace.{headed}
+use Rattle.dsn_ledger.proofs.ReplayLimits.{one_replay, replay_header, replay_in_place, replay_opened}
 use Rattle.dsn_journal.proofs.Moments.{joined, started, weaker}
 use Rattle.dsn_report.specs.Outgoing.{Delivered, Outgoing}
 use Rattle.noticed_lib.specs.inner.Daemon.{BeginsAnew, IsNoStartOverLedger, IsStartOverLedger, WhyNoStart, of_journal, of_letters, of_outbox}
 use Rattle.noticed_lib.specs.daemon.Journaled.{HasPostedFirst, IsNoStart, IsPostedFirst, IsMarkOfJournal, IsStartOver, LeavesMarksOpened, LeavesStart, StartsWith, marking_drain, no_outbox, not_put_away, too_many_letters}
-use Rattle.dsn_ledger.specs.JournalFolder.{AreMarksRefusedFor, IsOnlyRead}
+use Rattle.dsn_ledger.specs.JournalFolder.{AreMarksRefusedFor, IsOnlyRead, IsOpenedToRaise}
+use Rattle.dsn_ledger.specs.declared.opening.Opened.{Opened}
 
 -- letters before no others are all of them
 pub none_left : {A : Type 0} (all done rest : List A) → all ≡ done ++ rest → length rest ≡ 0 → done ≡ all
@@ -94,31 +96,38 @@ module _ {D : Type 0} (disk : Disk.Ghosts D) (limits : Limits) (journal : D) whe
   pub untouched : ((left : List ℕ) → disk.left_since journal (disk.moment journal) left → disk.may_leave journal left) → LeavesStart disk limits journal journal
   untouched now long starts = started disk journal _ (λ left since. inl (now left since))
 
-  -- a file as it is once it is opened
-  opened_with : (left : List ℕ) (long : List Exchange) → StartsWith limits (disk.seen journal) long → IsLeftByOpening limits (disk.seen journal) left → StartsWith limits left long
-  opened_with left long starts by =
-      ⊎_elim
-      (λ same. subst (λ (rs : List (List ℕ)). AreRecordsInPlaceOf limits (with_header limits rs) long) (sym same) starts)
-      (λ same. subst (λ (rs : List (List ℕ)). AreRecordsInPlaceOf limits rs long) (sym (ap (with_header limits) same ∙ headed limits (with_header limits (recovered (disk.seen journal))) long starts)) starts)
-      by.opens
+  module _ (allowed : MayBeRaised limits limits) where
+    -- a file as it is once it is opened
+    opened_with : (left : List ℕ) (long : List Exchange) → StartsWith limits (disk.seen journal) long → IsLeftByOpening limits (disk.seen journal) left → StartsWith limits left long
+    opened_with left long starts by =
+        let own = starts.own in
+        let was = recovered (disk.seen journal) in
+        ⊎_elim
+        (λ same. record {
+          own = own;
+          replayed = subst (λ (rs : List (List ℕ)). AreReplayedUnder limits rs own) (sym same) starts.replayed;
+          in_place = subst (λ (rs : List (List ℕ)). AreRecordsInPlaceOf own (with_header own rs) long) (sym same) starts.in_place;
+        })
+        (λ begun.
+        let same : recovered left ≡ with_header own was = begun ∙ sym (replay_header limits own was starts.replayed) in
+        record {
+          own = own;
+          replayed = subst (λ (rs : List (List ℕ)). AreReplayedUnder limits rs own) (sym same) (replay_opened limits own was allowed starts.replayed);
+          in_place = subst (λ (rs : List (List ℕ)). AreRecordsInPlaceOf own rs long) (sym (ap (with_header own) same ∙ headed own (with_header own was) long starts.in_place)) starts.in_place;
+        })
+        by.opens
 
-  -- what a crash leaves while it is opened
-  pub while_opened : (opened : D) → LeavesOnly disk journal opened (λ left. disk.may_leave journal left ⊎ IsLeftByOpening limits (disk.seen journal) left) → LeavesStart disk limits journal opened
-  while_opened opened opening long starts = weaker disk journal opened _ _ (λ left or. ⊎_elim (λ was. inl was) (λ by. inr (opened_with left long starts by)) or) opening
+    -- what a crash leaves while it is opened
+    pub while_opened : (opened : D) → LeavesOnly disk journal opened (λ left. disk.may_leave journal left ⊎ IsLeftByOpening limits (disk.seen journal) left) → LeavesStart disk limits journal opened
+    while_opened opened opening long starts = weaker disk journal opened _ _ (λ left or. ⊎_elim (λ was. inl was) (λ by. inr (opened_with left long starts by)) or) opening
 
-  -- and what it leaves later on
-  pub once_opened : (opened : Ledger D) (last : D) → opened.book.book.limits ≡ limits
-      → recovered (disk.seen opened.journal.disk) ≡ with_header limits (recovered (disk.seen journal))
-      → ((long : List Exchange) → AreRecordsInPlaceOf limits (recovered (disk.seen opened.journal.disk)) long → IsLedgerInPlaceOf opened.book opened.base (recovered (disk.seen opened.journal.disk)) long)
-      → LeavesOnly disk journal opened.journal.disk (λ left. disk.may_leave journal left ⊎ IsLeftByOpening limits (disk.seen journal) left)
-      → ((long : List Exchange) → IsLedgerInPlaceOf opened.book opened.base (recovered (disk.seen opened.journal.disk)) long → LeavesOnly disk opened.journal.disk last (λ left. ReopensTo opened.book.book.limits left long))
-      → LeavesStart disk limits journal last
-  once_opened opened last limits_are same in_place opening later long starts =
-      joined disk journal opened.journal.disk last _ (while_opened opened.journal.disk opening long starts)
-      (weaker disk opened.journal.disk last _ _
-      (λ left reopens. let records = subst (λ l. AreRecordsInPlaceOf l (recovered left) long) limits_are reopens in
-      inr (subst (λ rs. AreRecordsInPlaceOf limits rs long) (sym (headed limits (recovered left) long records)) records))
-      (later long (in_place long (subst (λ rs. AreRecordsInPlaceOf limits rs long) (sym same) starts))))
+-- a file in place of a history, whose limits may be raised to those of a run
+starts_in_place : (limits own : Limits) (left : List ℕ) (long : List Exchange) → MayBeRaised own limits → ReopensTo own left long → StartsWith limits left long
+starts_in_place limits own left long may is = record {
+  own = own;
+  replayed = replay_in_place limits own (recovered left) long may is;
+  in_place = subst (λ (rs : List (List ℕ)). AreRecordsInPlaceOf own rs long) (sym (headed own (recovered left) long is)) is;
+}
 
 -- what is handed back
 pub handed : {B : Type 0} (book : Option B) → is_some book ≡ true → (left : B) × (book ≡ Some left)
@@ -126,46 +135,102 @@ handed None some = absurd (false≢true some)
 handed (Some left) some = (left, refl)
 
 -- what an opened ledger's start comes to, over the disks and the outbox that were given
-module _ {D M W : Type 0} (disk : Disk.Ghosts D) (marks_disk : Disk.Ghosts M) (drain : Drain W) (host : List ℕ) (limits : Limits) (journal : D) (marks : M) (outbox : W) (marked : MarkedOutbox W M) (letters : List Letter) (opened ledger : Ledger D) (poster : Outgoing (MarkedOutbox W M)) where
-  -- all letters that were handed out were given to the poster
-  pub first_is : marked.outbox ≡ outbox → SayMark (recovered (marks_disk.seen marks)) marked.marks.mark
-      → LeavesMarksOpened marks_disk marks marked.marks.journal.disk → LeavesTheMark marks_disk marked.marks
-      → IsMarkOfJournal limits (disk.seen journal) marked.marks.mark
-      → recovered (disk.seen opened.journal.disk) ≡ with_header limits (recovered (disk.seen journal))
-      → AreToPost limits marked.marks.mark (recovered (disk.seen opened.journal.disk)) letters
-      → Delivered (marking_drain drain marks_disk) host marked poster letters
-      → IsPostedFirst disk marks_disk drain host limits journal marks outbox poster
-  first_is outbox_is mark_is marks_opened leaves of_journal_is same to_post delivered = record {
-    from = record { host = host; start = marked; first = letters; outbox = poster.poster.outbox };
-    posted = record { delivered = delivered; outbox = refl };
-    host_is = refl;
-    outbox_is = outbox_is;
-    mark_is = mark_is;
-    opened = marks_opened;
-    leaves = leaves;
-    of_journal_is = of_journal_is;
-    first_are = subst (λ rs. AreToPost limits marked.marks.mark rs letters) same to_post;
-  }
+module _ {D : Type 0} (disk : Disk.Ghosts D) (limits : Limits) (mark : ℕ) (journal : D) (opened : Opened D) (allowed : MayBeRaised limits limits) (is : IsOpenedToRaise disk limits mark journal opened) where
+  -- a history that the start begins with is one of the opened ledger
+  begun_in : (long : List Exchange) → StartsWith limits (disk.seen journal) long → IsLedgerInPlaceOf opened.ledger.book opened.ledger.base (recovered (disk.seen opened.ledger.journal.disk)) long
+  begun_in long starts =
+      let own = opened.ledger.book.book.limits in
+      is.ledger long
+      (subst (λ (rs : List (List ℕ)). AreRecordsInPlaceOf own rs long) (sym is.same)
+      (subst (λ (l : Limits). AreRecordsInPlaceOf l (with_header l (recovered (disk.seen journal))) long) (one_replay limits starts.own own (recovered (disk.seen journal)) starts.replayed is.own) starts.in_place))
 
-  pub start_is : marked.outbox ≡ outbox → SayMark (recovered (marks_disk.seen marks)) marked.marks.mark
-      → LeavesMarksOpened marks_disk marks marked.marks.journal.disk → LeavesTheMark marks_disk marked.marks
-      → IsMarkOfJournal limits (disk.seen journal) marked.marks.mark
-      → opened.book.book.limits ≡ limits
-      → recovered (disk.seen opened.journal.disk) ≡ with_header limits (recovered (disk.seen journal))
-      → ((long : List Exchange) → AreRecordsInPlaceOf limits (recovered (disk.seen opened.journal.disk)) long → IsLedgerInPlaceOf opened.book opened.base (recovered (disk.seen opened.journal.disk)) long)
-      → AreToPost limits marked.marks.mark (recovered (disk.seen opened.journal.disk)) letters
-      → LeavesOnly disk journal opened.journal.disk (λ left. disk.may_leave journal left ⊎ IsLeftByOpening limits (disk.seen journal) left)
-      → IsStartOverLedger disk marks_disk drain host marked letters opened ledger poster
-      → IsStartOver disk marks_disk drain host limits journal marks outbox ledger poster
-  start_is outbox_is mark_is marks_opened leaves of_journal_is limits_are same in_place to_post opening start = record {
-    limits_are = start.limits_are ∙ limits_are;
-    few = start.few;
-    all_sent = start.all_sent;
-    begins = start.begins;
-    begins_with = λ long records. start.begins_with long (in_place long (subst (λ rs. AreRecordsInPlaceOf limits rs long) (sym same) records));
-    crash = once_opened disk limits journal opened ledger.journal.disk limits_are same in_place opening start.crash;
-    first = first_is outbox_is mark_is marks_opened leaves of_journal_is same to_post start.delivered;
-  }
+  -- what a crash leaves later on
+  pub once_opened : (last : D)
+      → ((long : List Exchange) → IsLedgerInPlaceOf opened.ledger.book opened.ledger.base (recovered (disk.seen opened.ledger.journal.disk)) long
+      → LeavesOnly disk opened.ledger.journal.disk last (λ left. ReopensTo opened.ledger.book.book.limits left long ⊎ ReopensTo limits left long))
+      → LeavesStart disk limits journal last
+  once_opened last later long starts =
+      joined disk journal opened.ledger.journal.disk last _ (while_opened disk limits journal allowed opened.ledger.journal.disk is.any_moment long starts)
+      (weaker disk opened.ledger.journal.disk last _ _
+      (λ left or. inr (⊎_elim (λ old. starts_in_place limits opened.ledger.book.book.limits left long is.higher old) (λ new. starts_in_place limits limits left long allowed new) or))
+      (later long (begun_in long starts)))
+
+  stands : StandsForFile opened.ledger.book opened.ledger.base (with_header opened.ledger.book.book.limits (recovered (disk.seen journal)))
+  stands = subst (StandsForFile opened.ledger.book opened.ledger.base) is.same (stands_for_all disk opened.ledger is.settled is.awaits)
+
+  -- the mark under which the journal was opened is one of it
+  mark_of_opened : IsMarkOfJournal opened.ledger.book.book.limits (disk.seen journal) mark
+  mark_of_opened =
+      let sealed : opened.ledger.book.book.sealed ≡ length (sealed_letters stands.history) = stands.stands.represents.sealed in
+      record {
+        base = opened.ledger.base;
+        history = stands.history;
+        has = record { own = is.not_foreign; whole = is.whole; said = stands.said; reached = is.reached; sealed = omega (arith, is.counted, sealed) };
+      }
+
+  module _ {M W : Type 0} (marks_disk : Disk.Ghosts M) (drain : Drain W) (host : List ℕ) (marks : M) (outbox : W) (marked : MarkedOutbox W M) (outbox_is : marked.outbox ≡ outbox) (same_mark : marked.marks.mark ≡ mark)
+      (mark_is : SayMark (recovered (marks_disk.seen marks)) marked.marks.mark) (marks_opened : LeavesMarksOpened marks_disk marks marked.marks.journal.disk) (leaves : LeavesTheMark marks_disk marked.marks) where
+    -- all letters that were handed out were given to the poster
+    first_is : (poster : Outgoing (MarkedOutbox W M)) → Delivered (marking_drain drain marks_disk) host marked poster opened.letters.items → IsPostedFirst disk marks_disk drain host limits journal marks outbox poster
+    first_is poster delivered =
+        let own = opened.ledger.book.book.limits in record {
+          from = record { host = host; start = marked; first = opened.letters.items; outbox = poster.poster.outbox };
+          posted = record { delivered = delivered; outbox = refl };
+          host_is = refl;
+          outbox_is = outbox_is;
+          mark_is = mark_is;
+          own = own;
+          replayed = is.own;
+          opened = marks_opened;
+          leaves = leaves;
+          of_journal_is = subst (IsMarkOfJournal own (disk.seen journal)) (sym same_mark) mark_of_opened;
+          first_are =
+              subst (λ (m : ℕ). AreToPost own m (with_header own (recovered (disk.seen journal))) opened.letters.items) (sym same_mark)
+              (subst (λ (rs : List (List ℕ)). AreToPost own mark rs opened.letters.items) is.same is.letters);
+        }
+
+    pub start_is : (ledger : Ledger D) (poster : Outgoing (MarkedOutbox W M)) → IsStartOverLedger disk marks_disk drain host marked opened.letters.items limits opened.ledger ledger poster
+        → IsStartOver disk marks_disk drain host limits journal marks outbox ledger poster
+    start_is ledger poster start = record {
+      limits_are = start.limits_are;
+      few = start.few;
+      all_sent = start.all_sent;
+      begins = start.begins;
+      begins_with = λ long starts. start.begins_with long (begun_in long starts);
+      crash = once_opened ledger.journal.disk start.crash;
+      first = first_is poster start.delivered;
+    }
+
+    -- why a start over the opened ledger came to nothing is why the start did
+    module _ (last : D) (back : W) (last_marks : M) (code : ℕ) where
+      no_start_for : (failed : Bool) → WhyNoStart disk limits opened.ledger failed code → HasPostedFirst disk marks_disk drain host limits journal marks outbox failed back last_marks → IsNoStart disk marks_disk drain host limits journal last marks last_marks outbox back code
+      no_start_for failed (of_outbox fails code_is) posted = no_outbox code_is (subst (λ f. HasPostedFirst disk marks_disk drain host limits journal marks outbox f back last_marks) fails posted)
+      no_start_for failed (of_journal fails cause code_is settled longer) posted =
+          not_put_away cause code_is settled
+          (λ full. record {
+            book = opened.ledger.book;
+            base = opened.ledger.base;
+            replayed = is.own;
+            stands = stands;
+            longer = subst (λ n. n < length (encoded (compacted (raised limits opened.ledger.book) opened.ledger.base []))) is.size (longer full);
+          })
+          (subst (λ f. HasPostedFirst disk marks_disk drain host limits journal marks outbox f back last_marks) fails posted)
+      no_start_for failed (of_letters fails code_is many) posted =
+          too_many_letters code_is
+          (record {
+            own = opened.ledger.book.book.limits;
+            replayed = is.own;
+            base = opened.ledger.base;
+            history = stands.history;
+            said = stands.said;
+            many = subst (λ n. base_limit ≤ opened.ledger.base + n) stands.stands.represents.sealed many;
+          })
+          (subst (λ f. HasPostedFirst disk marks_disk drain host limits journal marks outbox f back last_marks) fails posted)
+
+      pub no_start : IsNoStartOverLedger disk marks_disk drain host marked opened.letters.items limits opened.ledger back last_marks code → IsNoStart disk marks_disk drain host limits journal last marks last_marks outbox back code
+      no_start none =
+          no_start_for none.poster.poster.failed none.why
+          (record { poster = none.poster; first = first_is none.poster none.delivered; failed_is = refl; back_is = none.back_is; last_marks_are = none.last_marks_are })
 
 -- where so many letters aren't all that a mark may count, they are too many
 pub many_sealed : (sealed all : ℕ) → all ≡ min sealed (2 ^ 64 - 1) → ((sealed ≡ all) × (all < base_limit) → ⊥) → base_limit ≤ sealed
@@ -185,64 +250,9 @@ marks_refused file no_marks_for.Damaged foreign damaged lost short full = damage
 marks_refused file no_marks_for.ByteLost foreign damaged lost short full = lost refl
 marks_refused file no_marks_for.TooShort foreign damaged lost short full = short refl
 
--- the mark under which a journal was opened is one of it
-pub mark_of_opened : (limits : Limits) (mark : ℕ) (journal : List ℕ) (book : ReleasingBook) (base : ℕ) (records : List (List ℕ)) → (IsForeign limits journal → ⊥) → (HasMoreBehind 16 journal → ⊥) → book.book.limits ≡ limits
-    → records ≡ with_header limits (recovered journal) → StandsForFile book base records → base ≤ mark → mark ≤ base + book.book.sealed → IsMarkOfJournal limits journal mark
-mark_of_opened limits mark journal book base records own whole limits_are same file reached counted =
-    let sealed : book.book.sealed ≡ length (sealed_letters file.history) = file.stands.represents.sealed in
-    record {
-      base = base;
-      history = file.history;
-      has = record {
-        own = own;
-        whole = whole;
-        said = subst (λ (rs : List (List ℕ)). SayHistory limits base rs file.history) same (subst (λ (l : Limits). SayHistory l base records file.history) limits_are file.said);
-        reached = reached;
-        sealed = omega (arith, counted, sealed);
-      };
-    }
-
 -- marks or a journal that were not opened
 pub only_read : {D : Type 0} (disk : Disk.Ghosts D) (journal last : D) (failed : Type 0) → failed ⊎ (disk.seen last ≡ disk.seen journal) → failed ⊎ LeavesOnly disk journal last (disk.may_leave journal) → failed ⊎ IsOnlyRead disk journal last
 only_read disk journal last failed untouched unwritten = ⊎_elim (λ is. inl is) (λ seen. ⊎_elim (λ is. inl is) (λ crash. inr (record { seen = seen; crash = crash })) unwritten) untouched
-
--- why a start over an opened ledger came to nothing is why the start did
-module _ {D M W : Type 0} (disk : Disk.Ghosts D) (marks_disk : Disk.Ghosts M) (drain : Drain W) (host : List ℕ) (limits : Limits) (journal last : D) (marks last_marks : M) (outbox back : W) (opened : Ledger D) (code : ℕ)
-    (limits_are : opened.book.book.limits ≡ limits) (same : recovered (disk.seen opened.journal.disk) ≡ with_header limits (recovered (disk.seen journal))) (size : length (disk.seen opened.journal.disk) ≡ length (disk.seen journal))
-    (file : StandsForFile opened.book opened.base (recovered (disk.seen opened.journal.disk))) where
-  stands : StandsForFile opened.book opened.base (with_header limits (recovered (disk.seen journal)))
-  stands = subst (StandsForFile opened.book opened.base) same file
-
-  no_start_for : (failed : Bool) → WhyNoStart disk opened failed code → HasPostedFirst disk marks_disk drain host limits journal marks outbox failed back last_marks → IsNoStart disk marks_disk drain host limits journal last marks last_marks outbox back code
-  no_start_for failed (of_outbox is code_is) posted = no_outbox code_is (subst (λ f. HasPostedFirst disk marks_disk drain host limits journal marks outbox f back last_marks) is posted)
-  no_start_for failed (of_journal is cause code_is settled longer) posted =
-      not_put_away cause code_is settled
-      (λ full. record { book = opened.book; base = opened.base; stands = stands; limits_are = limits_are; longer = subst (λ n. n < length (encoded (compacted opened.book opened.base []))) size (longer full) })
-      (subst (λ f. HasPostedFirst disk marks_disk drain host limits journal marks outbox f back last_marks) is posted)
-  no_start_for failed (of_letters is code_is many) posted =
-      too_many_letters code_is
-      (record {
-        base = opened.base;
-        history = stands.history;
-        said = subst (λ l. SayHistory l opened.base (with_header limits (recovered (disk.seen journal))) stands.history) limits_are stands.said;
-        many = subst (λ n. base_limit ≤ opened.base + n) stands.stands.represents.sealed many;
-      })
-      (subst (λ f. HasPostedFirst disk marks_disk drain host limits journal marks outbox f back last_marks) is posted)
-
-  pub no_start : (marked : MarkedOutbox W M) (letters : List Letter) → marked.outbox ≡ outbox → SayMark (recovered (marks_disk.seen marks)) marked.marks.mark
-      → LeavesMarksOpened marks_disk marks marked.marks.journal.disk → LeavesTheMark marks_disk marked.marks
-      → IsMarkOfJournal limits (disk.seen journal) marked.marks.mark
-      → AreToPost limits marked.marks.mark (recovered (disk.seen opened.journal.disk)) letters
-      → IsNoStartOverLedger disk marks_disk drain host marked letters opened back last_marks code → IsNoStart disk marks_disk drain host limits journal last marks last_marks outbox back code
-  no_start marked letters outbox_is mark_is marks_opened leaves of_journal_is to_post none =
-      no_start_for none.poster.poster.failed none.why
-      (record {
-        poster = none.poster;
-        first = first_is disk marks_disk drain host limits journal marks outbox marked letters opened opened none.poster outbox_is mark_is marks_opened leaves of_journal_is same to_post none.delivered;
-        failed_is = refl;
-        back_is = none.back_is;
-        last_marks_are = none.last_marks_are;
-      })
 
 -- at each moment of a call that lets the closed keys go, or doesn't, a crash leaves the history with the first of the requests
 -- that let them go

@@ -11,20 +11,19 @@ use Rattle.dsn_crew.specs.declared.crew_cause.CrewCause.TheVariants.{PortCount, 
 use Rattle.dsn_crew.specs.declared.agents.port.Port.{Ghosts as Port}
 use Rattle.dsn_crew.specs.KeeperHistory.{BeginsWith}
 use Rattle.dsn_device.specs.declared.drain.Drain.{Ghosts as Drain}
-use Rattle.dsn_ledger.specs.Compacted.{compacted}
+use Rattle.dsn_ledger.specs.Compacted.{compacted, raised}
 use Rattle.dsn_ledger.specs.EarlierRuns.{of_earlier_run}
 use Rattle.dsn_ledger.specs.Forgetting.{lets_go, open_entries}
-use Rattle.dsn_ledger.specs.Header.{SayHistory, StandsForFile, base_limit, with_header}
+use Rattle.dsn_ledger.specs.Header.{AreReplayedUnder, SayHistory, StandsForFile, base_limit, with_header}
 use Rattle.dsn_ledger.specs.InPlace.{AreRecordsInPlaceOf}
 use Rattle.dsn_ledger.specs.KeepError.{has_keeping_failed, keep_error_code}
 use Rattle.dsn_ledger.specs.KeptBook.{HasKept, keeper_of_ledger, ledger_keeper}
 use Rattle.dsn_ledger.specs.Ledger.{records_of}
-use Rattle.dsn_ledger.specs.LedgerError.{is_of_ledgers_disk, ledger_error_code}
+use Rattle.dsn_ledger.specs.LedgerError.{ledger_error_code}
 use Rattle.dsn_journal.specs.MarkedOutbox.{MarkedOutbox}
 use Rattle.dsn_journal.specs.Marks.{IsLeftByOpeningMarks, LeavesTheMark, SayMark}
 use Rattle.dsn_journal.specs.MarksError.{is_of_disk, marks_error_code}
 use Rattle.dsn_journal.specs.Moments.{LeavesOnly}
-use Rattle.dsn_ledger.specs.Opening.{IsLeftByOpening}
 use Rattle.dsn_ledger.specs.OpenLedger.{Ledger, rules_of}
 use Rattle.dsn_ledger.specs.Posting.{AreToPost}
 use Rattle.dsn_journal.specs.Records.{encoded, recovered}
@@ -34,20 +33,21 @@ use Rattle.dsn_ledger.specs.declared.keep_error.KeepError.{KeepError}
 use Rattle.dsn_ledger.specs.declared.keep_error.KeepError.TheVariants as not_kept_for
 use Rattle.dsn_ledger.specs.declared.keep_error.KeepError.TheVariants.{Unsettled}
 use Rattle.dsn_ledger.specs.declared.ledger_error.LedgerError.{LedgerError}
-use Rattle.dsn_ledger.specs.declared.ledger_error.LedgerError.TheVariants as no_ledger_for
 use Rattle.dsn_journal.specs.declared.marks_error.MarksError.{MarksError}
 use Rattle.dsn_journal.specs.declared.marks_error.MarksError.TheVariants as no_marks_for
 use Rattle.dsn_text.specs.FaultCode.{journal_full_code, outbox_write_code}
 use Rattle.dsn_report.specs.Outgoing.{Outgoing}
 use Rattle.noticed_lib.specs.daemon.SocketUses.{socket_port}
 use Rattle.noticed_lib.specs.daemon.Serve.{WritesAccount, WritesFault, WritesNumber}
-use Rattle.dsn_ledger.specs.JournalFolder.{AreMarksRefusedFor, HasHistory, HaveMark, IsJournalRefusedFor, IsOnlyRead}
+use Rattle.dsn_ledger.specs.JournalFolder.{AreMarksRefusedFor, HasHistory, HaveMark, IsNotOpenedToRaise, IsOnlyRead}
 use Rattle.noticed_lib.specs.declared.daemon.serve_end.ServeEnd.{ServeEnd}
 
--- a history that a start over this file begins with, as one of earlier runs
-abbrev pub StartsWith : Limits → List ℕ → List Exchange → Type 0
-StartsWith limits file long =
-    AreRecordsInPlaceOf limits (with_header limits (recovered file)) long
+-- a history that a start over this file begins with, as one of earlier runs: that of the records under
+-- the limits under which the start replays them
+pub record StartsWith (limits : Limits) (file : List ℕ) (long : List Exchange) : Type 0 where
+  pub own : Limits
+  pub replayed : AreReplayedUnder limits (recovered file) own
+  pub in_place : AreRecordsInPlaceOf own (with_header own (recovered file)) long
 
 -- what contracts see of an outbox that marks its letters, as a device
 abbrev pub marking_drain : {W M : Type 0} → Drain W → Disk.Ghosts M → Drain (MarkedOutbox W M)
@@ -90,11 +90,13 @@ pub record IsPostedFirst {D M W : Type 0} (disk : Disk.Ghosts D) (marks_disk : D
   pub host_is : from.host ≡ host
   pub outbox_is : from.start.outbox ≡ outbox
   pub mark_is : SayMark (recovered (marks_disk.seen marks)) from.start.marks.mark
-  pub of_journal_is : IsMarkOfJournal limits (disk.seen journal) from.start.marks.mark
+  pub own : Limits
+  pub replayed : AreReplayedUnder limits (recovered (disk.seen journal)) own
+  pub of_journal_is : IsMarkOfJournal own (disk.seen journal) from.start.marks.mark
   pub opened : LeavesMarksOpened marks_disk marks from.start.marks.journal.disk
   pub leaves : LeavesTheMark marks_disk from.start.marks
-  pub first_are : AreToPost limits from.start.marks.mark
-      (with_header limits (recovered (disk.seen journal))) from.first
+  pub first_are : AreToPost own from.start.marks.mark
+      (with_header own (recovered (disk.seen journal))) from.first
 
 -- it has failed, or not, and its outbox and the disk of its marks are handed back
 pub record HasPostedFirst {D M W : Type 0} (disk : Disk.Ghosts D) (marks_disk : Disk.Ghosts M)
@@ -106,20 +108,23 @@ pub record HasPostedFirst {D M W : Type 0} (disk : Disk.Ghosts D) (marks_disk : 
   pub back_is : back ≡ poster.poster.outbox.outbox
   pub last_marks_are : last_marks ≡ poster.poster.outbox.marks.journal.disk
 
--- records by which 2^63 letters or more were sealed in all
-pub record SealTooMany (limits : Limits) (records : List (List ℕ)) : Type 0 where
+-- a file by whose records 2^63 letters or more were sealed in all
+pub record SealTooMany (limits : Limits) (file : List ℕ) : Type 0 where
+  pub own : Limits
+  pub replayed : AreReplayedUnder limits (recovered file) own
   pub base : ℕ
   pub history : List Exchange
-  pub said : SayHistory limits base records history
+  pub said : SayHistory own base (with_header own (recovered file)) history
   pub many : base_limit ≤ base + length (sealed_letters history)
 
--- a file that has no room for the shorter records that would take the place of its own
+-- a file that has no room for the shorter records, under the run's limits, that would take the place of
+-- its own
 pub record HasNoRoomForShorter (limits : Limits) (file : List ℕ) : Type 0 where
   pub book : ReleasingBook
   pub base : ℕ
-  pub stands : StandsForFile book base (with_header limits (recovered file))
-  pub limits_are : book.book.limits ≡ limits
-  pub longer : length file < length (encoded (compacted book base []))
+  pub replayed : AreReplayedUnder limits (recovered file) book.book.limits
+  pub stands : StandsForFile book base (with_header book.book.limits (recovered file))
+  pub longer : length file < length (encoded (compacted (raised limits book) base []))
 
 -- at each moment from one disk of a journal to another a crash leaves what it might have left of the
 -- first, or a file that a later start begins with each history which the first one begins with
@@ -161,11 +166,7 @@ pub data IsNoStart {D M W : Type 0} (disk : Disk.Ghosts D) (marks_disk : Disk.Gh
       → IsNoStart disk marks_disk drain host limits journal last marks last_marks outbox back code
   no_ledger : (cause : LedgerError) (mark : ℕ) → code ≡ ledger_error_code cause → back ≡ outbox
       → HaveMark (marks_disk.seen marks) mark
-      → IsJournalRefusedFor limits mark (disk.seen journal) cause
-      → (cause ≡ no_ledger_for.Journal Failed) ⊎ IsOnlyRead disk journal last
-      → LeavesOnly disk journal last
-      (λ left. disk.may_leave journal left ⊎ IsLeftByOpening limits (disk.seen journal) left)
-      → disk.failures last ≡ counted (is_of_ledgers_disk cause) (disk.failures journal)
+      → IsNotOpenedToRaise disk limits mark journal last cause
       → LeavesMarksOpened marks_disk marks last_marks
       → IsNoStart disk marks_disk drain host limits journal last marks last_marks outbox back code
   no_outbox : code ≡ outbox_write_code
@@ -178,7 +179,7 @@ pub data IsNoStart {D M W : Type 0} (disk : Disk.Ghosts D) (marks_disk : Disk.Gh
       last_marks
       → IsNoStart disk marks_disk drain host limits journal last marks last_marks outbox back code
   too_many_letters : code ≡ journal_full_code
-      → SealTooMany limits (with_header limits (recovered (disk.seen journal)))
+      → SealTooMany limits (disk.seen journal)
       → HasPostedFirst disk marks_disk drain host limits journal marks outbox false back
       last_marks
       → IsNoStart disk marks_disk drain host limits journal last marks last_marks outbox back code

@@ -9,7 +9,7 @@ use Rattle.dsn_crew.specs.declared.crew_cause.CrewCause.{CrewCause}
 use Rattle.dsn_crew.specs.declared.crew_cause.CrewCause.TheVariants.{PortCount, Refused}
 use Rattle.dsn_device.specs.UntilFailure.{WritesUntilFailure}
 use Rattle.dsn_device.specs.declared.drain.Drain.{Ghosts as Drain}
-use Rattle.dsn_ledger.specs.Compacted.{compacted}
+use Rattle.dsn_ledger.specs.Compacted.{compacted, raised}
 use Rattle.dsn_ledger.specs.EarlierRuns.{of_earlier_run}
 use Rattle.dsn_ledger.specs.Header.{base_limit}
 use Rattle.dsn_ledger.specs.InPlace.{IsLedgerInPlaceOf, ReopensTo}
@@ -24,7 +24,7 @@ use Rattle.dsn_journal.specs.declared.journal_error.JournalError.TheVariants.{Fu
 use Rattle.dsn_ledger.specs.declared.keep_error.KeepError.TheVariants as not_kept_for
 use Rattle.dsn_ledger.specs.declared.keep_error.KeepError.TheVariants.{Unsettled}
 use Rattle.dsn_ledger.specs.declared.keep_error.KeepError.{KeepError}
-use Rattle.dsn_outcome.specs.History.{Exchange}
+use Rattle.dsn_outcome.specs.History.{Limits, Exchange}
 use Rattle.dsn_outcome.specs.Letter.{Letter}
 use Rattle.dsn_report.specs.Outgoing.{Delivered, Outgoing}
 use Rattle.dsn_text.specs.FaultCode.{journal_full_code, outbox_write_code}
@@ -43,12 +43,13 @@ pub record BeginsAnew {D : Type 0} (disk : Disk.Ghosts D) (ledger : Ledger D) : 
 
 -- what a run begins with whose ledger was opened, with these letters that were still to be posted: they
 -- were posted, none of them is unsent, fewer than 2^63 letters were sealed, and each history that the
--- ledger was in place of is one to begin with, and what a crash leaves at each moment until then
+-- ledger was in place of is one to begin with, under the run's limits, and what a crash leaves at each
+-- moment until then is in place of it under the old limits or under these
 pub record IsStartOverLedger {D M W : Type 0} (disk : Disk.Ghosts D) (marks_disk : Disk.Ghosts M)
     (drain : Drain W) (host : List ℕ) (outbox : MarkedOutbox W M) (letters : List Letter)
-    (opened ledger : Ledger D) (poster : Outgoing (MarkedOutbox W M)) : Type 0 where
+    (limits : Limits) (opened ledger : Ledger D) (poster : Outgoing (MarkedOutbox W M)) : Type 0 where
   pub delivered : Delivered (marking_drain drain marks_disk) host outbox poster letters
-  pub limits_are : ledger.book.book.limits ≡ opened.book.book.limits
+  pub limits_are : ledger.book.book.limits ≡ limits
   pub few : ledger.base + ledger.book.book.sealed < 2 ^ 63
   pub all_sent : poster.unsent ≡ []
   pub begins : (before : List Exchange) × BeginsWith (ledger_keeper disk) ledger before
@@ -58,28 +59,29 @@ pub record IsStartOverLedger {D M W : Type 0} (disk : Disk.Ghosts D) (marks_disk
   pub crash : (long : List Exchange)
       → IsLedgerInPlaceOf opened.book opened.base (recovered (disk.seen opened.journal.disk)) long
       → LeavesOnly disk opened.journal.disk ledger.journal.disk
-      (λ left. ReopensTo opened.book.book.limits left long)
+      (λ left. ReopensTo opened.book.book.limits left long ⊎ ReopensTo limits left long)
 
 -- and so of one whose ledger was opened, with these letters to post, by this poster
-pub data WhyNoStart {D : Type 0} (disk : Disk.Ghosts D) (opened : Ledger D) (failed : Bool)
-    (code : ℕ) : Type 0 where
-  of_outbox : failed ≡ true → code ≡ outbox_write_code → WhyNoStart disk opened failed code
+pub data WhyNoStart {D : Type 0} (disk : Disk.Ghosts D) (limits : Limits) (opened : Ledger D)
+    (failed : Bool) (code : ℕ) : Type 0 where
+  of_outbox : failed ≡ true → code ≡ outbox_write_code → WhyNoStart disk limits opened failed code
   of_journal : failed ≡ false → (cause : KeepError) → code ≡ keep_error_code cause
       → cause ≢ Unsettled
       → (cause ≡ not_kept_for.Journal Full → length (disk.seen opened.journal.disk)
-      < length (encoded (compacted opened.book opened.base [])))
-      → WhyNoStart disk opened failed code
+      < length (encoded (compacted (raised limits opened.book) opened.base [])))
+      → WhyNoStart disk limits opened failed code
   of_letters : failed ≡ false → code ≡ journal_full_code
-      → base_limit ≤ opened.base + opened.book.book.sealed → WhyNoStart disk opened failed code
+      → base_limit ≤ opened.base + opened.book.book.sealed
+      → WhyNoStart disk limits opened failed code
 
 pub record IsNoStartOverLedger {D M W : Type 0} (disk : Disk.Ghosts D) (marks_disk : Disk.Ghosts M)
     (drain : Drain W) (host : List ℕ) (outbox : MarkedOutbox W M) (letters : List Letter)
-    (opened : Ledger D) (back : W) (last_marks : M) (code : ℕ) : Type 0 where
+    (limits : Limits) (opened : Ledger D) (back : W) (last_marks : M) (code : ℕ) : Type 0 where
   pub poster : Outgoing (MarkedOutbox W M)
   pub delivered : Delivered (marking_drain drain marks_disk) host outbox poster letters
   pub back_is : back ≡ poster.poster.outbox.outbox
   pub last_marks_are : last_marks ≡ poster.poster.outbox.marks.journal.disk
-  pub why : WhyNoStart disk opened poster.poster.failed code
+  pub why : WhyNoStart disk limits opened poster.poster.failed code
 
 -- a ledger and a poster that a run may begin with: the poster has posted what came before the run
 pub record MayRunOver {D M W : Type 0} (disk : Disk.Ghosts D) (marks_disk : Disk.Ghosts M)

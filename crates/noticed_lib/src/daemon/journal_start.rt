@@ -1,7 +1,8 @@
 //! The start of a run over a journal.
-ghost use Rattle.std.specs.Prelude.{◌≡◌, ◌≤◌, ◌<◌, ◌^◌, ◌+◌, List, [], true, IfErr, IfOk};
+ghost use Rattle.std.specs.Prelude.{◌≡◌, ◌⊎◌, ◌≤◌, ◌<◌, ◌^◌, ◌+◌, List, [], true, IfErr, IfOk};
 ghost use Rattle.dsn_outcome.specs.History.{Exchange};
 ghost use Rattle.dsn_report.specs.Outgoing.{Delivered};
+ghost use Rattle.dsn_ledger.specs.Header.{MayBeRaised};
 ghost use Rattle.dsn_ledger.specs.InPlace.{IsLedgerInPlaceOf, ReopensTo};
 ghost use Rattle.dsn_journal.specs.Journal.{IsSettled};
 ghost use Rattle.dsn_journal.specs.Moments.{LeavesOnly};
@@ -18,7 +19,8 @@ use dsn_book::Limits;
 use dsn_device::Drain;
 use dsn_journal::{CountedOutbox, MarkCount, MarkedOutbox, Marks, Replaceable};
 use dsn_ledger::{
-    KeptBook, Ledger, Opened, ledgers_have_earlier_histories, ledgers_have_one_history, open,
+    KeptBook, Ledger, Opened, ledgers_have_earlier_histories, ledgers_have_one_history,
+    open_to_raise,
 };
 use dsn_outcome::Letter;
 use dsn_report::{Outgoing, Site};
@@ -73,8 +75,11 @@ impl<W: Drain, D: Replaceable + Drop, M: Replaceable + Drop> NotStarted<W, D, M>
 /// counts, and replaces the journal by a shorter one. The count is notified of the mark, and of each
 /// letter that is marked then and in the run, the watch of the keys that are held then.
 ///
-/// The numbers are those of [`Marks::open`] and of [`open`]; then 31 if the outbox fails, or a
-/// letter could not be marked; then those of a journal that could not be replaced.
+/// A journal that was made under lower limits is replayed under them. The shorter one has the run's
+/// limits. A crash before that leaves a journal under the old limits, so a later start does the same.
+///
+/// The numbers are those of [`Marks::open`] and of [`open_to_raise`]; then 31 if the outbox fails,
+/// or a letter could not be marked; then those of a journal that could not be replaced.
 pub(crate) fn start_over<
     W: Drain,
     D: Replaceable + Drop,
@@ -112,11 +117,13 @@ pub(crate) fn start_over<
         }
     };
     let mark = marks.mark();
-    match open(alloc, journal, limits, mark) {
+    match open_to_raise(alloc, journal, limits, mark) {
         Ok(opened) => {
             count.note(mark);
             let outbox = CountedOutbox::new(MarkedOutbox::new(alloc, outbox, marks), count);
-            start_over_ledger(alloc, site, releases, outbox, opened, mark, count, watch)
+            start_over_ledger(
+                alloc, site, limits, releases, outbox, opened, mark, count, watch,
+            )
         }
         Err(left) => {
             let code = left.cause.code();
@@ -130,7 +137,8 @@ pub(crate) fn start_over<
     }
 }
 
-/// Posts the letters of a ledger that was opened under this mark, and puts its journal away.
+/// Posts the letters of a ledger that was opened under this mark, and replaces its journal by a
+/// shorter one under these limits.
 fn start_over_ledger<
     W: Drain,
     D: Replaceable + Drop,
@@ -140,6 +148,7 @@ fn start_over_ledger<
 >(
     alloc: Global,
     site: Site,
+    limits: Limits,
     releases: bool,
     outbox: CountedOutbox<MarkedOutbox<W, M>, C>,
     opened: Opened<D>,
@@ -148,6 +157,7 @@ fn start_over_ledger<
     watch: &H,
 ) -> Result<JournalStart<W, D, M, C>, NotStarted<W, D, M>>
     requires awaits { AwaitsRequests D.Disk opened.ledger [] }
+    requires higher { MayBeRaised opened.ledger.book.book.limits limits }
     requires settled { opened.ledger.settled ≡ true }
     requires durable { IsSettled D.Disk opened.ledger.journal.disk opened.ledger.journal.used }
     requires letters { AreToPost opened.ledger.book.book.limits mark
@@ -155,15 +165,16 @@ fn start_over_ledger<
     requires posted { opened.ledger.base ≤ mark }
     requires sealed { mark ≤ opened.ledger.base + opened.ledger.book.book.sealed }
     ensures start { IfOk result (λ start. IsStartOverLedger D.Disk M.Disk W.Drain site outbox
-        opened.letters.items opened.ledger start.keeper start.outgoing) }
+        opened.letters.items limits opened.ledger start.keeper start.outgoing) }
     ensures rule { IfOk result (λ start. start.keeper.releases ≡ releases) }
     ensures fault { IfErr result (λ not. IsNoStartOverLedger D.Disk M.Disk W.Drain site outbox
-        opened.letters.items opened.ledger not.outbox not.marks not.code) }
+        opened.letters.items limits opened.ledger not.outbox not.marks not.code) }
     ensures crash { IfErr result (λ not. (long : List Exchange)
         → IsLedgerInPlaceOf opened.ledger.book opened.ledger.base
         (recovered (D.seen opened.ledger.journal.disk)) long
         → LeavesOnly D.Disk opened.ledger.journal.disk not.journal
-        (λ left. ReopensTo opened.ledger.book.book.limits left long)) }
+        (λ left. ReopensTo opened.ledger.book.book.limits left long
+        ⊎ ReopensTo limits left long)) }
 {
     ledgers_have_one_history();
     let Opened {
@@ -179,7 +190,7 @@ fn start_over_ledger<
     if outgoing.has_failed() {
         return Err(NotStarted::after(fault_code::OUTBOX_WRITE, outgoing, ledger));
     }
-    match ledger.compact_all_marked(alloc, all) {
+    match ledger.raise_all_marked(alloc, all, limits) {
         Ok(true) => {
             report_held(watch, ledger.book().entries());
             Ok(JournalStart {

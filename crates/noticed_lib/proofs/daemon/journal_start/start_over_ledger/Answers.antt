@@ -1,9 +1,9 @@
-use Rattle.std.proofs.Common.{rules, ◌≡◌, ◌∙◌, ◌+◌, ◌-◌, ◌^◌, true≢false, ap, sym, subst, arith}
+use Rattle.std.proofs.Common.{rules, ◌≡◌, ◌⊎◌, inl, ◌∙◌, ◌+◌, ◌-◌, ◌^◌, true≢false, ap, sym, subst, arith}
 use Rattle.std.specs.Prelude.{Err, min}
 use Rattle.dsn_ledger.specs.InPlace.{ReopensTo}
+use Rattle.dsn_journal.proofs.Moments.{weaker}
 use Rattle.dsn_journal.specs.Moments.{LeavesOnly}
 use Rattle.dsn_journal.specs.Records.{recovered}
-use Rattle.dsn_book.specs.Book.{ReleasingBook}
 use Rattle.noticed_lib.specs.inner.Daemon.{of_journal, of_letters, of_outbox}
 use Rattle.noticed_lib.proofs.daemon.JournaledLemmas.{many_sealed, stands_for_all, stands_now}
 use Rattle.noticed_lib.proofs.daemon.journal_start.start_over_ledger.Goals as goal
@@ -16,8 +16,8 @@ returns-in-Ok-true-clause-start g c =
     let anew = c.keeper_over.ensures.begins in
     rw c.keeper_over.ensures.ledger (record {
       delivered = c.post_first-outgoing.ensures;
-      limits_are = ap (λ (b : ReleasingBook). b.book.limits) book;
-      few = (let base = compacted.base done in let none = ap (λ (b : ReleasingBook). b.book.sealed) book in let small = (compacted.all.0 done).1 in omega arith);
+      limits_are = book.limits_are;
+      few = (let base = compacted.base done in let none = book.sealed in let small = (compacted.all.0 done).1 in omega arith);
       all_sent = (c.post_first-outgoing.ensures.while_good (sym c.has_failed.ensures ∙ c.if-has_failed.false)).none_unsent;
       begins = anew.some;
       begins_with = λ long in_place. anew.each long (compacted.ledger long in_place);
@@ -60,15 +60,16 @@ returns-in-Err-clause-fault g c = record {
 pub returns-then-has_failed-clause-crash : goal.returns-then-has_failed-clause-crash
 returns-then-has_failed-clause-crash g c =
     λ long in_place.
-    subst (λ last. LeavesOnly g.D.Disk c.args.opened.ledger.journal.disk last (λ left. ReopensTo c.args.opened.ledger.book.book.limits left long)) (sym c.after.ensures.journal)
-    (stands_now g.D.Disk c.args.opened.ledger c.requires.settled c.requires.awaits c.requires.durable (g.met.D.Disk.only_now c.args.opened.ledger.journal.disk) long in_place)
+    subst (λ last. LeavesOnly g.D.Disk c.args.opened.ledger.journal.disk last (λ left. ReopensTo c.args.opened.ledger.book.book.limits left long ⊎ ReopensTo c.args.limits left long)) (sym c.after.ensures.journal)
+    (weaker g.D.Disk c.args.opened.ledger.journal.disk c.args.opened.ledger.journal.disk _ _ (λ left old. inl old)
+    (stands_now g.D.Disk c.args.opened.ledger c.requires.settled c.requires.awaits c.requires.durable (g.met.D.Disk.only_now c.args.opened.ledger.journal.disk) long in_place))
 
 pub returns-in-Ok-false-clause-crash : goal.returns-in-Ok-false-clause-crash
 returns-in-Ok-false-clause-crash g c =
     λ long in_place.
-    subst (λ last. LeavesOnly g.D.Disk c.args.opened.ledger.journal.disk last (λ left. ReopensTo c.args.opened.ledger.book.book.limits left long)) (sym c.after-in-Ok-false.ensures.journal) (c.in-Ok-false.ensures.in_place c.requires.settled long in_place)
+    subst (λ last. LeavesOnly g.D.Disk c.args.opened.ledger.journal.disk last (λ left. ReopensTo c.args.opened.ledger.book.book.limits left long ⊎ ReopensTo c.args.limits left long)) (sym c.after-in-Ok-false.ensures.journal) (c.in-Ok-false.ensures.in_place c.requires.settled long in_place)
 
 pub returns-in-Err-clause-crash : goal.returns-in-Err-clause-crash
 returns-in-Err-clause-crash g c =
     λ long in_place.
-    subst (λ last. LeavesOnly g.D.Disk c.args.opened.ledger.journal.disk last (λ left. ReopensTo c.args.opened.ledger.book.book.limits left long)) (sym c.after-in-Err.ensures.journal) (c.in-Err.ensures.in_place c.requires.settled long in_place)
+    subst (λ last. LeavesOnly g.D.Disk c.args.opened.ledger.journal.disk last (λ left. ReopensTo c.args.opened.ledger.book.book.limits left long ⊎ ReopensTo c.args.limits left long)) (sym c.after-in-Err.ensures.journal) (c.in-Err.ensures.in_place c.requires.settled long in_place)

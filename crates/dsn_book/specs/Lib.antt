@@ -8,5 +8,6 @@ pub mod Limits
 pub mod NotKept
 pub mod OpenLine
 pub mod Release
+pub mod RuledBook
 pub mod Step
 pub mod inner

@@ -9,6 +9,7 @@ mod limits;
 mod not_kept;
 mod open_line;
 mod releasing_book;
+mod ruled_book;
 mod step;
 mod table;
 
@@ -19,4 +20,5 @@ pub use limits::{Limits, MOST_ENTRIES, MOST_LOGS, MOST_REQUESTS};
 pub use not_kept::NotKept;
 pub use open_line::OpenLine;
 pub use releasing_book::{COLLECTOR, ReleasingBook};
+pub use ruled_book::RuledBook;
 pub use step::Step;

@@ -6,7 +6,7 @@ use super::keepers::run_ports;
 use crate::assert_same::same;
 use crate::bodies::Kind;
 use crate::open_logs::open_logs;
-use dsn_book::{Limits, ReleasingBook};
+use dsn_book::{Limits, RuledBook};
 use dsn_crew::CrewCause;
 use dsn_report::Site;
 use std::alloc::Global;
@@ -55,9 +55,9 @@ fn run_releasing<R: Threads + Wait + Sync>(
     rt: &R,
     alloc: Global,
     heard: &[AtomicU8],
-) -> Result<(Option<CrewCause>, ReleasingBook), Fail> {
+) -> Result<(Option<CrewCause>, RuledBook), Fail> {
     let limits = Limits::new(2, 8, 8).ok_or("limits")?;
-    let book = ReleasingBook::new(alloc, limits)?;
+    let book = RuledBook::new(alloc, limits, true)?;
     let frames = frames_of(alloc, &ASKS)?;
     let mut ports = Vec::new(alloc);
     ports.push(port_of(&frames, heard))?;
@@ -81,7 +81,7 @@ fn expect_answers(rt: &impl Abort, heard: &[u8]) {
 }
 
 /// The logs of K3 and K4 are open, in some order, with an outcome each, and no key is closed.
-fn expect_open_logs(rt: &impl Abort, alloc: Global, book: &ReleasingBook) -> Result<(), Fail> {
+fn expect_open_logs(rt: &impl Abort, alloc: Global, book: &RuledBook) -> Result<(), Fail> {
     let open = open_logs(alloc, book.book())?;
     same(rt, open.len(), 2);
     for line in &open {
@@ -89,6 +89,9 @@ fn expect_open_logs(rt: &impl Abort, alloc: Global, book: &ReleasingBook) -> Res
         same(rt, line.count, 1);
         same(rt, id == b"K3".as_slice() || id == b"K4".as_slice(), true);
     }
+    let RuledBook::Releasing(book) = book else {
+        return Err(Fail::from("no key makes room"));
+    };
     same(rt, book.closed().len(), 0);
     Ok(())
 }

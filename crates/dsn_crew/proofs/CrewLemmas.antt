@@ -318,17 +318,18 @@ book_fault drain host limits of_book agents start (Err fault) same has =
     subst (λ (l : Limits). IsCrewFault drain host l agents start fault fault.cause) same
     (subst (λ (letters : List Letter). IsFaultWith drain (none_posted host start) letters agents fault fault.cause) (all_of_none _ _ has.are) has.is)
 
--- a book refuses nothing
-unkept_never : (rules : Rules) (behind : List Request) (exchanges : List Exchange) (why : NotKept) (book : Option Book) → is_some book ≡ true → IfSome book (IsHandedBack book_keeper rules behind exchanges (causes.Unkept why)) → ⊥
-unkept_never rules behind exchanges why None some handed = absurd (false≢true some)
-unkept_never rules behind exchanges why (Some book) some handed = handed.stands.2
+-- a keeper that refuses nothing, as a book does
+module _ {B : Type 0} (keeper : Keeper B) (refuses_none : (was : B) (requests : List Request) (why : NotKept) (left : B) → keeper.refuses was requests why left → ⊥) where
+  unkept_never : (rules : Rules) (behind : List Request) (exchanges : List Exchange) (why : NotKept) (book : Option B) → is_some book ≡ true → IfSome book (IsHandedBack keeper rules behind exchanges (causes.Unkept why)) → ⊥
+  unkept_never rules behind exchanges why None some handed = absurd (false≢true some)
+  unkept_never rules behind exchanges why (Some book) some handed = refuses_none handed.stands.0 behind why book handed.stands.2
 
-pub book_kept : {W : Type 0} (drain : Drain W) (host : List ℕ) (rules : Rules) (agents : ℕ) (start : W) (result : Result (Account W Book) (CrewFault W Book)) → IfErr result (HasFault book_keeper drain (none_posted host start) rules [] agents) → IfErr result (λ fault. (why : NotKept) → fault.cause ≢ causes.Unkept why)
-book_kept drain host rules agents start (Ok account) has = tt
-book_kept drain host rules agents start (Err fault) has = λ why same.
-    let broken : IsBrokenOff drain (none_posted host start) has.sealed agents fault = subst (IsFaultWith drain (none_posted host start) has.sealed agents fault) same has.is in
-    unkept_never rules fault.behind (history_under rules [] fault.taken) why fault.book broken.handed_back
-    (subst (λ (cause : CrewCause). IfSome fault.book (IsHandedBack book_keeper rules fault.behind (history_under rules [] fault.taken) cause)) same has.book)
+  pub kept_always : {W : Type 0} (drain : Drain W) (host : List ℕ) (rules : Rules) (agents : ℕ) (start : W) (result : Result (Account W B) (CrewFault W B)) → IfErr result (HasFault keeper drain (none_posted host start) rules [] agents) → IfErr result (λ fault. (why : NotKept) → fault.cause ≢ causes.Unkept why)
+  kept_always drain host rules agents start (Ok account) has = tt
+  kept_always drain host rules agents start (Err fault) has = λ why same.
+      let broken : IsBrokenOff drain (none_posted host start) has.sealed agents fault = subst (IsFaultWith drain (none_posted host start) has.sealed agents fault) same has.is in
+      unkept_never rules fault.behind (history_under rules [] fault.taken) why fault.book broken.handed_back
+      (subst (λ (cause : CrewCause). IfSome fault.book (IsHandedBack keeper rules fault.behind (history_under rules [] fault.taken) cause)) same has.book)
 
 -- so it models what was taken
 stood_book : (rules : Rules) (behind : List Request) (exchanges : List Exchange) (cause : CrewCause) (book : Book) → IsHandedBack book_keeper rules behind exchanges cause book → Represents book exchanges

@@ -10,7 +10,7 @@ FAULT_CODES = ROOT / "crates/dsn_text/src/fault_code.rt"
 
 USAGE = (
     b"usage: noticed batch HOST"
-    b" | serve [--config FILE] [--inherited] [[--journal FOLDER [--release-closed]] --outbox PATH] [--logs N] [--entries N] [--idle SECONDS] [--end-on-fault] [--log] SOCKET HOST AGENTS MAX-USE"
+    b" | serve [--config FILE] [--inherited] [[--journal FOLDER] --outbox PATH] [--release-closed] [--logs N] [--entries N] [--idle SECONDS] [--end-on-fault] [--log] SOCKET HOST AGENTS MAX-USE"
     b" | stop SOCKET | send SOCKET | status [--open|--prometheus] SOCKET"
     b" | discard SOCKET SERVICE ID | forget SOCKET SERVICE ID | journal FOLDER"
     b" | postfix [--lifetime SECONDS] [--bounce-size-limit BYTES] [--double-bounce ADDRESS]"

@@ -1,5 +1,6 @@
-"""A daemon with `--release-closed` goes on past its limit of keys: the key that was closed longest ago makes room for a
-new one, also after a kill, and a new key is refused only while each log is open. Without the option it is refused.
+"""A daemon with `--release-closed`, with a journal and without one, goes on past its limit of keys: the key that was
+closed longest ago makes room for a new one, with a journal also after a kill, and a new key is refused only while each
+log is open. Without the option it is refused.
 
     python3 -m tests.release_closed [MESSAGES]
 
@@ -34,6 +35,11 @@ def discarded(first: int, count: int):
     return b"".join(given), answers
 
 
+def in_memory(logs: int, *options) -> Daemon:
+    """A daemon without a journal, with so many keys."""
+    return Daemon(1, 1000, options=("--logs", str(logs), *options))
+
+
 class Folder:
     """A folder with a journal in it, and daemons over it, each with an outbox of its own."""
 
@@ -62,15 +68,43 @@ def appends(turns) -> list:
     return [lambda number, turn=turn: append(number, key(turn)) for turn in turns]
 
 
-def goes_on(checks: Checks, messages: int):
+def goes_on(checks: Checks, daemon: Daemon, messages: int, about: str):
     """More messages than keys: none is refused, and a late outcome is refused for as long as its key is held."""
+    given, answers = discarded(0, messages)
+    ran = daemon.send(given)
+    checks.equal(f"{messages:,} messages {about}: answers", ran.outbox.splitlines(), answers)
+    late = asked(daemon, appends([messages - 1, messages - LOGS, messages - LOGS - 1]))
+    checks.equal(f"late outcomes {about}", late, [b"closed", b"closed", b"logged 0"])
+
+
+def goes_on_both_ways(checks: Checks, messages: int):
+    """With a journal and without one."""
     with tempfile.TemporaryDirectory(dir=FAST, prefix="noticed-") as room:
         with Folder(room).daemon(LOGS, "--release-closed") as daemon:
-            given, answers = discarded(0, messages)
-            ran = daemon.send(given)
-            checks.equal(f"{messages:,} messages: answers", ran.outbox.splitlines(), answers)
-            late = asked(daemon, appends([messages - 1, messages - LOGS, messages - LOGS - 1]))
-            checks.equal("late outcomes", late, [b"closed", b"closed", b"logged 0"])
+            goes_on(checks, daemon, messages, "with a journal")
+    with in_memory(LOGS, "--release-closed") as daemon:
+        goes_on(checks, daemon, messages, "without a journal")
+
+
+def makes_room(checks: Checks, daemon: Daemon, about: str):
+    """Keys 10 to 73 are closed: which of them make room, until each log is open."""
+    # 100 and 101 release 10 and 11; then 11 is a new key, which releases 12.
+    said = asked(daemon, appends([12, 100, 101, 13, 11]))
+    checks.equal(about, said, [b"closed", b"logged 0", b"logged 0", b"closed", b"logged 0"])
+    opened = asked(daemon, appends(range(200, 200 + FEW)))
+    checks.equal(f"{about}: only open logs are left", opened, [b"logged 0"] * (FEW - 3) + [b"table full"] * 3)
+    bodies = [lambda number: frames.discard(number, BOUNCE, key(200)), *appends([300, 301])]
+    checks.equal(f"{about}: one is closed", asked(daemon, bodies), [b"discarded 1", b"logged 0", b"table full"])
+
+
+def order_in_memory(checks: Checks):
+    """The order of closing without a journal; without the option a new key is refused."""
+    with in_memory(FEW, "--release-closed") as daemon:
+        daemon.send(discarded(0, FEW + 10)[0])
+        makes_room(checks, daemon, "without a journal")
+    with in_memory(FEW) as daemon:
+        daemon.send(discarded(0, FEW)[0])
+        checks.equal("without a journal and the option", asked(daemon, appends([FEW, 0])), [b"table full", b"closed"])
 
 
 def order_survives(checks: Checks):
@@ -82,13 +116,7 @@ def order_survives(checks: Checks):
             daemon.running.kill()
             daemon.running.wait()
         with folder.daemon(FEW, "--release-closed") as daemon:
-            # Keys 10 to 73 are closed, so 100 and 101 release 10 and 11; then 11 is a new key, which releases 12.
-            said = asked(daemon, appends([12, 100, 101, 13, 11]))
-            checks.equal("after a kill", said, [b"closed", b"logged 0", b"logged 0", b"closed", b"logged 0"])
-            opened = asked(daemon, appends(range(200, 200 + FEW)))
-            checks.equal("only open logs are left", opened, [b"logged 0"] * (FEW - 3) + [b"table full"] * 3)
-            bodies = [lambda number: frames.discard(number, BOUNCE, key(200)), *appends([300, 301])]
-            checks.equal("one is closed", asked(daemon, bodies), [b"discarded 1", b"logged 0", b"table full"])
+            makes_room(checks, daemon, "after a kill")
             daemon.running.kill()
             daemon.running.wait()
         with folder.daemon(FEW) as daemon:
@@ -100,10 +128,8 @@ def order_survives(checks: Checks):
 
 
 def refused(checks: Checks):
-    """The option needs a journal, and a journal no lower limits than those that it was made with."""
+    """A journal isn't opened under lower limits than those that it was made with."""
     with tempfile.TemporaryDirectory(dir=FAST, prefix="noticed-") as room:
-        ran = run(["serve", "--release-closed", f"{room}/socket", "mx.example.net", "1", "1"])
-        checks.equal("without a journal: status", ran.status, 2)
         folder = Folder(room)
         with folder.daemon(FEW) as daemon:
             daemon.send(discarded(0, 1)[0])
@@ -114,7 +140,8 @@ def refused(checks: Checks):
 def main():
     messages = int(sys.argv[1]) if len(sys.argv) > 1 else 6_000
     checks = Checks(f"release_closed: {messages:,} messages within {LOGS:,} keys, and the order of closing")
-    goes_on(checks, messages)
+    goes_on_both_ways(checks, messages)
+    order_in_memory(checks)
     order_survives(checks)
     refused(checks)
     checks.done()

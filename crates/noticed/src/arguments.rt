@@ -74,7 +74,8 @@ pub(crate) struct ServeArguments {
     pub(crate) socket: String,
     /// The host's name.
     pub(crate) host: String,
-    /// The site that the host names, 1 to 16 agents, and 1 to 1,000,000 connections for each.
+    /// The site that the host names, 1 to 16 agents, 1 to 1,000,000 connections for each, and what the
+    /// book holds.
     pub(crate) serving: Serving,
     /// What its options ask for.
     pub(crate) options: ServeOptions,
@@ -85,8 +86,6 @@ pub(crate) struct ServeArguments {
 pub(crate) struct ServeOptions {
     /// The folder of the journal, if there is to be one.
     pub(crate) journal: Option<String>,
-    /// Whether closed keys make room for new ones, which a journal has to keep.
-    pub(crate) releases: bool,
     /// The path of the outbox, if it isn't standard output.
     pub(crate) outbox: Option<String>,
     /// What the run's watch is asked to do.

@@ -48,7 +48,7 @@ fn serve<'a>(alloc: Global) -> Result<Command<'a>, AllocError> {
             "Keeps each request in FOLDER before it is answered",
         ))?
         .arg(flag(alloc, "release-closed").help(
-            "With a journal: releases the key that was closed longest ago if a new one finds no room",
+            "Releases the key that was closed longest ago if a new one finds no room",
         ))?
         .arg(option(alloc, "logs", "N").help(
             "How many keys are held at once, closed ones too, 1 to 65536 [default: 4096]",

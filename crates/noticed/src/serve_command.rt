@@ -37,7 +37,6 @@ pub(crate) fn run_serve<R: Threads + Wait + Clock + Sync>(
     } = arguments;
     let ServeOptions {
         journal,
-        releases,
         outbox,
         watch: options,
     } = options;
@@ -75,7 +74,7 @@ pub(crate) fn run_serve<R: Threads + Wait + Clock + Sync>(
     print_start(rt, &watch, &socket, &host, &serving);
     let outbox = WatchedOutbox::new(writer, &watch);
     let status = serve_clients(
-        rt, waiting, &socket, &listener, &watch, serving, outbox, folder, releases,
+        rt, waiting, &socket, &listener, &watch, serving, outbox, folder,
     )?;
     if let Some(error) = watch.accept_error() {
         print_socket_error(rt, &socket, &error);
@@ -93,7 +92,6 @@ fn serve_clients<R: Threads + Wait + Clock + Sync>(
     serving: Serving,
     outbox: WatchedOutbox<'_, BufWriter<OutboxWriter>, SocketWatch<'_, HostRuntime>>,
     folder: Option<JournalFolder<FileDisk<'_>, FileDisk<'_>>>,
-    releases: bool,
 ) -> Result<u8, StartError> {
     let outbox = Plain::new(outbox);
     let notes = &mut Plain::new(rt.stderr());
@@ -110,7 +108,7 @@ fn serve_clients<R: Threads + Wait + Clock + Sync>(
                     journal: _,
                     marks: _,
                 } = serve_journaled(
-                    waiting, alloc, listener, watch, serving, outbox, folder, releases, notes,
+                    waiting, alloc, listener, watch, serving, outbox, folder, notes,
                 );
                 end
             }

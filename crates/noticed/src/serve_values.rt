@@ -53,6 +53,7 @@ impl ServeValues<'_, '_> {
                 max_use: self.number("MAX-USE", MOST_USE)?,
                 site: self.placed(host, site_of(self.alloc, host.text))?,
                 limits: self.limits()?,
+                releases: self.flag("release-closed")?,
             },
             socket: self.placed(socket, socket_in(self.alloc, socket.text))?,
             host: owned(self.alloc, host.text)?,
@@ -70,16 +71,8 @@ impl ServeValues<'_, '_> {
                 "a journal requires an outbox: --outbox PATH",
             ));
         }
-        let releases = self.flag("release-closed")?;
-        if releases && journal.is_none() {
-            return Err(StartError::reason(
-                self.alloc,
-                "--release-closed requires a journal: --journal FOLDER",
-            ));
-        }
         Ok(ServeOptions {
             journal,
-            releases,
             outbox,
             watch: WatchOptions {
                 idle_limit: self.number_if("idle", MOST_IDLE)?,

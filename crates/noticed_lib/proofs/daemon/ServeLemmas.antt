@@ -1,16 +1,20 @@
 -- Serve: a run over ports of which nothing is seen but their uses.
-use Rattle.std.proofs.Common.{◌≡◌, ℕ, suc, ◌<◌, ◌≤◌, ◌⊎◌, List, [], ◌∷◌, All, length, replicate, false, inl, inr, refl, subst, arith}
+use Rattle.std.proofs.Common.{◌≡◌, ℕ, suc, ◌<◌, ◌≤◌, ◌⊎◌, List, [], ◌∷◌, All, length, replicate, false, inl, inr, refl, ap, sym, ◌∙◌, subst, arith}
 use Rattle.std.proofs.KnownBytes.{Appends-nil}
-use Rattle.std.proofs.lemmas.List.{length-replicate}
+use Rattle.std.proofs.lemmas.List.{append-nil, length-replicate}
 use Rattle.std.proofs.lemmas.List.Elements.{All-cons, All-head, All-nil, All-tail}
 use Rattle.std.specs.Prelude.{None}
-use Rattle.dsn_book.specs.Keeper.{book_keeper}
-use Rattle.dsn_book.specs.Release.{Rules, releasing_none}
+use Rattle.dsn_book.proofs.ReleaseLemmas.{under-none}
+use Rattle.dsn_book.specs.Book.{Represents}
+use Rattle.dsn_book.specs.RuledBook.{book_of, has_by_rules, ruled_keeper}
+use Rattle.dsn_book.specs.Release.{Rules}
+use Rattle.dsn_book.specs.declared.ruled_book.RuledBook.{RuledBook}
+use Rattle.dsn_book.specs.declared.ruled_book.RuledBook.TheVariants.{Holding, Releasing}
 use Rattle.dsn_book.specs.declared.keeper.Keeper.{Ghosts as Keeper}
 use Rattle.dsn_crew.specs.KeeperHistory.{IsEarlier}
 use Rattle.dsn_crew.specs.agents.Agent.{LaneHalves}
 use Rattle.dsn_crew.specs.agents.Port.{AreOverPort, Given, all_given}
-use Rattle.dsn_crew.specs.Crew.{Account, AreAgentAccounts, IsAccountAfter, IsAgentAccount, PostedBefore, most_ports, none_posted}
+use Rattle.dsn_crew.specs.Crew.{Account, AreAgentAccounts, CrewFault, HasFault, IsAccountAfter, IsAgentAccount, IsFaultWith, PostedBefore, most_ports, none_posted}
 use Rattle.dsn_crew.specs.declared.crew_cause.CrewCause.{CrewCause}
 use Rattle.dsn_crew.specs.declared.crew_cause.CrewCause.TheVariants.{PortCount, Refused, Unkept}
 use Rattle.dsn_crew.specs.declared.agents.agent_line.AgentLine.{AgentLine}
@@ -20,7 +24,7 @@ use Rattle.dsn_device.specs.declared.drain.Drain.{Ghosts as Drain}
 use Rattle.dsn_journal.specs.MarkedOutbox.{MarkedOutbox}
 use Rattle.dsn_ledger.specs.OpenLedger.{Ledger, rules_of}
 use Rattle.dsn_journal.specs.declared.disk.Disk
-use Rattle.dsn_outcome.specs.History.{Limits, Exchange, answers_after, answers_to, history_of, sealed_letters}
+use Rattle.dsn_outcome.specs.History.{Exchange, answers_after, answers_to, sealed_letters}
 use Rattle.dsn_outcome.specs.Letter.{Letter}
 use Rattle.dsn_outcome.specs.Request.{Request}
 use Rattle.dsn_report.specs.Outgoing.{Outgoing}
@@ -79,11 +83,11 @@ module _ {P S : Type 0} (port : Port P S) (untold : (one : P) → port.conns one
     outbox = is.outbox;
   }
 
-  module _ {W N : Type 0} (drain : Drain W) (notes_device : Drain N) (host : List ℕ) (limits : Limits) (ports : List P) (fit : All Fits ports) (start : W) (notes later : N) (end : ServeEnd W) where
-    pub serve-uses : IsServe port drain notes_device host limits ports start notes later end → IsServe (socket_port may_end) drain notes_device host limits (replicate (length ports) uses) start notes later end
+  module _ {W N : Type 0} (drain : Drain W) (notes_device : Drain N) (host : List ℕ) (rules : Rules) (ports : List P) (fit : All Fits ports) (start : W) (notes later : N) (end : ServeEnd W) where
+    pub serve-uses : IsServe port drain notes_device host rules ports start notes later end → IsServe (socket_port may_end) drain notes_device host rules (replicate (length ports) uses) start notes later end
     serve-uses (inl served) = inl (record {
       account = served.account;
-      crew = account-uses book_keeper drain (none_posted host start) (releasing_none limits) [] (sealed_letters (history_of limits served.account.taken)) ports served.account fit served.crew;
+      crew = record { letters = served.crew.letters; sealed = served.crew.sealed; is = account-uses ruled_keeper drain (none_posted host start) rules [] served.crew.letters ports served.account fit served.crew.is };
       count = rw (length-replicate (length ports)) served.count;
       noted = served.noted;
     })
@@ -148,11 +152,28 @@ module _ {P H : Type 0} (ends : H → Type 0) (watch_of : P → H) (left_of : P 
   ports-fit [] are = All-nil GivesWithin
   ports-fit (one ∷ ports) are = All-cons GivesWithin one ports (port-fits one (All-head IsOf one ports are)) (ports-fit ports (All-tail IsOf one ports are))
 
+-- what a book represents, whatever its rules
+pub represented : (book : RuledBook) (history : List Exchange) → has_by_rules book history → Represents (book_of book) history
+represented (Holding book) history has = has
+represented (Releasing book) history has = has.represents
+
+-- a run without a book, which did nothing
+abbrev nothing_done : {W : Type 0} → CrewCause → W → CrewFault W RuledBook
+nothing_done cause start = record { cause = cause; outbox = start; unsent = []; book = None; taken = []; behind = [] }
+
+fault_of_none : {W : Type 0} (drain : Drain W) (host : List ℕ) (rules : Rules) (agents : ℕ) (start : W) (cause : CrewCause) → IsFaultWith drain (none_posted host start) [] agents (nothing_done cause start) cause → HasFault ruled_keeper drain (none_posted host start) rules [] agents (nothing_done cause start)
+fault_of_none drain host rules agents start cause is = record {
+  sealed = [];
+  are = record { are = ap sealed_letters (under-none rules []) ∙ sym (append-nil (sealed_letters [])) };
+  is = is;
+  book = tt;
+}
+
 -- a run that was refused for the number of its agents
-serve-refused : {W N : Type 0} (may_end : Type 0) (uses : ℕ) (drain : Drain W) (notes_device : Drain N) (host : List ℕ) (limits : Limits) (agents : ℕ) (start : W) (notes later : N) (end : ServeEnd W) → (agents ≡ 0) ⊎ (most_ports < agents) → WritesFault notes_device PortCount start [] notes later end → IsServe (socket_port may_end) drain notes_device host limits (replicate agents uses) start notes later end
-serve-refused may_end uses drain notes_device host limits agents start notes later end few noted = inr (record {
-  fault = record { cause = PortCount; outbox = start; unsent = []; book = None; taken = []; behind = [] };
-  crew = (refl, refl, refl, refl);
+serve-refused : {W N : Type 0} (may_end : Type 0) (uses : ℕ) (drain : Drain W) (notes_device : Drain N) (host : List ℕ) (rules : Rules) (agents : ℕ) (start : W) (notes later : N) (end : ServeEnd W) → (agents ≡ 0) ⊎ (most_ports < agents) → WritesFault notes_device PortCount start [] notes later end → IsServe (socket_port may_end) drain notes_device host rules (replicate agents uses) start notes later end
+serve-refused may_end uses drain notes_device host rules agents start notes later end few noted = inr (record {
+  fault = nothing_done PortCount start;
+  crew = fault_of_none drain host rules (length (replicate agents uses)) start PortCount (refl, refl, refl, refl);
   counted = (λ is. rw (length-replicate agents) few, λ is. refl);
   kept = λ why same. let never : PortCount ≡ Unkept why = same in cc;
   noted = noted;
@@ -169,36 +190,36 @@ unfolding answers_after answers_to
 none_earlier agent few = refl
 
 -- a run over ports that are too many or too few, or whose book found no memory
-pub no-book : {P S W N : Type 0} (port : Port P S) (drain : Drain W) (notes_device : Drain N) (host : List ℕ) (limits : Limits) (ports : List P) (start : W) (notes later : N) (end : ServeEnd W) (cause : CrewCause) → HasNoPorts (length ports) cause → WritesFault notes_device cause start [] notes later end
-    → IsServe port drain notes_device host limits ports start notes later end
-no-book port drain notes_device host limits ports start notes later end cause (inl count) noted = inr (record {
-  fault = record { cause = PortCount; outbox = start; unsent = []; book = None; taken = []; behind = [] };
-  crew = (refl, refl, refl, refl);
+pub no-book : {P S W N : Type 0} (port : Port P S) (drain : Drain W) (notes_device : Drain N) (host : List ℕ) (rules : Rules) (ports : List P) (start : W) (notes later : N) (end : ServeEnd W) (cause : CrewCause) → HasNoPorts (length ports) cause → WritesFault notes_device cause start [] notes later end
+    → IsServe port drain notes_device host rules ports start notes later end
+no-book port drain notes_device host rules ports start notes later end cause (inl count) noted = inr (record {
+  fault = nothing_done PortCount start;
+  crew = fault_of_none drain host rules (length ports) start PortCount (refl, refl, refl, refl);
   counted = (λ is. count.1, λ is. refl);
   kept = λ why same. let never : PortCount ≡ Unkept why = same in cc;
   noted = subst (λ (it : CrewCause). WritesFault notes_device it start [] notes later end) count.0 noted;
 })
-no-book port drain notes_device host limits ports start notes later end cause (inr refused) noted = inr (record {
-  fault = record { cause = Refused; outbox = start; unsent = []; book = None; taken = []; behind = [] };
-  crew = inl (record { taken = refl; behind = refl; unsent = refl; outbox = record { nothing = Appends-nil (drain.contents start); failures = refl; flushes = refl; marked = refl; no_moment = stands_still } });
+no-book port drain notes_device host rules ports start notes later end cause (inr refused) noted = inr (record {
+  fault = nothing_done Refused start;
+  crew = fault_of_none drain host rules (length ports) start Refused (inl (record { taken = refl; behind = refl; unsent = refl; outbox = record { nothing = Appends-nil (drain.contents start); failures = refl; flushes = refl; marked = refl; no_moment = stands_still } }));
   counted = (λ is. absurd (let never : Refused ≡ PortCount = is in cc), λ few. absurd (no_crew (length ports) (refused.1, refused.2) few));
   kept = λ why same. let never : Refused ≡ Unkept why = same in cc;
   noted = subst (λ (it : CrewCause). WritesFault notes_device it start [] notes later end) refused.0 noted;
 })
 
 -- a run over a socket whose agents get no ports
-module _ {W N : Type 0} (may_end : Type 0) (uses : ℕ) (drain : Drain W) (notes_device : Drain N) (host : List ℕ) (limits : Limits) (agents : ℕ) (start : W) (notes later : N) (end : ServeEnd W) where
-  pub no-ports : (cause : CrewCause) → HasNoPorts agents cause → WritesFault notes_device cause start [] notes later end → IsSocketServe drain notes_device may_end host limits agents uses start notes later end
-  no-ports cause (inl count) noted = inl (serve-refused may_end uses drain notes_device host limits agents start notes later end count.1 (subst (λ (it : CrewCause). WritesFault notes_device it start [] notes later end) count.0 noted))
+module _ {W N : Type 0} (may_end : Type 0) (uses : ℕ) (drain : Drain W) (notes_device : Drain N) (host : List ℕ) (rules : Rules) (agents : ℕ) (start : W) (notes later : N) (end : ServeEnd W) where
+  pub no-ports : (cause : CrewCause) → HasNoPorts agents cause → WritesFault notes_device cause start [] notes later end → IsSocketServe drain notes_device may_end host rules agents uses start notes later end
+  no-ports cause (inl count) noted = inl (serve-refused may_end uses drain notes_device host rules agents start notes later end count.1 (subst (λ (it : CrewCause). WritesFault notes_device it start [] notes later end) count.0 noted))
   no-ports cause (inr refused) noted = inr ((refused.1, refused.2), subst (λ (it : CrewCause). WritesFault notes_device it start [] notes later end) refused.0 noted)
 
-  pub no-ports-over : {D M : Type 0} (disk : Disk.Ghosts D) (marks_disk : Disk.Ghosts M) (rules : Rules) (journal last : D) (marks last_marks : M) (cause : CrewCause) → HasNoPorts agents cause → WritesFault notes_device cause start [] notes later end → last ≡ journal → last_marks ≡ marks
+  pub no-ports-over : {D M : Type 0} (disk : Disk.Ghosts D) (marks_disk : Disk.Ghosts M) (journal last : D) (marks last_marks : M) (cause : CrewCause) → HasNoPorts agents cause → WritesFault notes_device cause start [] notes later end → last ≡ journal → last_marks ≡ marks
       → IsSocketServeOver disk marks_disk drain notes_device may_end host rules agents uses journal marks start notes later end last last_marks
-  no-ports-over disk marks_disk rules journal last marks last_marks cause (inl count) noted same same_marks = record {
+  no-ports-over disk marks_disk journal last marks last_marks cause (inl count) noted same same_marks = record {
     crew = λ crew. absurd (no_crew agents crew count.1);
     none = λ _. (subst (λ (it : CrewCause). WritesFault notes_device it start [] notes later end) count.0 noted, same, same_marks);
   }
-  no-ports-over disk marks_disk rules journal last marks last_marks cause (inr refused) noted same same_marks = record {
+  no-ports-over disk marks_disk journal last marks last_marks cause (inr refused) noted same same_marks = record {
     crew = λ _. inr (subst (λ (it : CrewCause). WritesFault notes_device it start [] notes later end) refused.0 noted, same, same_marks);
     none = λ few. absurd (no_crew agents (refused.1, refused.2) few);
   }

@@ -1,16 +1,18 @@
--- Serve: what the daemon's run over ports comes to.
+-- Serve: the result of the daemon's run over ports.
 use Rattle.std.specs.Prelude.{◌≡◌, ◌≢◌, ℕ, ◌<◌, ◌≤◌, ◌⊎◌, ◌↔◌, Bool, false, not, ◌||◌, List, [], length, Option, replicate, is_some, is_none, if◌then◌else◌}
 use Rattle.dsn_book.specs.declared.open_line.OpenLine.{OpenLine}
-use Rattle.dsn_book.specs.Book.{Book}
+use Rattle.dsn_book.specs.RuledBook.{ruled_keeper}
+use Rattle.dsn_book.specs.Release.{Rules, history_under}
+use Rattle.dsn_book.specs.declared.ruled_book.RuledBook.{RuledBook}
 use Rattle.dsn_book.specs.declared.not_kept.NotKept.{NotKept}
-use Rattle.dsn_crew.specs.Crew.{Account, CrewFault, IsAccount, IsCrewFault, crew_cause_code, most_ports}
+use Rattle.dsn_crew.specs.Crew.{Account, CrewFault, HasAccount, HasFault, crew_cause_code, most_ports, none_posted}
 use Rattle.dsn_crew.specs.declared.agents.agent_line.AgentLine.{AgentLine}
 use Rattle.dsn_crew.specs.declared.crew_cause.CrewCause.{CrewCause}
 use Rattle.dsn_crew.specs.declared.crew_cause.CrewCause.TheVariants.{Refused, PortCount, Unkept}
 use Rattle.dsn_crew.specs.declared.agents.port.Port.{Ghosts as Port}
 use Rattle.dsn_device.specs.UntilFailure.{WritesUntilFailure}
 use Rattle.dsn_device.specs.declared.drain.Drain.{Ghosts as Drain}
-use Rattle.dsn_outcome.specs.History.{Exchange, Limits, history_of}
+use Rattle.dsn_outcome.specs.History.{Exchange}
 use Rattle.dsn_outcome.specs.Letter.{Letter}
 use Rattle.dsn_notes.specs.OpenLogs.{AreOpenLines}
 use Rattle.noticed_lib.specs.daemon.AgentLines.{account_lines, number_lines, port_fault}
@@ -49,27 +51,27 @@ module _ {W N : Type 0} (notes_device : Drain N) where
     pub outbox_is : end.outbox ≡ outbox
     pub status_is : end.status ≡ 1
 
-  -- and so that of a crew's fault
+  -- the number of a crew's fault was written so
   abbrev pub WritesFault : CrewCause → W → List Letter → N → N → ServeEnd W → Type 0
   WritesFault cause = WritesNumber (crew_cause_code cause)
 
 module _ {P S W N : Type 0} (port : Port P S) (drain : Drain W) (notes_device : Drain N)
-    (host : List ℕ) (limits : Limits) (ports : List P) (start : W) (notes later : N)
+    (host : List ℕ) (rules : Rules) (ports : List P) (start : W) (notes later : N)
     (end : ServeEnd W) where
-  -- a run that ended well: all that is true of its crew, and its notes, over the logs that the
-  -- requests taken leave open
+  -- a run by these rules that ended well, over a book that was empty: the account of its crew, and its
+  -- notes, over the logs that the requests taken leave open
   pub record IsDaemonServed : Type 0 where
-    pub account : Account W Book
-    pub crew : IsAccount port drain host limits ports start account
+    pub account : Account W RuledBook
+    pub crew : HasAccount ruled_keeper port drain (none_posted host start) rules [] ports account
     pub count : (1 ≤ length ports) × (length ports ≤ most_ports)
-    pub noted : WritesAccount notes_device (history_of limits account.taken) account account.outbox
-        notes later end
+    pub noted : WritesAccount notes_device (history_under rules [] account.taken) account
+        account.outbox notes later end
 
   -- a run whose crew ended with a fault: what is left of it, and its notes. The cause is PortCount
-  -- where there are not 1 to `most_ports` ports, and never a request that was not kept
+  -- exactly if there are not 1 to `most_ports` ports, and never a request that was not kept
   pub record IsFaulted : Type 0 where
-    pub fault : CrewFault W Book
-    pub crew : IsCrewFault drain host limits (length ports) start fault fault.cause
+    pub fault : CrewFault W RuledBook
+    pub crew : HasFault ruled_keeper drain (none_posted host start) rules [] (length ports) fault
     pub counted : (fault.cause ≡ PortCount) ↔ ((length ports ≡ 0) ⊎ (most_ports < length ports))
     pub kept : (why : NotKept) → fault.cause ≢ Unkept why
     pub noted : WritesFault notes_device fault.cause fault.outbox fault.unsent notes later end
@@ -78,13 +80,13 @@ module _ {P S W N : Type 0} (port : Port P S) (drain : Drain W) (notes_device : 
   abbrev pub IsServe : Type 0
   IsServe = IsDaemonServed ⊎ IsFaulted
 
--- a run over so many ports of a socket, each with so many uses; or one for 1 to `most_ports` of them
--- that found no memory for their list, so that nothing began. `may_end` says whether a watch may end
--- the run before the uses are used up
-abbrev pub IsSocketServe : {W N : Type 0} → Drain W → Drain N → Type 0 → List ℕ → Limits → ℕ → ℕ
+-- a run over the given number of ports of a socket, each with the given number of uses. Or, for 1 to
+-- `most_ports` of them: memory for their list was refused, and nothing began. `may_end` says whether a
+-- watch may end the run before the uses are used up
+abbrev pub IsSocketServe : {W N : Type 0} → Drain W → Drain N → Type 0 → List ℕ → Rules → ℕ → ℕ
     → W → N → N → ServeEnd W → Type 0
-IsSocketServe drain notes_device may_end host limits agents uses start notes later end =
-    IsServe (socket_port may_end) drain notes_device host limits (replicate agents uses) start notes
+IsSocketServe drain notes_device may_end host rules agents uses start notes later end =
+    IsServe (socket_port may_end) drain notes_device host rules (replicate agents uses) start notes
     later end
     ⊎ (((1 ≤ agents) × (agents ≤ most_ports))
     × WritesFault notes_device Refused start [] notes later end)

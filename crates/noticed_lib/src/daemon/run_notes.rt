@@ -2,6 +2,7 @@
 ghost use Rattle.std.specs.Prelude.{◌≡◌, true, List, []};
 ghost use Rattle.std.specs.List.{list_any};
 ghost use Rattle.dsn_book.specs.Book.{Represents};
+ghost use Rattle.dsn_book.specs.RuledBook.{book_of};
 ghost use Rattle.dsn_device.specs.UntilFailure.{WritesUntilFailure};
 ghost use Rattle.dsn_outcome.specs.History.{Exchange};
 ghost use Rattle.dsn_ledger.specs.OpenLedger.{AwaitsRequests};
@@ -16,7 +17,7 @@ use crate::daemon::journaled_end::JournaledEnd;
 use crate::daemon::observer::Observer;
 use crate::daemon::serve_end::ServeEnd;
 use crate::daemon::watched_keeper::Watched;
-use dsn_book::Book;
+use dsn_book::{Book, RuledBook};
 use dsn_crew::{Account, AgentLine};
 use dsn_device::{Drain, UntilFailure};
 use dsn_journal::{CountedOutbox, MarkCount, MarkedOutbox, Replaceable};
@@ -29,10 +30,10 @@ use std::alloc::Global;
 /// Writes what each agent did, and how the run ended.
 pub(crate) fn write_account<W: Drop, O: Observer + Drop, N: Drain>(
     alloc: Global,
-    account: Account<W, Watched<Book, O>>,
+    account: Account<W, Watched<RuledBook, O>>,
     notes: &mut N,
 ) -> ServeEnd<W>
-    ensures { (history : List Exchange) → Represents account.book history
+    ensures { (history : List Exchange) → Represents (book_of account.book) history
         → WritesAccount N.Drain history account account.outbox notes.old notes.new result }
 {
     let Account {
@@ -44,7 +45,7 @@ pub(crate) fn write_account<W: Drop, O: Observer + Drop, N: Drain>(
         ..
     } = account;
     let book = book.into_keeper();
-    let status = write_run(alloc, agents.as_slice(), whole, unsent, &book, notes);
+    let status = write_run(alloc, agents.as_slice(), whole, unsent, book.book(), notes);
     ServeEnd { outbox, status }
 }
 

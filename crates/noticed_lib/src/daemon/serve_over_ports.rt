@@ -1,6 +1,6 @@
 //! The run of the daemon over any ports.
 ghost use Rattle.std.specs.Prelude.{◌≡◌, ◌≤◌, [], All, IfErr, IfOk};
-ghost use Rattle.dsn_book.specs.Book.{Represents};
+ghost use Rattle.dsn_book.specs.RuledBook.{book_of, book_rules, has_by_rules};
 ghost use Rattle.dsn_crew.specs.Crew.{most_ports};
 ghost use Rattle.noticed_lib.specs.daemon.Serve.{IsServe};
 ghost use Rattle.noticed_lib.specs.inner.Daemon.{HasNoPorts};
@@ -9,7 +9,7 @@ use crate::daemon::observer::Observer;
 use crate::daemon::run_notes::{write_account, write_fault};
 use crate::daemon::serve_end::ServeEnd;
 use crate::daemon::watched_keeper::Watched;
-use dsn_book::{Book, Limits};
+use dsn_book::{Limits, RuledBook};
 use dsn_crew::{CrewCause, CrewFault, Gate, Port, run_crew_over};
 use dsn_device::Drain;
 use dsn_outcome::Letters;
@@ -22,7 +22,7 @@ use std::thread::Threads;
 const MOST_PORTS: usize = 16;
 
 /// Serves these ports by a crew, as [`run_crew_over`] does, which posts a notice of each sealed log to
-/// `outbox`. Then it writes to `notes` what each agent did, and how the run ended: with a port that
+/// `outbox`. Closed keys make room for new ones if `releases` is true. Then it writes to `notes` what each agent did, and how the run ended: with a port that
 /// failed (61), with an outbox that failed (31), which letters were not written, and which logs are
 /// open, or that their list found no memory (9). If the crew ends with a fault (41, 42, 43) it writes
 /// the number and the letters alone. Nothing is written once a line could not be written. Requires
@@ -40,6 +40,7 @@ pub(crate) fn serve_ports<
     alloc: Global,
     site: Site,
     limits: Limits,
+    releases: bool,
     ports: Vec<P>,
     outbox: W,
     gate: &G,
@@ -47,10 +48,11 @@ pub(crate) fn serve_ports<
     notes: &mut N,
 ) -> ServeEnd<W>
     requires asked { All P.may_be_asked ports.items }
-    ensures { IsServe P.Port W.Drain N.Drain site limits ports.items outbox notes.old notes.new
+    ensures { IsServe P.Port W.Drain N.Drain site
+        (record { limits = limits; releases = releases }) ports.items outbox notes.old notes.new
         result }
 {
-    let book = match empty_book(alloc, limits, ports.len()) {
+    let book = match empty_book(alloc, limits, releases, ports.len()) {
         Ok(book) => Watched::new(book, observer),
         Err(cause) => {
             return write_fault(alloc, cause.code(), outbox, Letters::new(), notes);
@@ -72,16 +74,22 @@ pub(crate) fn serve_ports<
 
 /// An empty book for a crew of this number of ports. Returns `PortCount` if they are not 1 to 16,
 /// before any memory is taken, and `Refused` if memory is refused.
-fn empty_book(alloc: Global, limits: Limits, ports: usize) -> Result<Book, CrewCause>
-    ensures limits { IfOk result (λ book. book.limits ≡ limits) }
-    ensures empty { IfOk result (λ book. (Represents book []) × (book.sealed ≡ 0)) }
+fn empty_book(
+    alloc: Global,
+    limits: Limits,
+    releases: bool,
+    ports: usize,
+) -> Result<RuledBook, CrewCause>
+    ensures rules { IfOk result
+        (λ book. book_rules book ≡ record { limits = limits; releases = releases }) }
+    ensures empty { IfOk result (λ book. has_by_rules book [] × ((book_of book).sealed ≡ 0)) }
     ensures count { IfOk result (λ _. (1 ≤ ports) × (ports ≤ most_ports)) }
     ensures refused { IfErr result (HasNoPorts ports) }
 {
     if !(1..=MOST_PORTS).contains(&ports) {
         return Err(CrewCause::PortCount);
     }
-    match Book::new(alloc, limits) {
+    match RuledBook::new(alloc, limits, releases) {
         Ok(book) => Ok(book),
         Err(_) => Err(CrewCause::Refused),
     }

@@ -1,5 +1,6 @@
 //! The run of the daemon over a listening socket.
 ghost use Rattle.std.specs.Prelude.{◌≡◌, ◌≤◌, All, length, IfErr, IfOk};
+ghost use Rattle.dsn_book.specs.Release.{releasing_none};
 ghost use Rattle.dsn_crew.specs.Crew.{most_ports};
 ghost use Rattle.noticed_lib.specs.daemon.Journaled.{IsSocketServeOver};
 ghost use Rattle.noticed_lib.specs.daemon.Serve.{IsSocketServe};
@@ -34,8 +35,9 @@ const MOST_AGENTS: u32 = 16;
 
 /// Serves what connects to `listener` by a crew of `agents` agents, as `serve_ports` does. All of
 /// them accept on the one listener, and each is done once it has served `max_use` connections; its
-/// port fails if an accept fails. If there are not 1 to 16 agents that is noted (43) before any
-/// memory is taken; refused memory for the ports is noted as the crew's is (42).
+/// port fails if an accept fails. No closed key makes room for a new one. If there are not 1 to 16
+/// agents that is noted (43) before any memory is taken; refused memory for the ports is noted as the
+/// crew's is (42).
 pub fn serve<R: Threads + Wait + Sync, W: Drain + Drop + Send, N: Drain>(
     rt: &R,
     alloc: Global,
@@ -47,8 +49,8 @@ pub fn serve<R: Threads + Wait + Sync, W: Drain + Drop + Send, N: Drain>(
     outbox: W,
     notes: &mut N,
 ) -> ServeEnd<W>
-    ensures { IsSocketServe W.Drain N.Drain ⊥ site limits agents max_use outbox notes.old notes.new
-        result }
+    ensures { IsSocketServe W.Drain N.Drain ⊥ site (releasing_none limits) agents max_use outbox
+        notes.old notes.new result }
 {
     let watch = NoWatch;
     let serving = Serving {
@@ -56,12 +58,13 @@ pub fn serve<R: Threads + Wait + Sync, W: Drain + Drop + Send, N: Drain>(
         agents,
         max_use,
         limits,
+        releases: false,
     };
     serve_watched(rt, alloc, listener, &watch, serving, outbox, notes)
 }
 
-/// Serves under a watch: each agent is done also once the watch finds that the run is to end. Else it
-/// is as [`serve`].
+/// Serves under a watch: each agent is done also once the watch finds that the run is to end. Closed
+/// keys make room for new ones if `serving` has it so. Else it is as [`serve`].
 pub fn serve_watched<R: Threads + Wait + Sync, H: Watch + Sync, W: Drain + Drop + Send, N: Drain>(
     rt: &R,
     alloc: Global,
@@ -71,27 +74,30 @@ pub fn serve_watched<R: Threads + Wait + Sync, H: Watch + Sync, W: Drain + Drop 
     outbox: W,
     notes: &mut N,
 ) -> ServeEnd<W>
-    ensures { IsSocketServe W.Drain N.Drain (H.may_end watch.now) serving.site serving.limits
-        serving.agents serving.max_use outbox notes.old notes.new result }
+    ensures { IsSocketServe W.Drain N.Drain (H.may_end watch.now) serving.site
+        (record { limits = serving.limits; releases = serving.releases }) serving.agents
+        serving.max_use outbox notes.old notes.new result }
 {
     let Serving {
         site,
         agents,
         max_use,
         limits,
+        releases,
     } = serving;
     match socket_ports(alloc, listener, watch, agents, max_use) {
         Ok(ports) => {
             let gate = WatchGate { watch };
-            serve_ports(rt, alloc, site, limits, ports, outbox, &gate, watch, notes)
+            serve_ports(
+                rt, alloc, site, limits, releases, ports, outbox, &gate, watch, notes,
+            )
         }
         Err(cause) => write_fault(alloc, cause.code(), outbox, Letters::new(), notes),
     }
 }
 
 /// Serves as [`serve_watched`] does, over the disks of a journal's folder, as `serve_ports_over` has
-/// it. If `releases` is true, closed keys make room for new ones. If there are not 1 to 16 agents
-/// that is noted (43) before a disk is touched.
+/// it. If there are not 1 to 16 agents that is noted (43) before a disk is touched.
 pub fn serve_journaled<
     R: Threads + Wait + Clock + Sync,
     H: Watch + Sync,
@@ -107,12 +113,11 @@ pub fn serve_journaled<
     serving: Serving,
     outbox: W,
     folder: JournalFolder<D, M>,
-    releases: bool,
     notes: &mut N,
 ) -> JournaledEnd<W, D, M>
     ensures { IsSocketServeOver D.Disk M.Disk W.Drain N.Drain (H.may_end watch.now) serving.site
-        (record { limits = serving.limits; releases = releases }) serving.agents serving.max_use
-        folder.journal folder.marks outbox notes.old notes.new result.end result.journal
+        (record { limits = serving.limits; releases = serving.releases }) serving.agents
+        serving.max_use folder.journal folder.marks outbox notes.old notes.new result.end result.journal
         result.marks }
 {
     let Serving {
@@ -120,6 +125,7 @@ pub fn serve_journaled<
         agents,
         max_use,
         limits,
+        releases,
     } = serving;
     match socket_ports(alloc, listener, watch, agents, max_use) {
         Ok(ports) => {

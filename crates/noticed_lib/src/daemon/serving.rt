@@ -13,4 +13,6 @@ pub struct Serving {
     pub max_use: u32,
     /// How many keys and outcomes are held, and how many requests an agent may make.
     pub limits: Limits,
+    /// Whether the key that was closed longest ago makes room for a new one in a full book.
+    pub releases: bool,
 }

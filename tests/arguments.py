@@ -13,6 +13,7 @@ USAGE = (
     b" | serve [--config FILE] [--inherited] [[--journal FOLDER] --outbox PATH] [--release-closed] [--logs N] [--entries N] [--idle SECONDS] [--end-on-fault] [--log] SOCKET HOST AGENTS MAX-USE"
     b" | stop SOCKET | send SOCKET | status [--open|--prometheus] SOCKET"
     b" | discard SOCKET SERVICE ID | forget SOCKET SERVICE ID | journal FOLDER"
+    b" | hand-in [--done FILE] [--give-up SECONDS] HAND-IN"
     b" | postfix [--lifetime SECONDS] [--bounce-size-limit BYTES] [--double-bounce ADDRESS]"
     b" [--hash-queue-names NAMES]"
     b" [--hash-queue-depth DEPTH] [--inherited] QUEUE-FOLDER HOST HAND-IN\n"

@@ -1,6 +1,7 @@
 //! The arguments: which command they name, and what it is given.
 use crate::command_line::command_line;
 use crate::fault_list::fault_list;
+use crate::hand_in_command::HandInArguments;
 use crate::log_command::{LogArguments, LogRequest};
 use crate::postfix_serving::PostfixServing;
 use crate::postfix_values::postfix_serving;
@@ -61,6 +62,8 @@ pub(crate) enum Command {
         /// The folder of the journal.
         folder: String,
     },
+    /// `hand-in [OPTION].. HAND-IN`.
+    HandIn(HandInArguments),
     /// `postfix [OPTION].. QUEUE-FOLDER HOST HAND-IN`.
     Postfix(PostfixServing),
     /// `faults`.
@@ -143,6 +146,7 @@ fn command_given(
         "journal" => Ok(Command::Journal {
             folder: owned(alloc, text_of(given, "FOLDER"))?,
         }),
+        "hand-in" => Ok(Command::HandIn(HandInArguments::of(alloc, given)?)),
         "faults" => Ok(Command::Faults),
         _ => Ok(Command::Postfix(postfix_serving(alloc, given)?)),
     }

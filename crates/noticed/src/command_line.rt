@@ -21,6 +21,7 @@ pub(crate) fn command_line<'a>(alloc: Global, faults: &'a str) -> Result<Command
         .subcommand(forget(alloc)?)?
         .subcommand(status(alloc)?)?
         .subcommand(journal(alloc)?)?
+        .subcommand(hand_in(alloc)?)?
         .subcommand(postfix(alloc)?)?
         .subcommand(
             Command::new(alloc, "faults")
@@ -129,6 +130,20 @@ fn journal<'a>(alloc: Global) -> Result<Command<'a>, AllocError> {
         .arg(argument(alloc, "FOLDER").help("The folder of the journal"))
 }
 
+fn hand_in<'a>(alloc: Global) -> Result<Command<'a>, AllocError> {
+    Command::new(alloc, "hand-in")
+        .about("Submits the notices of the outbox on standard input to a mail server")
+        .arg(option(alloc, "done", "FILE").help(
+            "Keeps in FILE how many notices are settled, and goes on there",
+        ))?
+        .arg(
+            option(alloc, "give-up", "SECONDS")
+                .default_value("432000")
+                .help("How long a notice is tried, 1 to 8640000"),
+        )?
+        .arg(mail_server(alloc))
+}
+
 fn postfix<'a>(alloc: Global) -> Result<Command<'a>, AllocError> {
     Command::new(alloc, "postfix")
         .about("Serves a Postfix in place of bounce(8)")
@@ -159,9 +174,14 @@ fn postfix<'a>(alloc: Global) -> Result<Command<'a>, AllocError> {
         .arg(flag(alloc, "inherited").help("Takes over the sockets that the caller listens on"))?
         .arg(argument(alloc, "QUEUE-FOLDER").help("Postfix's queue folder"))?
         .arg(host(alloc))?
-        .arg(argument(alloc, "HAND-IN").help(
-            "The mail server that takes the notices: an IP address with a port, or a socket's path",
-        ))
+        .arg(mail_server(alloc))
+}
+
+/// The argument HAND-IN.
+fn mail_server<'a>(alloc: Global) -> Arg<'a> {
+    argument(alloc, "HAND-IN").help(
+        "The mail server that takes the notices: an IP address with a port, or a socket's path",
+    )
 }
 
 /// The argument HOST.

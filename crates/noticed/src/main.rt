@@ -8,11 +8,14 @@ mod command_line;
 mod config_file;
 mod fault_list;
 mod fault_note;
+mod hand_in_command;
+mod hand_in_files;
 mod journal_command;
 mod journal_copies;
 mod journal_files;
 mod listening;
 mod log_command;
+mod outbox_text;
 mod outbox_writer;
 mod postfix_command;
 mod postfix_serving;
@@ -35,6 +38,7 @@ use batch_command::run_batch;
 use dsn_text::fault_code;
 use fault_list::fault_list;
 use fault_note::print_fault_line;
+use hand_in_command::run_hand_in;
 use journal_command::run_journal;
 use log_command::run_log_request;
 use postfix_command::run_postfix;
@@ -48,7 +52,7 @@ use stop_command::run_stop;
 
 /// The line that wrong arguments print on standard error.
 const USAGE: &str =
-    "usage: noticed batch HOST | serve [--config FILE] [--inherited] [[--journal FOLDER] --outbox PATH] [--release-closed] [--logs N] [--entries N] [--idle SECONDS] [--end-on-fault] [--log] SOCKET HOST AGENTS MAX-USE | stop SOCKET | send SOCKET | status [--open|--prometheus] SOCKET | discard SOCKET SERVICE ID | forget SOCKET SERVICE ID | journal FOLDER | postfix [--lifetime SECONDS] [--bounce-size-limit BYTES] [--double-bounce ADDRESS] [--hash-queue-names NAMES] [--hash-queue-depth DEPTH] [--inherited] QUEUE-FOLDER HOST HAND-IN";
+    "usage: noticed batch HOST | serve [--config FILE] [--inherited] [[--journal FOLDER] --outbox PATH] [--release-closed] [--logs N] [--entries N] [--idle SECONDS] [--end-on-fault] [--log] SOCKET HOST AGENTS MAX-USE | stop SOCKET | send SOCKET | status [--open|--prometheus] SOCKET | discard SOCKET SERVICE ID | forget SOCKET SERVICE ID | journal FOLDER | hand-in [--done FILE] [--give-up SECONDS] HAND-IN | postfix [--lifetime SECONDS] [--bounce-size-limit BYTES] [--double-bounce ADDRESS] [--hash-queue-names NAMES] [--hash-queue-depth DEPTH] [--inherited] QUEUE-FOLDER HOST HAND-IN";
 
 fn main(rt: HostRuntime) -> ExitCode {
     let done = match begin(&rt) {
@@ -59,6 +63,7 @@ fn main(rt: HostRuntime) -> ExitCode {
         Ok(Command::Log(arguments)) => run_log_request(&rt, &rt, arguments),
         Ok(Command::Status { socket, view }) => run_status(&rt, &socket, view),
         Ok(Command::Journal { folder }) => run_journal(&rt, &folder),
+        Ok(Command::HandIn(arguments)) => run_hand_in(&rt, arguments),
         Ok(Command::Postfix(serving)) => run_postfix(&rt, &rt, serving),
         Ok(Command::Faults) => print_faults(&rt),
         Err(start_error) => Err(start_error),

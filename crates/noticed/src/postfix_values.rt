@@ -101,7 +101,7 @@ fn double_bounce_of(
 /// The mail server that a word names: the path of a Unix socket, which begins with `/`, or an
 /// address and a port. A server listens at none with the number 0. It is no name: a name would be
 /// looked up for each notice, and a notice would wait for that.
-fn server_of(alloc: Global, word: &str) -> Result<ServerAddress, StartError> {
+pub(crate) fn server_of(alloc: Global, word: &str) -> Result<ServerAddress, StartError> {
     if word.starts_with('/') && word.len() <= LONGEST_PATH {
         return Ok(ServerAddress::Unix(owned(alloc, word)?));
     }

@@ -1,0 +1,106 @@
+//! What `hand-in` keeps: the mark, and the letters that were refused for good.
+use dsn_journal::sync_folder;
+use dsn_outcome::Broken;
+use dsn_submission::{Marks, RefusedLetters, Transaction};
+use std::fs::File;
+use std::io::Write;
+use std::rt::Stdout;
+use std::{fs, io};
+
+/// The file that keeps the mark, if there is one.
+#[derive(Drop)]
+pub(crate) struct DoneFile<'a> {
+    pub(crate) rt: &'a HostRuntime,
+    pub(crate) path: Option<&'a str>,
+}
+
+impl DoneFile<'_> {
+    /// The mark that the file has: 0 if there is no file. Returns an error if it can't be read, or
+    /// isn't a number and a line feed.
+    pub(crate) fn mark(&self) -> io::Result<u64> {
+        let Some(path) = self.path else {
+            return Ok(0);
+        };
+        let text = match fs::read_to_string(self.rt, path) {
+            Ok(text) => text,
+            Err(error) if error.kind() == io::ErrorKind::NotFound => return Ok(0),
+            Err(error) => return Err(error),
+        };
+        match text.as_str().strip_suffix("\n") {
+            Some(number) => match number.parse::<u64>() {
+                Ok(mark) => Ok(mark),
+                Err(_) => Err(io::Error::from(io::ErrorKind::InvalidData)),
+            },
+            None => Err(io::Error::from(io::ErrorKind::InvalidData)),
+        }
+    }
+
+    /// Replaces the file, so that a crash leaves either the old mark or the new one.
+    fn replace(&self, path: &str, mark: u64) -> io::Result<()> {
+        let beside = format!(in self.rt.alloc(); "{path}.new")?;
+        let text = format!(in self.rt.alloc(); "{mark}\n")?;
+        let mut file = File::create(self.rt, beside.as_str())?;
+        file.write_all(text.as_bytes())?;
+        file.sync_all()?;
+        fs::rename(self.rt, beside.as_str(), path)?;
+        sync_folder(self.rt, path)
+    }
+}
+
+impl Marks for DoneFile<'_> {
+    ghost tells = { λ _ _ _ _. Unit {0} };
+
+    fn settled_to(&mut self, mark: u64) -> Result<(), Broken> {
+        match self.path {
+            Some(path) => self.replace(path, mark).map_err(|_| Broken),
+            None => Ok(()),
+        }
+    }
+}
+
+/// Where refused letters go: a file, which is synced, or standard output.
+#[derive(Drop)]
+pub(crate) enum RefusedPlace {
+    Standard(Stdout),
+    Synced(File),
+}
+
+impl RefusedPlace {
+    /// Writes a whole letter and its reply.
+    fn write_letter(&mut self, letter: &Transaction, reply: &[u8]) -> io::Result<()> {
+        match self {
+            RefusedPlace::Standard(stdout) => {
+                write_refusal(stdout, letter, reply)?;
+                stdout.flush()
+            }
+            RefusedPlace::Synced(file) => {
+                write_refusal(file, letter, reply)?;
+                file.sync_data()
+            }
+        }
+    }
+}
+
+impl RefusedLetters<Transaction> for RefusedPlace {
+    ghost keeps = { λ _ _ _ _ _. Unit {0} };
+
+    fn keep(&mut self, letter: &Transaction, reply: &[u8]) -> Result<(), Broken> {
+        self.write_letter(letter, reply).map_err(|_| Broken)
+    }
+}
+
+/// Writes a letter as the outbox has it. The reply is before it, each line behind `NOOP`, which a
+/// mail server passes over (RFC 5321 section 4.1.1.9).
+fn write_refusal<W: Write>(out: &mut W, letter: &Transaction, reply: &[u8]) -> io::Result<()> {
+    for line in reply.split(|&byte| byte == b'\n') {
+        if !line.is_empty() {
+            out.write_all(b"NOOP ")?;
+            out.write_all(line)?;
+            out.write_all(b"\n")?;
+        }
+    }
+    out.write_all(b"MAIL FROM:<>\r\nRCPT TO:<")?;
+    out.write_all(letter.path.bytes())?;
+    out.write_all(b">\r\nDATA\r\n")?;
+    out.write_all(&letter.message)
+}

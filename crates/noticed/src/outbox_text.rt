@@ -1,0 +1,57 @@
+//! An outbox, taken apart into its mail transactions.
+//! Implements docs/FORMATS.md, "The outbox".
+use bstr::ByteSlice;
+
+/// A mail transaction in an outbox.
+#[derive(Clone, Copy)]
+pub(crate) struct OutboxTransaction<'a> {
+    /// The path of its recipient, without angle brackets.
+    pub(crate) path: &'a [u8],
+    /// The message, with leading dots doubled and with the line of one dot that ends it.
+    pub(crate) message: &'a [u8],
+    /// What is behind it.
+    pub(crate) rest: &'a [u8],
+}
+
+/// What the text of an outbox begins with, behind its greeting.
+pub(crate) enum OutboxPart<'a> {
+    Transaction(OutboxTransaction<'a>),
+    /// QUIT, and nothing behind it.
+    End,
+    /// Anything else: a whole outbox doesn't end there.
+    CutShort,
+}
+
+/// The end of a message (RFC 5321 section 4.1.1.4).
+const MESSAGE_END: &[u8] = b"\r\n.\r\n";
+
+/// The host of an outbox's greeting, and what is behind the greeting. Returns `None` if it has none.
+pub(crate) fn greeting_of(text: &[u8]) -> Option<(&[u8], &[u8])> {
+    let (line, rest) = text.split_once_str(b"\r\n")?;
+    let host = line.strip_prefix(b"EHLO ")?;
+    Some((host, rest))
+}
+
+/// What a text begins with, behind the greeting.
+pub(crate) fn part_of(text: &[u8]) -> OutboxPart<'_> {
+    if text == b"QUIT\r\n".as_slice() {
+        return OutboxPart::End;
+    }
+    match transaction_of(text) {
+        Some(transaction) => OutboxPart::Transaction(transaction),
+        None => OutboxPart::CutShort,
+    }
+}
+
+/// The transaction that a text begins with, if it is whole.
+fn transaction_of(text: &[u8]) -> Option<OutboxTransaction<'_>> {
+    let envelope = text.strip_prefix(b"MAIL FROM:<>\r\nRCPT TO:<")?;
+    let (path, data) = envelope.split_once_str(b">\r\nDATA\r\n")?;
+    let end = data.find(MESSAGE_END)?;
+    let (message, rest) = data.split_at_checked(end.saturating_add(MESSAGE_END.len()))?;
+    Some(OutboxTransaction {
+        path,
+        message,
+        rest,
+    })
+}

@@ -1,4 +1,5 @@
-//! Tests of devices, over what `dsn_device` makes public, and the readers and writers of other tests.
+//! Tests of devices, over what `dsn_device` makes public, and the readers and writers of other
+//! tests.
 mod memory_drain;
 mod quiet_writer;
 mod std_device;
@@ -9,17 +10,17 @@ use dsn_device::{Broken, Drain, Plain};
 use dsn_fakes::{PieceReader, PieceWriter};
 use std::alloc::Global;
 
-/// Calls that never fail.
+/// A number of calls that no test reaches: none of them fails.
 pub(crate) const ALWAYS: usize = 1_000_000;
 
-/// A device over a reader that gives at most `most` bytes a call, and is interrupted after `good`
-/// calls.
+/// A device over a reader that gives at most `most` bytes a call, and is interrupted once, after
+/// `good` calls.
 pub(crate) fn reader(rest: &[u8], most: usize, good: usize) -> Plain<PieceReader<'_>> {
     Plain::new(PieceReader { rest, most, good })
 }
 
-/// A device over a writer that takes at most `most` bytes a call, and is interrupted after `room`
-/// bytes.
+/// A device over a writer that takes at most `most` bytes a call, and is interrupted once, after
+/// `room` bytes.
 pub(crate) fn writer(alloc: Global, most: usize, room: usize) -> Plain<PieceWriter> {
     Plain::new(PieceWriter {
         held: Vec::new(alloc),

@@ -1,6 +1,8 @@
-//! Tests of devices, of outcomes, of frames, requests and answers in bytes, of notices and outboxes,
-//! and of what Postfix's programs ask and keep, over what their crates make public: so they are proved
-//! without the proofs of these, and beside their wrong edits.
+//! Tests of devices, of outcomes, of frames, requests and answers in bytes, of notices and
+//! outboxes, and of the requests and files of Postfix's programs.
+//!
+//! They use only what those crates make public. So they are proved without the proofs of those
+//! crates, and at the same time as their wrong edits.
 #![tactic(auto)]
 
 #[cfg(test)]
@@ -9,6 +11,8 @@ mod assert_same;
 mod device;
 #[cfg(test)]
 mod frame;
+#[cfg(test)]
+mod one_notice;
 #[cfg(test)]
 mod outcome;
 #[cfg(test)]

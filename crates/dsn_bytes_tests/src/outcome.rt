@@ -1,4 +1,5 @@
-//! Tests of values, over what `dsn_outcome` makes public, that of `dsn_text` among it.
+//! Tests of values, over what `dsn_outcome` makes public, with the values of `dsn_text` that it
+//! exports.
 use crate::assert_same::same;
 use dsn_outcome::{
     Chain, Draft, DraftParts, Key, LAST_MOMENT, Letter, Letters, Outcome, Parts, QueueId, Service,
@@ -77,7 +78,7 @@ fn push_letters(alloc: Global, letters: &mut Letters, count: u32) -> Result<(), 
     Ok(())
 }
 
-/// Letters are freed one after another, and not within one another, which would use up the stack.
+/// Letters are freed one after another. Freeing them within one another would use up the stack.
 #[test]
 fn many_letters_are_freed(rt: HostRuntime) -> Result<(), Fail> {
     let mut letters = Letters::new();

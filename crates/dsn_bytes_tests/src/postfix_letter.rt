@@ -1,4 +1,5 @@
-//! The letters of planned notices: what each field of a log's record becomes, and what can't be said.
+//! The letters of planned notices: the field that each field of a record becomes, and what can't be
+//! said.
 use crate::assert_same::same;
 use dsn_outcome::{DraftFault, Letter, OutcomeFault, QueueId, Service, Stamp};
 use dsn_postfix::{PlannedNotice, ReturnedPart};
@@ -25,7 +26,7 @@ const REFUSED: LogRecord<'static> = LogRecord {
     reason: b"host 127.0.0.1 said: 550 5.1.1 no such user here",
 };
 
-/// A record of a recipient that no remote system was asked for.
+/// A record of a recipient for whom no remote system was reached.
 const UNREACHED: LogRecord<'static> = LogRecord {
     recipient: b"carol@example.org",
     original_recipient: b"",
@@ -41,14 +42,14 @@ const UNREACHED: LogRecord<'static> = LogRecord {
     reason: b"connect to 127.0.0.1:25: Connection refused",
 };
 
-/// A record of a recipient whom nobody rewrote: smtpd(8) writes down the address of RCPT as ORCPT.
+/// A record of a recipient that nobody rewrote: smtpd(8) records the address of RCPT as ORCPT.
 const NOT_REWRITTEN: LogRecord<'static> = LogRecord {
     original_recipient: b"",
     dsn_original: b"rfc822;no.bob@example.org",
     ..REFUSED
 };
 
-/// A record of a remote system that stands behind a socket.
+/// A record of a remote system behind a socket.
 const BEHIND_A_SOCKET: LogRecord<'static> = LogRecord {
     mta_type: b"unix",
     ..REFUSED
@@ -60,7 +61,7 @@ const SPACED: LogRecord<'static> = LogRecord {
     ..REFUSED
 };
 
-/// The records of which notices tell.
+/// The records that notices report.
 const OF_REFUSED: &[LogRecord<'static>] = &[REFUSED];
 
 const OF_NOT_REWRITTEN: &[LogRecord<'static>] = &[NOT_REWRITTEN];
@@ -71,13 +72,14 @@ const OF_SOCKET: &[LogRecord<'static>] = &[BEHIND_A_SOCKET];
 
 const OF_SPACED: &[LogRecord<'static>] = &[REFUSED, SPACED];
 
-/// When the message from Ann came, if it is known, its envelope id, and to whom its notice goes.
+/// The arrival of the message from Ann, if it is known, its envelope id, and the recipient of its
+/// notice.
 type About = (Option<u64>, &'static [u8], &'static [u8]);
 
-/// A message that came an hour before its notice, without an envelope id.
+/// A message that arrived an hour before its notice, without an envelope id.
 const MESSAGE: About = (Some(1_699_996_400), b"", b"ann@example.com");
 
-/// The parts for programs of a notice of failure.
+/// The machine-readable parts of a notice of failure.
 const REFUSED_STATUS: &[u8] = b"\r\n\r\n\
 Reporting-MTA: dns; mx.example.net\r\n\
 Arrival-Date: Tue, 14 Nov 2023 21:13:20 +0000\r\n\
@@ -99,7 +101,7 @@ Subject: hello\r\n\
 \r\n\
 --B.090B8A85C9C.1700000000.0000--\r\n";
 
-/// The group of a recipient whom nobody rewrote.
+/// The group of a recipient that nobody rewrote.
 const NOT_REWRITTEN_GROUP: &[u8] = b"\r\n\r\n\
 Final-Recipient: rfc822; no.bob@example.org\r\n\
 Action: failed\r\n\
@@ -124,14 +126,14 @@ Hello.\r\n\
 \r\n\
 --B.090B8A85C9C.1700000000.0000--\r\n";
 
-/// Its header in place of it.
+/// The header of the message, returned in its place.
 const HEADER_ALONE: &[u8] = b"Content-Type: text/rfc822-headers\r\n\
 \r\n\
 Subject: hello\r\n\
 \r\n\
 --B.090B8A85C9C.1700000000.0000--\r\n";
 
-/// What is returned, and the limit of what is returned whole, in bytes.
+/// The returned part of the message, and the limit of a message that is returned whole, in bytes.
 type Returned = (ReturnedPart, u32);
 
 /// The header.
@@ -153,17 +155,18 @@ Subject: hello\r\n\
 \r\n\
 --D.090B8A85C9C.1700000000.0000--\r\n";
 
-/// The site that tells of itself.
+/// The site that reports.
 pub(crate) fn site(alloc: Global) -> Result<Site, Fail> {
     Ok(Site::new(alloc, b"mx.example.net")?)
 }
 
-/// The moment of notices.
+/// The time of the notices.
 pub(crate) fn moment() -> Result<Stamp, Fail> {
     Ok(Stamp::new(1_700_000_000).ok_or("the moment")?)
 }
 
-/// The letter of a planned notice. (The fault is `NoMemory` also if a value can't be made: no test wants it.)
+/// The letter of a planned notice. The fault is `NoMemory` also if a value can't be made: no test
+/// expects it.
 fn letter_of(
     alloc: Global,
     (arrival, envelope_id, to): About,
@@ -198,7 +201,7 @@ fn text_of(alloc: Global, letter: &Letter) -> Result<Vec<u8>, Fail> {
     Ok(notice(alloc, &site, letter)?)
 }
 
-/// A planned notice becomes a letter whose text ends so, or none, for this reason.
+/// A planned notice becomes a letter whose text ends like this, or is refused with this fault.
 fn expect_planned(
     rt: &(impl AllocGlobal + Abort),
     about: About,
@@ -217,7 +220,7 @@ fn expect_planned(
     Ok(())
 }
 
-/// What can't be said of a message, and why.
+/// Messages that no letter can be about, and why.
 const UNSAID: [(About, LetterFault); 3] = [
     ((None, b"", b"ann@example.com"), LetterFault::Arrival),
     (
@@ -238,7 +241,7 @@ fn what_no_letter_says_of_a_message(rt: HostRuntime) -> Result<(), Fail> {
     Ok(())
 }
 
-/// A notice of failure with these records is no letter, for this reason.
+/// A notice of failure with these records is refused with this fault.
 fn expect_fault(
     rt: &(impl AllocGlobal + Abort),
     records: &[LogRecord<'_>],
@@ -251,10 +254,10 @@ fn expect_fault(
 fn records_become_outcomes(rt: HostRuntime) -> Result<(), Fail> {
     let refused = Ok(REFUSED_STATUS);
     expect_planned(&rt, MESSAGE, Service::Bounce, OF_REFUSED, refused)?;
-    // of an original recipient that is the final one nothing is said
+    // an original recipient that is the final one is left out
     let final_alone = Ok(NOT_REWRITTEN_GROUP);
     expect_planned(&rt, MESSAGE, Service::Bounce, OF_NOT_REWRITTEN, final_alone)?;
-    // a reason stands for a diagnostic
+    // a reason takes the place of a diagnostic
     let unreached = Ok(UNREACHED_GROUP);
     expect_planned(&rt, MESSAGE, Service::Defer, OF_UNREACHED, unreached)
 }
@@ -267,7 +270,7 @@ fn whom_no_letter_tells(rt: HostRuntime) -> Result<(), Fail> {
     expect_fault(&rt, OF_SPACED, fault)
 }
 
-/// A notice of failure ends with what it returns of the message, which has 23 bytes.
+/// A notice of failure ends with this part of the message, which has 23 bytes.
 fn expect_returned(
     rt: &(impl AllocGlobal + Abort),
     returned: Returned,
@@ -285,6 +288,6 @@ fn a_message_over_the_limit_returns_its_header(rt: HostRuntime) -> Result<(), Fa
     expect_returned(&rt, (ReturnedPart::Whole, 50_000), WHOLE_MESSAGE)?;
     expect_returned(&rt, (ReturnedPart::Whole, 23), WHOLE_MESSAGE)?;
     expect_returned(&rt, (ReturnedPart::Whole, 22), HEADER_ALONE)?;
-    // no limit cuts a header, as with bounce(8)
+    // no limit cuts a header, as in bounce(8)
     expect_returned(&rt, (ReturnedPart::Whole, 1), HEADER_ALONE)
 }

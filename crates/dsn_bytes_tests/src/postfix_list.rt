@@ -1,4 +1,4 @@
-//! Lists of attributes from readers that give them in pieces, end anywhere and fail anywhere.
+//! Attribute lists from readers that give them in pieces, and that end or fail at any byte.
 use crate::assert_same::same;
 use crate::device::{ALWAYS, reader};
 use crate::postfix_request::{FLUSH_BOUNCE, VERP, WARN};
@@ -10,12 +10,13 @@ use std::alloc::AllocGlobal;
 use std::process::Abort;
 use std::test::Fail;
 
-/// Reads the next list of a reader into a buffer: the fault, if there is one.
+/// Reads the next list of a reader into a buffer. Returns the fault, if there is one.
 fn read_next(buffer: &mut ListBuffer, source: &mut Plain<PieceReader<'_>>) -> Option<ListFault> {
     buffer.read_next(source).err()
 }
 
-/// The next list of a reader is this one, and a buffer holds it; or there is none, for this reason, and it holds none.
+/// The buffer holds this list, the next one of the reader. Or the read fails with this fault, and
+/// the buffer holds no list.
 fn expect_next(
     rt: &impl Abort,
     buffer: &mut ListBuffer,
@@ -26,8 +27,8 @@ fn expect_next(
     same(rt, (fault, buffer.list()), (want.err(), want.ok()));
 }
 
-/// The list that is read at most so many bytes a call, where the call after `good` calls fails, is this one; or there is
-/// none, for this reason.
+/// The list that is read at most `most` bytes a call, from a reader that fails after `good` calls,
+/// is this one. Or the read fails with this fault.
 fn expect_list(
     rt: &(impl Abort + AllocGlobal),
     input: &[u8],
@@ -65,14 +66,14 @@ fn reader_that_fails_at_each_byte(rt: HostRuntime) {
     for good in 0..whole {
         expect_list(&rt, FLUSH_BOUNCE, (1, good), Err(ListFault::Read));
     }
-    // once the list's end is there, no further read is made
+    // no further read is made after the end of the list
     expect_list(&rt, FLUSH_BOUNCE, (1, whole), Ok(FLUSH_BOUNCE));
 }
 
 #[test]
 fn bytes_behind_a_list(rt: HostRuntime) -> Result<(), Fail> {
     let input = joined(rt.alloc(), &[WARN, VERP])?;
-    // in one piece with the list's end, but for pieces that end where the list does
+    // a piece has the end of the list and more bytes, unless pieces end where the list does
     for most in 2..input.len() + 1 {
         let want = if WARN.len() % most == 0 {
             Ok(WARN)
@@ -95,7 +96,7 @@ fn lists_one_after_another(rt: HostRuntime) -> Result<(), Fail> {
     Ok(())
 }
 
-/// A list of so many bytes is read in pieces of each size, or is too long.
+/// A list of `size` bytes is read in pieces of each size, or is too long.
 fn expect_long(
     rt: &(impl Abort + AllocGlobal),
     size: usize,

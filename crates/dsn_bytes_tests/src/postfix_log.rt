@@ -1,4 +1,5 @@
-//! What a program of Postfix asks to log becomes a record of a log file, and a log file is read as its entries.
+//! The record that an append of a Postfix program becomes in a log, and the entries that are read
+//! from a log.
 use crate::assert_same::same;
 use crate::postfix_request::decoded;
 use dsn_postfix::{PostfixRequest, logged_as};
@@ -8,11 +9,11 @@ use std::alloc::{AllocGlobal, Global};
 use std::process::Abort;
 use std::test::Fail;
 
-/// `append-bounce.bin` of tests/postfix/, but for the original recipient, which an alias had.
+/// `append-bounce.bin` of tests/postfix/, with another original recipient, which an alias had.
 const APPEND: &[u8] =
     b"nrequest\00\0flags\00\0queue_id\06BB87A7E6A1\0original_recipient\0bob@example.org\0recipient\0no.bob@example.org\0offset\0727\0dsn_orig_rcpt\0rfc822;bob@example.org\0notify_flags\012\0status\05.1.1\0diag_type\0smtp\0diag_text\0550 5.1.1 <no.bob>: no such user here\0mta_type\0dns\0mta_mname\0127.0.0.1\0action\0failed\0reason\0host 127.0.0.1[127.0.0.1] said: 550 5.1.1 <no.bob>: no such user here (in reply to RCPT TO command)\0\0";
 
-/// What bounce(8) appends to its log for that.
+/// The record that bounce(8) appends to its log for that request.
 const LOGGED: &[u8] =
     b"\n<no.bob@example.org>: host 127.0.0.1[127.0.0.1] said: 550 5.1.1 <no.bob>: no such user here (in reply to RCPT TO command)\nrecipient=no.bob@example.org\noriginal_recipient=bob@example.org\noffset=727\ndsn_orig_rcpt=rfc822;bob@example.org\nnotify_flags=12\nstatus=5.1.1\naction=failed\ndiag_type=smtp\ndiag_text=550 5.1.1 <no.bob>: no such user here\nmta_type=dns\nmta_mname=127.0.0.1\nreason=host 127.0.0.1[127.0.0.1] said: 550 5.1.1 <no.bob>: no such user here (in reply to RCPT TO command)\n\n";
 
@@ -20,15 +21,16 @@ const LOGGED: &[u8] =
 const TO_BE_QUOTED: &[u8] =
     b"nrequest\00\0flags\00\0queue_id\06BB87A7E6A1\0original_recipient\0\0recipient\0no bob@example.org\0offset\0727\0dsn_orig_rcpt\0\0notify_flags\00\0status\05.1.1\0diag_type\0\0diag_text\0\0mta_type\0\0mta_mname\0\0action\0failed\0reason\0no\0\0";
 
-/// A log in which one write was cut short, and another came after it; and a last line that nothing ends.
+/// A log in which one write was cut short before another. Its last line has no end.
 const DAMAGED: &[u8] =
     b"\n<a@example.com>: no\nrecipient=a@example.com\nsta\n<b@example.com>: busy\nrecipient=b@example.com\nreason=busy\n\n\n<c@example.com>: n";
 
-/// What bounce(8) logs of a recipient whose transport is `error:5.7.1`, without words.
+/// The record that bounce(8) logs of a recipient whose transport is `error:5.7.1`, without words.
 const WITHOUT_WORDS: &[u8] =
     b"\n<bob@silent.example.org>: \nrecipient=bob@silent.example.org\noffset=669\nstatus=5.7.1\naction=failed\n\n";
 
-/// What an append becomes in a log of a service: the bytes of its record, or the field that keeps it from being logged.
+/// The bytes of the record that an append becomes in a log of a service, or the field that can't be
+/// logged.
 fn logged(
     alloc: Global,
     service: Service,
@@ -43,7 +45,7 @@ fn logged(
     }
 }
 
-/// An append becomes this in a log of a service.
+/// An append becomes this record in a log of a service, or can't be logged because of this field.
 fn expect_logged(
     rt: &(impl AllocGlobal + Abort),
     service: Service,
@@ -65,7 +67,8 @@ fn an_append_is_logged_as_bounce_logs_it(rt: HostRuntime) -> Result<(), Fail> {
     expect_logged(&rt, Service::Defer, TO_BE_QUOTED, unlogged)
 }
 
-/// The next entry of a log is a record of this recipient with this reason, a damaged one at this place, or none.
+/// The next entry of a log is a record of this recipient with this reason, or a damaged one at this
+/// place, or the log has ended.
 fn expect_entry(
     rt: &impl Abort,
     reader: &mut LogReader<'_>,

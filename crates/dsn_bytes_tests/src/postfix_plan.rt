@@ -1,4 +1,4 @@
-//! Which notices requests of Postfix have of logs that Postfix wrote.
+//! The notices that requests of Postfix call for, given logs that Postfix wrote.
 use crate::assert_same::same;
 use crate::postfix_request::{
     FLUSH_BOUNCE, FLUSH_DEFER, FLUSH_NULL, FLUSH_UTF8, NEWER_TLS, TRACE, VERP, WARN, decoded,
@@ -23,19 +23,20 @@ const DEFERRED: &[u8] =
 const RELAYED: &[u8] =
     b"\n<ok@trace.example.org>: delivery via 127.0.0.1[127.0.0.1]:2529: 250 2.0.0 queued as X1\nrecipient=ok@trace.example.org\noffset=717\ndsn_orig_rcpt=rfc822;orig@trace.example.org\nnotify_flags=10\nstatus=2.0.0\naction=relayed\ndiag_type=smtp\ndiag_text=250 2.0.0 queued as X1\nmta_type=dns\nmta_mname=127.0.0.1\nreason=delivery via 127.0.0.1[127.0.0.1]:2529: 250 2.0.0 queued as X1\n\n\n<second@trace.example.org>: delivery via 127.0.0.1[127.0.0.1]:2529: 250 2.0.0 queued as X1\nrecipient=second@trace.example.org\noffset=827\ndsn_orig_rcpt=rfc822;orig@trace.example.org\nnotify_flags=10\nstatus=2.0.0\naction=relayed\ndiag_type=smtp\ndiag_text=250 2.0.0 queued as X1\nmta_type=dns\nmta_mname=127.0.0.1\nreason=delivery via 127.0.0.1[127.0.0.1]:2529: 250 2.0.0 queued as X1\n\n";
 
-/// What a log has of a recipient whose sender wants to hear of success alone.
+/// A log of a recipient whose sender wants notices of success alone.
 const OF_SUCCESS: &[u8] =
     b"\n<c@example.org>: no\nrecipient=c@example.org\noffset=980\nnotify_flags=2\nstatus=5.1.1\naction=failed\nreason=no\n\n";
 
-/// Two later records of the first recipient of `DEFERRED`, of one outcome.
+/// Two later records of the first recipient of `DEFERRED`, both of one outcome.
 const LATER: &[u8] =
     b"\n<later-added@example.org>: full\nrecipient=later-added@example.org\noffset=1625\nnotify_flags=8\nstatus=4.2.2\naction=delayed\nreason=full\n\n\n<later-added@example.org>: full\nrecipient=later-added@example.org\noffset=1625\nnotify_flags=8\nstatus=4.2.2\naction=delayed\nreason=full\n\n";
 
-/// What local(8) logs of two commands of an alias: the second one worked.
+/// The log that local(8) writes of two commands of an alias, of which the second worked.
 const COMMANDS: &[u8] =
     b"\n<staff@example.org>: Command died with status 69: one\nrecipient=staff@example.org\noffset=717\nstatus=5.3.0\naction=failed\nreason=Command died with status 69: one\n\n\n<staff@example.org>: delivered to command: two\nrecipient=staff@example.org\noffset=717\nstatus=2.0.0\naction=delivered\nreason=delivered to command: two\n\n";
 
-/// What the queue file says of the one recipient of `DEFERRED` who wants to hear of failure, in this state.
+/// What the queue file says of the recipient of `DEFERRED` who wants notices of failure, in this
+/// state.
 fn queued_in(state: RecipientState) -> QueuedRecipient<'static> {
     QueuedRecipient {
         place: 889,
@@ -47,8 +48,8 @@ fn queued_in(state: RecipientState) -> QueuedRecipient<'static> {
     }
 }
 
-/// A request, the log, if there is one, what follows in the log, and the text of the notices, or why they
-/// can't be said.
+/// A service, a request, the log, if there is one, and what follows in the log. Then the text of
+/// the notices, or why they can't be made.
 type Plan = (
     Service,
     &'static [u8],
@@ -58,7 +59,7 @@ type Plan = (
 );
 
 const PLANS: [Plan; 11] = [
-    // those who want failures are told
+    // a notice reports to those who want failures
     (
         Service::Bounce,
         FLUSH_BOUNCE,
@@ -68,7 +69,8 @@ const PLANS: [Plan; 11] = [
             b"ann@example.com at ann@example.com B header\n- no-two@example.com 5.1.1 failed\n- no-one@example.org 5.1.1 failed\n",
         ),
     ),
-    // an outcome that is logged twice is told once, and another one of its recipient too
+    // an outcome that is logged twice is reported once, and another outcome of its recipient is
+    // reported too
     (
         Service::Defer,
         WARN,
@@ -88,7 +90,7 @@ const PLANS: [Plan; 11] = [
             b"ann@example.com at ann@example.com T header\n- ok@trace.example.org 2.0.0 relayed\n- second@trace.example.org 2.0.0 relayed\n",
         ),
     ),
-    // so are the commands of an alias
+    // the commands of an alias are reported
     (
         Service::Trace,
         TRACE,
@@ -98,7 +100,7 @@ const PLANS: [Plan; 11] = [
             b"ann@example.com at ann@example.com T header\n- staff@example.org 5.3.0 failed\n- staff@example.org 2.0.0 delivered\n",
         ),
     ),
-    // a return path of its own has one recipient
+    // each recipient has its own return path
     (
         Service::Bounce,
         VERP,
@@ -108,7 +110,7 @@ const PLANS: [Plan; 11] = [
             b"list@example.com at list+no-two=example.com@example.com B whole\n- no-two@example.com 5.1.1 failed\nlist@example.com at list+no-one=example.org@example.com B whole\n- no-one@example.org 5.1.1 failed\n",
         ),
     ),
-    // nobody is told, or it is said why
+    // there is no notice, or a reason why it can't be made
     (
         Service::Bounce,
         FLUSH_BOUNCE,
@@ -142,11 +144,11 @@ const PLANS: [Plan; 11] = [
     ),
 ];
 
-/// The text of an expired message's notice.
+/// The text of the notice of an expired message.
 const EXPIRED: &[u8] =
     b"ann@example.com at ann@example.com B whole\n- later@example.org 4.2.1 failed\n";
 
-/// What a notice gives back, as a word.
+/// The part of the message that a notice returns, as a word.
 fn word_of(returned: ReturnedPart) -> &'static [u8] {
     match returned {
         ReturnedPart::Header => b" header\n",
@@ -163,7 +165,8 @@ fn letter_of(service: Service) -> &'static [u8] {
     }
 }
 
-/// Writes to whom a notice goes, its address, its kind, and what it gives back.
+/// Writes the recipient of a notice, its address, its kind, and the part of the message that it
+/// returns.
 fn write_head(
     told: &mut Vec<u8>,
     (to, address): (&[u8], &[u8]),
@@ -206,8 +209,8 @@ fn write_notices(
     Ok(())
 }
 
-/// Writes the notices of a request's bytes, or says why they can't be said. (The fault is `NoMemory`
-/// also for bytes that are no request: no plan wants it.)
+/// Writes the notices of a request's bytes, or says why they can't be made. The fault is `NoMemory`
+/// also for bytes that aren't a request: no plan expects it.
 fn write_plan(
     alloc: Global,
     told: &mut Vec<u8>,
@@ -226,8 +229,8 @@ fn write_plan(
     }
 }
 
-/// The notices of a request, with the log that there is, and with the recipients that the queue file has,
-/// have this text, or can't be said, for this reason.
+/// The notices of a request have this text, or can't be made for this reason. They are planned with
+/// this log, if there is one, and with these recipients of the queue file.
 fn expect_told(
     rt: &(impl AllocGlobal + Abort),
     request: (Service, &[u8]),
@@ -242,7 +245,7 @@ fn expect_told(
     }
 }
 
-/// The notices of a plan's request have the plan's text, or can't be said, for its reason.
+/// The notices of a plan's request have the plan's text, or can't be made for its reason.
 fn expect_plan(rt: &(impl AllocGlobal + Abort), plan: &Plan) -> Result<(), Fail> {
     let (service, request, log, more, want) = *plan;
     match log {

@@ -1,4 +1,4 @@
-//! A queue file of Postfix says what a notice needs of its message and its recipients.
+//! What a queue file of Postfix says of a message and its recipients, as far as a notice needs it.
 use crate::assert_same::same;
 use dsn_postfix_files::{
     MessageFacts, QueueBroken, QueueReader, QueuedRecipient, RecipientState, header_of_message,
@@ -8,11 +8,11 @@ use std::alloc::AllocGlobal;
 use std::process::Abort;
 use std::test::Fail;
 
-/// Some records of `queue-mixed` of tests/postfix/, in their order, up to the last one.
+/// The first records of `queue-mixed` of tests/postfix/, up to the last one here.
 const QUEUED: &[u8] =
     b"T\x111795671363 200294A\x14envelope_id=QQ314159A\x0bret_flags=2S\x0fann@example.comA\x0fnotify_flags=12O\x12no-one@example.orgD\x12no-one@example.orgR\x11later@example.orgM\x00X\x00E\x00";
 
-/// The records of `queue-mixed` from its message on, but for those after it.
+/// The records of `queue-mixed` from its message on, without those after the message.
 const MESSAGE: &[u8] =
     b"M\x00N9Received: from client.example.com (localhost [127.0.0.1])N7\tby mx.example.net (Postfix) with ESMTP id 334A2A7C7AF;N&\tThu, 26 Nov 2026 05:36:03 +0000 (UTC)N\x1bFrom: Ann <ann@example.com>N\x1aTo: someone@mx.example.netN\x0eSubject: mixedN&Message-ID: <mixed@client.example.com>N+Date: Thu, 26 Nov 2026 05:36:03 +0000 (UTC)N\x00N\x06Hello.X\x00E\x00";
 
@@ -23,7 +23,8 @@ const TEXT: &[u8] =
 /// The place, the address, the flags and the state of a recipient.
 type Told<'a> = (u64, &'a [u8], u8, RecipientState);
 
-/// The next recipient of a queue file is this one, or there is none, or it can't be read on.
+/// The next recipient of a queue file is this one. Or there is no further one, or the file can't be
+/// read any further.
 fn expect_recipient(
     rt: &impl Abort,
     reader: &mut QueueReader<'_>,
@@ -56,7 +57,7 @@ fn a_queue_file_has_its_recipients(rt: HostRuntime) {
     expect_recipient(&rt, &mut cut, Err(QueueBroken));
 }
 
-/// What a queue file says of its message, and whether it can be read to its end.
+/// What a queue file says of its message, and whether the file can be read to its end.
 fn facts_of(file: &[u8]) -> (MessageFacts<'_>, bool) {
     match MessageFacts::read(file) {
         Ok(facts) => (facts, true),
@@ -64,8 +65,8 @@ fn facts_of(file: &[u8]) -> (MessageFacts<'_>, bool) {
     }
 }
 
-/// A queue file says this arrival, this sender, this envelope id, and these flags of what is given back, and can be read to its end, or
-/// can't.
+/// A queue file has the arrival, the sender, the envelope id and the return flags of Ann's message.
+/// Whether it can be read to its end is `whole`.
 fn expect_facts(rt: &impl Abort, file: &[u8], whole: bool) {
     let (facts, is_whole) = facts_of(file);
     let found = (
@@ -90,7 +91,7 @@ fn a_queue_file_says_what_its_message_is(rt: HostRuntime) {
     expect_facts(&rt, &QUEUED[..QUEUED.len() - 2], false);
 }
 
-/// A message has this text at its front, up to a limit.
+/// The text of a message, cut at a limit, is this one.
 fn expect_text(
     rt: &(impl AllocGlobal + Abort),
     message: &[u8],

@@ -1,4 +1,5 @@
-//! Requests that programs of Postfix 3.7.11 and 3.10.13 sent (tests/postfix/) are decoded, and written again as they were.
+//! Requests that programs of Postfix 3.7.11 and 3.10.13 sent (tests/postfix/) are decoded, and
+//! encoded again as they were.
 use crate::assert_same::same;
 use dsn_postfix::{PostfixRequest, RequestFault, decode_postfix_request, encode_postfix_request};
 use std::alloc::{AllocGlobal, Global};
@@ -97,17 +98,17 @@ const NEWER_VERP: &[u8] =
 const NEWER_TRACE: &[u8] =
     b"nrequest\05\0flags\00\0queue_name\0active\0queue_id\0B7B42A7C1C4\0encoding\0\0sendopts\00\0sender\0ann@example.com\0envelope_id\0\0ret_flags\01\0\0";
 
-/// What bytes ask, or why they are no request.
+/// The request in some bytes, or why they aren't one.
 pub(crate) fn decoded(bytes: &[u8]) -> Result<PostfixRequest<'_>, RequestFault> {
     decode_postfix_request(bytes)
 }
 
-/// The bytes of a request; none where there is no memory.
+/// The bytes of a request, or `None` if there is no memory.
 fn written(alloc: Global, request: &PostfixRequest<'_>) -> Option<Vec<u8>> {
     encode_postfix_request(alloc, request).ok()
 }
 
-/// What is asked, as a word, and what a message that is to be told of needs.
+/// The command of a request, as a word, and the send options that its message needs.
 fn asked(request: &PostfixRequest<'_>) -> (&'static str, u32) {
     let (word, notice) = match request {
         PostfixRequest::Append(_) => return ("append", 0),
@@ -120,7 +121,7 @@ fn asked(request: &PostfixRequest<'_>) -> (&'static str, u32) {
     (word, notice.send_options)
 }
 
-/// What bytes ask, and the bytes that are written of it; or why they are no request.
+/// The request in some bytes and its encoding, or why they aren't a request.
 fn read_and_written(
     alloc: Global,
     bytes: &[u8],
@@ -131,7 +132,8 @@ fn read_and_written(
     }
 }
 
-/// A request asks this, and is written again as it was sent; or it is none, for this reason.
+/// A request has this command and these send options, and is encoded as it was sent. Or the bytes
+/// are refused with this fault.
 fn expect_request(
     rt: &(impl Abort + AllocGlobal),
     bytes: &[u8],
@@ -142,12 +144,12 @@ fn expect_request(
     if let Some(written) = written {
         same(rt, written.as_slice(), bytes);
     } else {
-        // a request is written again
+        // each request is encoded again
         same(rt, want.is_err(), true);
     }
 }
 
-/// Requests of 3.7, what they ask, and what their messages need.
+/// Requests of 3.7, their commands, and their send options.
 const OLDER_SENT: [(&[u8], &str, u32); 14] = [
     (APPEND_BOUNCE, "append", 0),
     (APPEND_DEFER, "append", 0),
@@ -189,7 +191,7 @@ fn what_postfix_sent_is_read_and_written_again(rt: HostRuntime) {
     }
 }
 
-/// Bytes that are no request, and why.
+/// Bytes that are not a request, and why.
 const NO_REQUESTS: [(&[u8], RequestFault); 11] = [
     (b"", RequestFault::Unended),
     (b"\0", RequestFault::Missing),

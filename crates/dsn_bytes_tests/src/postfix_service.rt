@@ -1,4 +1,5 @@
-//! The service in front of Postfix: notices that are handed to a mail server, and requests that are carried out.
+//! The service in front of Postfix: notices that are submitted to a mail server, and requests that
+//! are carried out.
 mod clients;
 mod hand_ins;
 mod memory_system;

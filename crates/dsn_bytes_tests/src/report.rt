@@ -1,5 +1,5 @@
-//! Tests of notices and outboxes, over what `dsn_report` makes public. (Their whole texts are compared by
-//! tests/examples.py and tests/fuzz_batch.py.)
+//! Tests of notices and outboxes, over what `dsn_report` makes public. tests/examples.py and
+//! tests/fuzz_batch.py compare their whole texts.
 use crate::assert_same::same;
 use crate::device::{ALWAYS, held, writer};
 use crate::outcome::letter;
@@ -22,7 +22,7 @@ const DOTTED_END: &[u8] = b"\r\n\r\n..\r\n...a: b\r\nc: .\r\n\r\n--B.A.1.0000--\
 /// A poster to an outbox that fails once.
 type MemoryPoster = Poster<Plain<PieceWriter>>;
 
-/// Posts a letter: the number of the fault, or 0, and the letter that came back.
+/// Posts a letter. Returns the number of the fault, or 0, and the letter that came back.
 fn posted(poster: &mut MemoryPoster, letter: Letter) -> (u32, Option<Letter>) {
     match poster.post(letter) {
         Ok(()) => (0, None),
@@ -30,7 +30,8 @@ fn posted(poster: &mut MemoryPoster, letter: Letter) -> (u32, Option<Letter>) {
     }
 }
 
-/// Posts a letter, and once more the one that came back: the numbers of the two faults, or 0.
+/// Posts a letter, and once more the one that came back. Returns the numbers of the two faults, or
+/// 0.
 fn faults(poster: &mut MemoryPoster, letter: Letter) -> (u32, u32) {
     let (first, back) = posted(poster, letter);
     match back {
@@ -45,8 +46,8 @@ fn ended(poster: MemoryPoster) -> (bool, Vec<u8>) {
     (whole, held(outbox))
 }
 
-/// Posts a letter to an outbox that fails once, after `room` bytes: the letter has these faults. Returns
-/// what the outbox holds.
+/// Posts a letter to an outbox that fails once, after `room` bytes, and expects these faults.
+/// Returns the bytes that the outbox holds.
 fn held_after(
     rt: &(impl Abort + AllocGlobal),
     room: usize,
@@ -61,8 +62,8 @@ fn held_after(
     Ok(held)
 }
 
-/// Wherever the outbox fails once, what it took is a front of the whole outbox, though it works
-/// again: nothing reaches it after the fault.
+/// Wherever an outbox fails once, it holds a front of the whole outbox. Nothing reaches it after
+/// the fault, though it works again.
 #[test]
 fn nothing_after_the_fault(rt: HostRuntime) -> Result<(), Fail> {
     let whole = held_after(&rt, ALWAYS, (0, 0), true)?;

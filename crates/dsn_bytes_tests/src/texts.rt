@@ -1,7 +1,7 @@
 //! Texts for tests, made of pieces.
 use std::alloc::{AllocError, Global};
 
-/// Appends texts, one after another.
+/// Appends texts in their order.
 pub(crate) fn append_all(all: &mut Vec<u8>, texts: &[&[u8]]) -> Result<(), AllocError> {
     for text in texts {
         all.extend_from_slice(text)?;
@@ -9,7 +9,7 @@ pub(crate) fn append_all(all: &mut Vec<u8>, texts: &[&[u8]]) -> Result<(), Alloc
     Ok(())
 }
 
-/// Texts one after another.
+/// Texts in their order, as one text.
 pub(crate) fn joined(alloc: Global, texts: &[&[u8]]) -> Result<Vec<u8>, AllocError> {
     let mut all = Vec::new(alloc);
     append_all(&mut all, texts)?;

@@ -3,7 +3,6 @@ use Rattle.std.proofs.Common.{◌≡◌, ◌≢◌, ℕ, suc, ◌+◌, ◌<◌, 
 use Rattle.std.specs.Prelude.{IfErr, IfOk, IfSome, Option, Some, None, Result, Ok, Err, is_none, is_some, not}
 use Rattle.std.proofs.lemmas.Bool.{false≢true}
 use Rattle.std.specs.declared.thread.PromisedHandle.{PromisedHandle}
-use Rattle.std.proofs.KnownBytes.{Appends-nil}
 use Rattle.std.specs.List.{AllZip, flat_map, slice_index_or}
 use Rattle.std.proofs.lemmas.List.{append-nil, length-map}
 use Rattle.std.proofs.lemmas.List.Elements.{All-head, All-nil, All-tail}
@@ -26,21 +25,19 @@ use Rattle.dsn_outcome.specs.Request.{Request, Bye}
 use Rattle.dsn_outcome.specs.declared.answer.Answer.{Answer}
 use Rattle.dsn_outcome.specs.declared.answer.Reply.TheVariants.{Gone}
 use Rattle.dsn_crew.specs.post.LetterSink.{LetterSink, TakesLetter}
-use Rattle.dsn_device.proofs.ThroughoutLemmas.{stands_still}
 use Rattle.dsn_crew.specs.inner.Posting.{IsPosted}
-use Rattle.dsn_crew.specs.post.Posting.{IsUntouched}
+use Rattle.dsn_crew.specs.post.Outlet.{outbox_outlet}
 use Rattle.dsn_crew.specs.declared.lane.lane_gone.LaneGone.{LaneGone}
 use Rattle.dsn_crew.specs.declared.post.posted.Posted.{Posted}
 use Rattle.dsn_crew.proofs.post.LetterSinkLemmas.{handed_letters}
 use Rattle.dsn_crew.proofs.post.ParcelLemmas.{option_few}
-use Rattle.dsn_report.specs.Outgoing as outgoing
-use Rattle.dsn_report.specs.Outgoing.{Delivered, IsOutbox, Outgoing}
+use Rattle.dsn_report.specs.Outgoing.{Outgoing, begun as begun_outbox}
 use Rattle.dsn_crew.specs.agents.Agent.{Agent, LaneHalves, after_reply}
 use Rattle.dsn_crew.specs.desk.Close.{IsHeard}
 use Rattle.dsn_crew.specs.inner.Breach.{cause_of}
 use Rattle.dsn_crew.specs.inner.BrokenOff.{IsCollected}
 use Rattle.dsn_crew.specs.inner.Conclude.{Concludes, IsOfAgents, MayClose, account_of, broken_cause, fault_of}
-use Rattle.dsn_crew.specs.Crew.{Account, AreAgentAccounts, AreSealedAfter, CrewFault, HasAccount, HasFault, IsAccount, IsAccountAfter, IsAgentAccount, IsBrokenOff, IsCrewFault, IsCrewRun, IsFaultWith, IsHandedBack, IsPostedBy, MayCrashWithin, PostedBefore, StandsAtFault, none_posted}
+use Rattle.dsn_crew.specs.Crew.{Account, AreAgentAccounts, AreSealedAfter, CrewFault, HasAccount, HasFault, IsAccount, IsAccountAfter, IsAgentAccount, IsBrokenOff, IsCrewFault, IsCrewRun, IsFaultWith, IsHandedBack, IsUnbegun, MayCrashWithin, StandsAtFault}
 use Rattle.dsn_crew.specs.KeeperHistory.{AreNextOf, BeginsWith, StandsOrRefused}
 use Rattle.dsn_crew.specs.desk.Desk.{Desk, IsDesk, IsRun, all_gone, history, letter_kept, missing as missing_more, agent_lanes_of}
 use Rattle.dsn_crew.specs.inner.Desk.{IsStopped}
@@ -61,6 +58,7 @@ use Rattle.dsn_crew.specs.declared.crew_cause.CrewCause.TheVariants as causes
 use Rattle.dsn_crew.specs.declared.desk.desk_fault.DeskFault.{DeskFault}
 use Rattle.dsn_crew.specs.declared.gathered.Gathered.{Gathered}
 use Rattle.dsn_crew.specs.declared.agents.port.Port.{Ghosts as Port}
+use Rattle.dsn_crew.specs.declared.post.outlet.Outlet.{Ghosts as Outlet}
 use Rattle.dsn_crew.specs.inner.PortEnd.{PortEnd}
 use Rattle.dsn_crew.specs.declared.start_serving.Serves.{Serves}
 use Rattle.dsn_crew.proofs.agents.ServeLemmas.{numbered-length}
@@ -193,9 +191,9 @@ stopped_for keeper desk (breaches.Unheard unheard) is = absurd is
 stopped_for keeper desk breaches.Refused is = absurd is
 stopped_for keeper desk breaches.PortCount is = absurd is
 
-module _ {B W : Type 0} (keeper : Keeper B) (drain : Drain W) (from : PostedBefore W) (poster : Outgoing W) (by : IsPostedBy drain from poster) (sent : List Letter) (posted : Posted W) (is : IsPosted drain poster 16 sent posted) (desk : Desk B) (kept : IsDesk keeper desk) (agents : ℕ) (lines : length desk.answers ≡ agents) where
+module _ {B O L : Type 0} (keeper : Keeper B) (outlet : Outlet O L) (start : O) (first : List Letter) (given : O) (by : outlet.posted start first given) (sent : List Letter) (posted : Posted L) (is : IsPosted outlet given (outlet.room given) sent posted) (desk : Desk B) (kept : IsDesk keeper desk) (agents : ℕ) (lines : length desk.answers ≡ agents) where
   -- what is left of a run in which these letters were sealed
-  abbrev broken_off : (cause : CrewCause) (book : B) (held : List Letter) → length held ≤ 1 → (sealed : List Letter) → sealed ≡ sent ++ held → IsBrokenOff drain from sealed agents (fault_of cause held book desk posted)
+  abbrev broken_off : (cause : CrewCause) (book : B) (held : List Letter) → length held ≤ 1 → (sealed : List Letter) → sealed ≡ sent ++ held → IsBrokenOff outlet start first given sealed agents (fault_of cause held book desk posted)
   broken_off cause book held one sealed sealed_is = record {
     only = subst (λ (k : ℕ). All (λ (request : Request). request.agent < k) desk.requests.taken) lines kept.mine;
     numbered = kept.numbered;
@@ -210,62 +208,64 @@ module _ {B W : Type 0} (keeper : Keeper B) (drain : Drain W) (from : PostedBefo
     whole = posted.end.whole;
     unsent = posted.end.unsent;
     unsent_are = refl;
-    outbox = is.outbox from.host from.start from.first by.delivered;
+    outbox = is.ended start first by;
     handed_back = refl;
   }
 
   -- a collector that failed, for this reason
-  stopped_is : (cause : CrewCause) (book : B) (held : Option Letter) → IsStopCause desk cause → IsFaultWith drain from (sent ++ letters_in held) agents (fault_of cause (letters_in held) book desk posted) cause
+  stopped_is : (cause : CrewCause) (book : B) (held : Option Letter) → IsStopCause desk cause → IsFaultWith outlet start first given (sent ++ letters_in held) agents (fault_of cause (letters_in held) book desk posted) cause
   stopped_is cause book held (inl lost) =
-      subst (λ (it : CrewCause). IsFaultWith drain from (sent ++ letters_in held) agents (fault_of it (letters_in held) book desk posted) it) (sym lost.0) (broken_off causes.Lost book (letters_in held) (option_few held) (sent ++ letters_in held) refl)
+      subst (λ (it : CrewCause). IsFaultWith outlet start first given (sent ++ letters_in held) agents (fault_of it (letters_in held) book desk posted) it) (sym lost.0) (broken_off causes.Lost book (letters_in held) (option_few held) (sent ++ letters_in held) refl)
   stopped_is cause book held (inr unkept) =
-      subst (λ (it : CrewCause). IsFaultWith drain from (sent ++ letters_in held) agents (fault_of it (letters_in held) book desk posted) it) (sym unkept.1) (broken_off (causes.Unkept unkept.0) book (letters_in held) (option_few held) (sent ++ letters_in held) refl)
+      subst (λ (it : CrewCause). IsFaultWith outlet start first given (sent ++ letters_in held) agents (fault_of it (letters_in held) book desk posted) it) (sym unkept.1) (broken_off (causes.Unkept unkept.0) book (letters_in held) (option_few held) (sent ++ letters_in held) refl)
 
-  pub failed_fault : (fault : CrewFault W B) (breach : Breach) (book : B) (held : Option Letter) → IsStopped keeper desk breach → fault ≡ fault_of (cause_of breach) (letters_in held) book desk posted → IsFaultWith drain from (sent ++ letters_in held) agents fault fault.cause
+  pub failed_fault : (fault : CrewFault L B) (breach : Breach) (book : B) (held : Option Letter) → IsStopped keeper desk breach → fault ≡ fault_of (cause_of breach) (letters_in held) book desk posted → IsFaultWith outlet start first given (sent ++ letters_in held) agents fault fault.cause
   failed_fault fault breach book held is fault_is =
-      subst (λ (it : CrewFault W B). IsFaultWith drain from (sent ++ letters_in held) agents it it.cause) (sym fault_is) (stopped_is (cause_of breach) book held (stopped_for keeper desk breach is))
+      subst (λ (it : CrewFault L B). IsFaultWith outlet start first given (sent ++ letters_in held) agents it it.cause) (sym fault_is) (stopped_is (cause_of breach) book held (stopped_for keeper desk breach is))
 
   -- a collector that ended well, in a run that was broken off
-  broken_is : (cause : CrewCause) → (cause ≡ causes.Lost) ⊎ ((cause ≡ causes.Refused) × (posted.lost ≡ None)) → desk.behind ≡ [] → IsFaultWith drain from sent agents (fault_of cause [] desk.book desk posted) cause
-  broken_is cause (inl lost) none = subst (λ (it : CrewCause). IsFaultWith drain from sent agents (fault_of it [] desk.book desk posted) it) (sym lost) (broken_off causes.Lost desk.book [] (omega arith) sent (sym (append-nil sent)))
+  broken_is : (cause : CrewCause) → (cause ≡ causes.Lost) ⊎ ((cause ≡ causes.Refused) × (posted.lost ≡ None)) → desk.behind ≡ [] → IsFaultWith outlet start first given sent agents (fault_of cause [] desk.book desk posted) cause
+  broken_is cause (inl lost) none = subst (λ (it : CrewCause). IsFaultWith outlet start first given sent agents (fault_of it [] desk.book desk posted) it) (sym lost) (broken_off causes.Lost desk.book [] (omega arith) sent (sym (append-nil sent)))
   broken_is cause (inr refused) none =
-      subst (λ (it : CrewCause). IsFaultWith drain from sent agents (fault_of it [] desk.book desk posted) it) (sym refused.0)
+      subst (λ (it : CrewCause). IsFaultWith outlet start first given sent agents (fault_of it [] desk.book desk posted) it) (sym refused.0)
       (inr (broken_off causes.Refused desk.book [] (omega arith) sent (sym (append-nil sent)), (is.whole.0 refused.1).1, none))
 
-  pub broken_fault : (fault : CrewFault W B) (cause : CrewCause) → (cause ≡ causes.Lost) ⊎ ((cause ≡ causes.Refused) × (posted.lost ≡ None)) → fault ≡ fault_of cause [] desk.book desk posted → desk.behind ≡ [] → IsFaultWith drain from sent agents fault fault.cause
+  pub broken_fault : (fault : CrewFault L B) (cause : CrewCause) → (cause ≡ causes.Lost) ⊎ ((cause ≡ causes.Refused) × (posted.lost ≡ None)) → fault ≡ fault_of cause [] desk.book desk posted → desk.behind ≡ [] → IsFaultWith outlet start first given sent agents fault fault.cause
   broken_fault fault cause why fault_is none =
-      subst (λ (it : CrewFault W B). IsFaultWith drain from sent agents it it.cause) (sym fault_is) (broken_is cause why none)
+      subst (λ (it : CrewFault L B). IsFaultWith outlet start first given sent agents it it.cause) (sym fault_is) (broken_is cause why none)
 
 -- a run that never began, with what it was given
 abbrev pub never_begun_with : {B W : Type 0} → CrewCause → W → B → CrewFault W B
 never_begun_with cause outbox book = record { cause = cause; outbox = outbox; unsent = []; book = Some book; taken = []; behind = [] }
-
--- an outbox that is as it was is untouched
-untouched : {W : Type 0} (drain : Drain W) (start end : W) → start ≡ end → IsUntouched drain start end
-untouched drain start end same = subst (IsUntouched drain start) same (record { nothing = Appends-nil (drain.contents start); failures = refl; flushes = refl; marked = refl; no_moment = stands_still })
 
 -- the keeper that a run was given models what the run did, if it never began
 given_back : {B : Type 0} (keeper : Keeper B) (before : List Exchange) (book : B) (cause : CrewCause) → (stands : StandsAtFault keeper [] before cause book) → IsHandedBack keeper (keeper.rules book) [] (history_under (keeper.rules book) before []) cause book
 given_back keeper before book cause stands = record { rules_are = refl; stands = subst (λ (t : List Exchange). StandsAtFault keeper [] t cause book) (sym (under-none (keeper.rules book) before)) stands }
 
 -- a run that never began sealed nothing, and returns the keeper that it was given
-sealed_none : {B W : Type 0} (keeper : Keeper B) (drain : Drain W) (from : PostedBefore W) (before : List Exchange) (agents : ℕ) (book : B) (outbox : W) (cause : CrewCause) → StandsAtFault keeper [] before cause book → IsFaultWith drain from [] agents (never_begun_with cause outbox book) cause
-    → HasFault keeper drain from (keeper.rules book) before agents (never_begun_with cause outbox book)
-sealed_none keeper drain from before agents book outbox cause stands is = record {
+never_sealed : {B O L : Type 0} (keeper : Keeper B) (outlet : Outlet O L) (start : O) (first : List Letter) (given : O) (before : List Exchange) (agents : ℕ) (book : B) (left : L) (cause : CrewCause) → StandsAtFault keeper [] before cause book → IsFaultWith outlet start first given [] agents (never_begun_with cause left book) cause
+    → HasFault keeper outlet start first given (keeper.rules book) before agents (never_begun_with cause left book)
+never_sealed keeper outlet start first given before agents book left cause stands is = record {
   sealed = [];
   are = record { are = none_taken (keeper.rules book) before [] refl ∙ sym (append-nil (sealed_letters before)) };
   is = is;
   book = given_back keeper before book cause stands;
 }
 
-pub never_counted : {B W : Type 0} (keeper : Keeper B) (drain : Drain W) (from : PostedBefore W) (before : List Exchange) (agents : ℕ) (book : B) (outbox : W) (fault : CrewFault W B) → keeper.has book before [] → from.outbox ≡ outbox → fault ≡ never_begun_with causes.PortCount outbox book → HasFault keeper drain from (keeper.rules book) before agents fault
-never_counted keeper drain from before agents book outbox fault has same is =
-    subst (HasFault keeper drain from (keeper.rules book) before agents) (sym is) (sealed_none keeper drain from before agents book outbox causes.PortCount has (sym same, refl, refl, refl))
+unbegun : {B O L : Type 0} (outlet : Outlet O L) (given : O) (cause : CrewCause) (left : L) (book : B) → outlet.untouched given left → IsUnbegun outlet given (never_begun_with cause left book)
+unbegun outlet given cause left book is = record { taken = refl; behind = refl; unsent = refl; outbox = is }
 
-pub never_begun : {B W : Type 0} (keeper : Keeper B) (drain : Drain W) (from : PostedBefore W) (before : List Exchange) (agents : ℕ) (book : B) (outbox : W) (fault : CrewFault W B) → keeper.has book before [] → from.outbox ≡ outbox → fault ≡ never_begun_with causes.Refused outbox book → HasFault keeper drain from (keeper.rules book) before agents fault
-never_begun keeper drain from before agents book outbox fault has same is =
-    subst (HasFault keeper drain from (keeper.rules book) before agents) (sym is)
-    (sealed_none keeper drain from before agents book outbox causes.Refused has (inl (record { taken = refl; behind = refl; unsent = refl; outbox = untouched drain from.outbox outbox same })))
+pub never_counted : {B O L : Type 0} (keeper : Keeper B) (outlet : Outlet O L) (start : O) (first : List Letter) (given : O) (before : List Exchange) (agents : ℕ) (book : B) (left : L) (fault : CrewFault L B) → keeper.has book before [] → outlet.untouched given left → fault ≡ never_begun_with causes.PortCount left book
+    → HasFault keeper outlet start first given (keeper.rules book) before agents fault
+never_counted keeper outlet start first given before agents book left fault has back is =
+    subst (HasFault keeper outlet start first given (keeper.rules book) before agents) (sym is)
+    (never_sealed keeper outlet start first given before agents book left causes.PortCount has (unbegun outlet given causes.PortCount left book back))
+
+pub never_begun : {B O L : Type 0} (keeper : Keeper B) (outlet : Outlet O L) (start : O) (first : List Letter) (given : O) (before : List Exchange) (agents : ℕ) (book : B) (left : L) (fault : CrewFault L B) → keeper.has book before [] → outlet.untouched given left → fault ≡ never_begun_with causes.Refused left book
+    → HasFault keeper outlet start first given (keeper.rules book) before agents fault
+never_begun keeper outlet start first given before agents book left fault has back is =
+    subst (HasFault keeper outlet start first given (keeper.rules book) before agents) (sym is)
+    (never_sealed keeper outlet start first given before agents book left causes.Refused has (inl (unbegun outlet given causes.Refused left book back)))
 
 -- and a crash leaves what it might have left before
 never_crashed : {B W : Type 0} (keeper : Keeper B) (before : List Exchange) (agents : ℕ) (cause : CrewCause) (outbox : W) (book : B) (fault : CrewFault W B) → LeavesKept keeper → keeper.has book before [] → fault ≡ never_begun_with cause outbox book → IfSome fault.book (MayCrashWithin keeper book (keeper.rules book) before agents fault.taken fault.behind)
@@ -281,22 +281,18 @@ never_more : {B W : Type 0} (keeper : Keeper B) (cause : CrewCause) (outbox : W)
 never_more keeper cause outbox book fault is = subst (λ (it : CrewFault _ _). IfSome it.book (λ left. keeper.sealed left ≤ keeper.sealed book + length it.taken)) (sym is) (omega arith)
 
 -- the run that it was
-pub never_ran : {B P S W : Type 0} (keeper : Keeper B) (port : Port P S) (drain : Drain W) (book : B) (ports : List P) (outgoing : Outgoing W) (cause : CrewCause) (outbox : W) (fault : CrewFault W B) → LeavesKept keeper → fault ≡ never_begun_with cause outbox book
-    → ((from : PostedBefore W) → IsPostedBy drain from outgoing → (before : List Exchange) → BeginsWith keeper book before → HasFault keeper drain from (keeper.rules book) before (length ports) fault)
-    → IsCrewRun keeper port drain book ports outgoing (Err fault)
-never_ran keeper port drain book ports outgoing cause outbox fault law is has = record {
-  account = λ from by before with_it. tt;
+pub never_ran : {B P S O L : Type 0} (keeper : Keeper B) (port : Port P S) (outlet : Outlet O L) (book : B) (ports : List P) (given : O) (cause : CrewCause) (left : L) (fault : CrewFault L B) → LeavesKept keeper → fault ≡ never_begun_with cause left book
+    → ((start : O) (first : List Letter) → outlet.posted start first given → (before : List Exchange) → BeginsWith keeper book before → HasFault keeper outlet start first given (keeper.rules book) before (length ports) fault)
+    → IsCrewRun keeper port outlet book ports given (Err fault)
+never_ran keeper port outlet book ports given cause left fault law is has = record {
+  account = λ start first by before with_it. tt;
   sealed = tt;
   fault = has;
-  left = never_more keeper cause outbox book fault is;
+  left = never_more keeper cause left book fault is;
   crash = λ before with_it. tt;
-  crash_at_fault = λ before with_it. never_crashed keeper before (length ports) cause outbox book fault law with_it.0 is;
+  crash_at_fault = λ before with_it. never_crashed keeper before (length ports) cause left book fault law with_it.0 is;
   handed_back = ap (λ (it : CrewFault _ _). is_some it.book) is;
 }
-
--- a poster that posted nothing
-pub nothing_posted : {W : Type 0} (drain : Drain W) (host : List ℕ) (start : W) (poster : Outgoing W) → Delivered drain host start poster [] → poster ≡ outgoing.begun host start → IsPostedBy drain (none_posted host start) poster
-nothing_posted drain host start poster delivered is = record { delivered = delivered; outbox = sym (ap (λ (out : Outgoing _). out.poster.outbox) is) }
 
 -- ---- a book alone
 
@@ -305,18 +301,19 @@ all_of_none : (history : List Exchange) (letters : List Letter) → AreSealedAft
 unfolding letters_after
 all_of_none history letters sealed = sym sealed.are
 
-pub book_account : {P S W : Type 0} (port : Port P S) (drain : Drain W) (host : List ℕ) (limits of_book : Limits) (ports : List P) (start : W) (result : Result (Account W Book) (CrewFault W Book)) → of_book ≡ limits → IfOk result (HasAccount book_keeper port drain (none_posted host start) (releasing_none of_book) [] ports) → IfOk result (IsAccount port drain host limits ports start)
+pub book_account : {P S W : Type 0} (port : Port P S) (drain : Drain W) (host : List ℕ) (limits of_book : Limits) (ports : List P) (start : W) (result : Result (Account W Book) (CrewFault W Book)) → of_book ≡ limits → IfOk result (HasAccount book_keeper port (outbox_outlet drain) (begun_outbox host start) [] (releasing_none of_book) [] ports) → IfOk result (IsAccount port drain host limits ports start)
 book_account port drain host limits of_book ports start (Err fault) same has = tt
 book_account port drain host limits of_book ports start (Ok account) same has =
     subst (λ (l : Limits). IsAccount port drain host l ports start account) same
-    (subst (λ (letters : List Letter). IsAccountAfter book_keeper port drain (none_posted host start) (releasing_none of_book) [] letters ports account) (all_of_none _ _ has.sealed) has.is)
+    (subst (λ (letters : List Letter). IsAccountAfter book_keeper port (outbox_outlet drain) (begun_outbox host start) [] (releasing_none of_book) [] letters ports account) (all_of_none _ _ has.sealed) has.is)
 
-pub book_fault : {W : Type 0} (drain : Drain W) (host : List ℕ) (limits of_book : Limits) (agents : ℕ) (start : W) (result : Result (Account W Book) (CrewFault W Book)) → of_book ≡ limits → IfErr result (HasFault book_keeper drain (none_posted host start) (releasing_none of_book) [] agents)
+pub book_fault : {W : Type 0} (drain : Drain W) (host : List ℕ) (limits of_book : Limits) (agents : ℕ) (start : W) (given : Outgoing W) (result : Result (Account W Book) (CrewFault W Book)) → given ≡ begun_outbox host start → of_book ≡ limits → IfErr result (HasFault book_keeper (outbox_outlet drain) (begun_outbox host start) [] given (releasing_none of_book) [] agents)
     → IfErr result (λ fault. IsCrewFault drain host limits agents start fault fault.cause)
-book_fault drain host limits of_book agents start (Ok account) same has = tt
-book_fault drain host limits of_book agents start (Err fault) same has =
+book_fault drain host limits of_book agents start given (Ok account) new same has = tt
+book_fault drain host limits of_book agents start given (Err fault) new same has =
+    let is = subst (λ (it : Outgoing _). IsFaultWith (outbox_outlet drain) (begun_outbox host start) [] it has.sealed agents fault fault.cause) new has.is in
     subst (λ (l : Limits). IsCrewFault drain host l agents start fault fault.cause) same
-    (subst (λ (letters : List Letter). IsFaultWith drain (none_posted host start) letters agents fault fault.cause) (all_of_none _ _ has.are) has.is)
+    (subst (λ (letters : List Letter). IsFaultWith (outbox_outlet drain) (begun_outbox host start) [] (begun_outbox host start) letters agents fault fault.cause) (all_of_none _ _ has.are) is)
 
 -- a keeper that refuses nothing, as a book does
 module _ {B : Type 0} (keeper : Keeper B) (refuses_none : (was : B) (requests : List Request) (why : NotKept) (left : B) → keeper.refuses was requests why left → ⊥) where
@@ -324,10 +321,10 @@ module _ {B : Type 0} (keeper : Keeper B) (refuses_none : (was : B) (requests : 
   unkept_never rules behind exchanges why None some handed = absurd (false≢true some)
   unkept_never rules behind exchanges why (Some book) some handed = refuses_none handed.stands.0 behind why book handed.stands.2
 
-  pub kept_always : {W : Type 0} (drain : Drain W) (host : List ℕ) (rules : Rules) (agents : ℕ) (start : W) (result : Result (Account W B) (CrewFault W B)) → IfErr result (HasFault keeper drain (none_posted host start) rules [] agents) → IfErr result (λ fault. (why : NotKept) → fault.cause ≢ causes.Unkept why)
-  kept_always drain host rules agents start (Ok account) has = tt
-  kept_always drain host rules agents start (Err fault) has = λ why same.
-      let broken : IsBrokenOff drain (none_posted host start) has.sealed agents fault = subst (IsFaultWith drain (none_posted host start) has.sealed agents fault) same has.is in
+  pub kept_always : {O L : Type 0} (outlet : Outlet O L) (start : O) (first : List Letter) (given : O) (rules : Rules) (agents : ℕ) (result : Result (Account L B) (CrewFault L B)) → IfErr result (HasFault keeper outlet start first given rules [] agents) → IfErr result (λ fault. (why : NotKept) → fault.cause ≢ causes.Unkept why)
+  kept_always outlet start first given rules agents (Ok account) has = tt
+  kept_always outlet start first given rules agents (Err fault) has = λ why same.
+      let broken : IsBrokenOff outlet start first given has.sealed agents fault = subst (IsFaultWith outlet start first given has.sealed agents fault) same has.is in
       unkept_never rules fault.behind (history_under rules [] fault.taken) why fault.book broken.handed_back
       (subst (λ (cause : CrewCause). IfSome fault.book (IsHandedBack keeper rules fault.behind (history_under rules [] fault.taken) cause)) same has.book)
 
@@ -342,21 +339,21 @@ left_book : (limits : Limits) (behind : List Request) (exchanges : List Exchange
 left_book limits behind exchanges cause None handed = tt
 left_book limits behind exchanges cause (Some book) handed = (ap (λ (rules : Rules). rules.limits) handed.rules_are, stood_book (releasing_none limits) behind exchanges cause book handed)
 
-pub book_left : {W : Type 0} (drain : Drain W) (host : List ℕ) (limits of_book : Limits) (agents : ℕ) (start : W) (result : Result (Account W Book) (CrewFault W Book)) → of_book ≡ limits → IfErr result (HasFault book_keeper drain (none_posted host start) (releasing_none of_book) [] agents)
+pub book_left : {W : Type 0} (drain : Drain W) (host : List ℕ) (limits of_book : Limits) (agents : ℕ) (start : W) (given : Outgoing W) (result : Result (Account W Book) (CrewFault W Book)) → of_book ≡ limits → IfErr result (HasFault book_keeper (outbox_outlet drain) (begun_outbox host start) [] given (releasing_none of_book) [] agents)
     → IfErr result (λ fault. IfSome fault.book (λ book. (book.limits ≡ limits) × Represents book (history_of limits fault.taken)))
-book_left drain host limits of_book agents start (Ok account) same has = tt
-book_left drain host limits of_book agents start (Err fault) same has =
+book_left drain host limits of_book agents start given (Ok account) same has = tt
+book_left drain host limits of_book agents start given (Err fault) same has =
     subst (λ (l : Limits). IfSome fault.book (λ book. (book.limits ≡ l) × Represents book (history_of l fault.taken))) same
     (left_book of_book fault.behind (history_under (releasing_none of_book) [] fault.taken) fault.cause fault.book has.book)
 
 -- ---- why a run was broken off
 
--- What broke a run off whose collector ended well: a lane was lost, or else the thread of an agent could
--- not be made, and all letters came to the poster
+-- What broke off a run whose collector ended well. A lane was lost; or the thread of an agent could
+-- not be made, and all letters reached the poster
 abbrev pub IsBrokenFor : {B W : Type 0} → Desk B → Posted W → CrewFault W B → CrewCause → Type 0
 IsBrokenFor desk posted fault cause = (fault ≡ fault_of cause [] desk.book desk posted) × ((cause ≡ causes.Lost) ⊎ ((cause ≡ causes.Refused) × (posted.lost ≡ None)))
 
--- what came of the agents shows it, whatever the collector came to
+-- the agents' results show it, whatever the collector's result is
 gathered_for : {B : Type 0} (keeper : Keeper B) (ends : List (Option PortEnd)) (breach : Breach) → IsGathered ends (Err breach) → IsOfAgents keeper breach × ((cause_of breach ≡ causes.Lost) ⊎ (cause_of breach ≡ causes.Refused))
 gathered_for keeper ends (breaches.Unheard unheard) is = (λ desk. tt, inl refl)
 gathered_for keeper ends breaches.Refused is = (λ desk. tt, inr refl)
@@ -520,7 +517,7 @@ module _ {B P S : Type 0} (keeper : Keeper B) (port : Port P S) (book : B) (port
         crash_at_fault (Ok new) all posted (Err fault) with_it has is faulted = crash_left _ _ new new.book posted fault (broken_for keeper ends new all posted fault is faulted).1.0 refl with_it has.0.places (has.0.start ∙ start_is) has.2
         crash_at_fault (Err broken) all posted (Err fault) with_it has is faulted = crash_left _ _ broken.desk.value broken.book posted fault faulted has.5 with_it has.1.places (has.1.start ∙ start_is) has.3
 
-        module _ {W : Type 0} (drain : Drain W) (from : PostedBefore W) (poster : Outgoing W) (by : IsPostedBy drain from poster) (posted : Posted W) (post : IsPosted drain poster 16 after.letters posted) where
+        module _ {O L : Type 0} (outlet : Outlet O L) (start : O) (first : List Letter) (given : O) (by : outlet.posted start first given) (posted : Posted L) (post : IsPosted outlet given (outlet.room given) after.letters posted) where
           module _ (new : Desk B) {result : Result (Unit {0}) DeskFault} (run : IsRun keeper before TakesLetter begun new sink after result) where
             rules_are : keeper.rules new.start ≡ rules
             rules_are = ap keeper.rules (run.start ∙ start_is)
@@ -540,7 +537,7 @@ module _ {B P S : Type 0} (keeper : Keeper B) (port : Port P S) (book : B) (port
           all_sealed new run = subst (AreSealedAfter before (history_under rules before new.requests.taken)) (append-nil after.letters) (sealed_are new run)
 
           account_at : (new : Desk B) (lines : List AgentLine) (crew : List LaneHalves) → IsRun keeper before TakesLetter begun new sink after (Ok tt) → IsDesk keeper new → AreEnded ends lines crew → posted.lost ≡ None → All (IsHeard keeper before new) crew → keeper.has new.book (history keeper before new) []
-              → HasAccount keeper port drain from rules before ports (account_of lines crew new posted)
+              → HasAccount keeper port outlet start first rules before ports (account_of lines crew new posted)
           account_at new lines crew run kept ended all heard has =
               let ruled = rules_are new run in record {
                 letters = after.letters;
@@ -551,42 +548,42 @@ module _ {B P S : Type 0} (keeper : Keeper B) (port : Port P S) (book : B) (port
                   book_rules = kept.rules ∙ ruled;
                   book = subst (λ (r : Rules). keeper.has new.book (history_under r before new.requests.taken) []) ruled has;
                   count = post.count ∙ ap length (post.whole.0 all).1;
-                  outbox = subst (λ (ls : List Letter). IsOutbox drain from.host from.start posted.end.outbox posted.end.whole posted.end.unsent (from.first ++ ls)) (post.whole.0 all).1 (post.outbox from.host from.start from.first by.delivered);
+                  outbox = subst (λ (ls : List Letter). outlet.ended start (first ++ ls) posted.end) (post.whole.0 all).1 (post.ended start first by);
                 };
               }
 
           new_begins : (new : Desk B) → IsRun keeper before TakesLetter begun new sink after (Ok tt) → BeginsWith keeper book before → BeginsWith keeper new.start before
           new_begins new run is = subst (λ (b : B). BeginsWith keeper b before) (sym (run.start ∙ start_is)) is
 
-          account_is : BeginsWith keeper book before → (collected : Result (Desk B) (BrokenOff B)) (all : Result Gathered Breach) (result : Result (Account W B) (CrewFault W B)) → IsCollected keeper before begun sink after collected → IsGathered ends all → Concludes keeper collected all posted result → IfOk result (HasAccount keeper port drain from rules before ports)
+          account_is : BeginsWith keeper book before → (collected : Result (Desk B) (BrokenOff B)) (all : Result Gathered Breach) (result : Result (Account L B) (CrewFault L B)) → IsCollected keeper before begun sink after collected → IsGathered ends all → Concludes keeper collected all posted result → IfOk result (HasAccount keeper port outlet start first rules before ports)
           account_is with_it collected all (Err fault) has is ends_so = tt
           account_is with_it (Ok new) (Ok gathered) (Ok account) has is closed =
-              subst (HasAccount keeper port drain from rules before ports) (sym closed.account_is)
-              (account_at new gathered.lines.items gathered.agents.items has.0 has.2 is closed.all (closed.heard before (new_begins new has.0 with_it)) (subst (λ (it : Account W B). keeper.has it.book (history keeper before new) []) closed.account_is (closed.has before (new_begins new has.0 with_it))))
+              subst (HasAccount keeper port outlet start first rules before ports) (sym closed.account_is)
+              (account_at new gathered.lines.items gathered.agents.items has.0 has.2 is closed.all (closed.heard before (new_begins new has.0 with_it)) (subst (λ (it : Account L B). keeper.has it.book (history keeper before new) []) closed.account_is (closed.has before (new_begins new has.0 with_it))))
           account_is with_it (Ok new) (Err breach) (Ok account) has is closed = absurd closed
           account_is with_it (Err broken) all (Ok account) has is closed = absurd closed
 
           -- a fault whose requests are those of the collector
-          has_fault : (cause : CrewCause) (held : List Letter) (new : Desk B) (left : B) (fault : CrewFault W B) (letters : List Letter) → fault ≡ fault_of cause held left new posted → AreSealedAfter before (history_under rules before new.requests.taken) letters → IsHandedBack keeper rules new.behind (history_under rules before new.requests.taken) cause left → IsFaultWith drain from letters (length ports) fault fault.cause
-              → HasFault keeper drain from rules before (length ports) fault
+          has_fault : (cause : CrewCause) (held : List Letter) (new : Desk B) (left : B) (fault : CrewFault L B) (letters : List Letter) → fault ≡ fault_of cause held left new posted → AreSealedAfter before (history_under rules before new.requests.taken) letters → IsHandedBack keeper rules new.behind (history_under rules before new.requests.taken) cause left → IsFaultWith outlet start first given letters (length ports) fault fault.cause
+              → HasFault keeper outlet start first given rules before (length ports) fault
           has_fault cause held new left fault letters fault_is sealed handed is = record {
             sealed = letters;
-            are = subst (λ (q : List Request). AreSealedAfter before (history_under rules before q) letters) (sym (ap (λ (it : CrewFault W B). it.taken) fault_is)) sealed;
+            are = subst (λ (q : List Request). AreSealedAfter before (history_under rules before q) letters) (sym (ap (λ (it : CrewFault L B). it.taken) fault_is)) sealed;
             is = is;
-            book = subst (λ (it : CrewFault W B). IfSome it.book (IsHandedBack keeper rules it.behind (history_under rules before it.taken) it.cause)) (sym fault_is) handed;
+            book = subst (λ (it : CrewFault L B). IfSome it.book (IsHandedBack keeper rules it.behind (history_under rules before it.taken) it.cause)) (sym fault_is) handed;
           }
 
           module _ (with_it : BeginsWith keeper book before) where
-            module _ (new : Desk B) (fault : CrewFault W B) (run : IsRun keeper before TakesLetter begun new sink after (Ok tt)) (gone : all_gone new ≡ true) (kept : IsDesk keeper new) where
+            module _ (new : Desk B) (fault : CrewFault L B) (run : IsRun keeper before TakesLetter begun new sink after (Ok tt)) (gone : all_gone new ≡ true) (kept : IsDesk keeper new) where
               left_has : keeper.has new.book (history_under rules before new.requests.taken) new.behind
               left_has =
                   subst (λ (r : Rules). keeper.has new.book (history_under r before new.requests.taken) new.behind) (rules_are new run)
                   (has_here keeper new kept (going_on new gone) before (new_begins new run with_it))
 
-              broken_at : (cause : CrewCause) → IsBrokenFor new posted fault cause → HasFault keeper drain from rules before (length ports) fault
+              broken_at : (cause : CrewCause) → IsBrokenFor new posted fault cause → HasFault keeper outlet start first given rules before (length ports) fault
               broken_at cause is =
                   has_fault cause [] new new.book fault after.letters is.0 (all_sealed new run) (record { rules_are = kept.rules ∙ rules_are new run; stands = broken_stands keeper new _ cause _ is.1 left_has })
-                  (broken_fault keeper drain from poster by after.letters posted post new kept (length ports) (lines_length new run) fault cause is.1 is.0 (none_behind keeper new kept gone))
+                  (broken_fault keeper outlet start first given by after.letters posted post new kept (length ports) (lines_length new run) fault cause is.1 is.0 (none_behind keeper new kept gone))
 
             -- the collector has failed, for this reason
             handed_at : (breach : Breach) (new : Desk B) (left : B) {result : Result (Unit {0}) DeskFault} → IsRun keeper before TakesLetter begun new sink after result → IsDesk keeper new → IsStopped keeper new breach → left ≡ new.book → IsHandedBack keeper rules new.behind (history_under rules before new.requests.taken) (cause_of breach) left
@@ -601,7 +598,7 @@ module _ {B P S : Type 0} (keeper : Keeper B) (port : Port P S) (book : B) (port
                       (stopped_stands keeper new (history keeper before new) (cause_of breach) (stopped_for keeper new breach stopped) stands.has);
                 })
 
-            fault_is : (collected : Result (Desk B) (BrokenOff B)) (all : Result Gathered Breach) (result : Result (Account W B) (CrewFault W B)) → IsCollected keeper before begun sink after collected → IsGathered ends all → Concludes keeper collected all posted result → IfErr result (HasFault keeper drain from rules before (length ports))
+            fault_is : (collected : Result (Desk B) (BrokenOff B)) (all : Result Gathered Breach) (result : Result (Account L B) (CrewFault L B)) → IsCollected keeper before begun sink after collected → IsGathered ends all → Concludes keeper collected all posted result → IfErr result (HasFault keeper outlet start first given rules before (length ports))
             fault_is collected all (Ok account) has is ends_so = tt
             fault_is (Ok new) all (Err fault) has is faulted = let why = broken_for keeper ends new all posted fault is faulted in broken_at new fault has.0 has.1 has.2 why.0 why.1
             fault_is (Err broken) all (Err fault) has is faulted =
@@ -609,7 +606,7 @@ module _ {B P S : Type 0} (keeper : Keeper B) (port : Port P S) (book : B) (port
                 has_fault (cause_of broken.breach) (letters_in broken.held) new broken.book fault (after.letters ++ letters_in broken.held) faulted
                 (subst (λ (ls : List Letter). AreSealedAfter before (history_under rules before new.requests.taken) (after.letters ++ ls)) (sym has.2) (sealed_are new has.1))
                 (handed_at broken.breach new broken.book has.1 has.3 has.4 has.5)
-                (failed_fault keeper drain from poster by after.letters posted post new has.3 (length ports) (lines_length new has.1) fault broken.breach broken.book broken.held has.4 faulted)
+                (failed_fault keeper outlet start first given by after.letters posted post new has.3 (length ports) (lines_length new has.1) fault broken.breach broken.book broken.held has.4 faulted)
 
       -- ---- all that is said of a run
 
@@ -618,12 +615,12 @@ module _ {B P S : Type 0} (keeper : Keeper B) (port : Port P S) (book : B) (port
       handed (Ok new) all posted (Err fault) is faulted = ap (λ (it : CrewFault _ B). is_some it.book) (broken_for keeper ends new all posted fault is faulted).1.0
       handed (Err broken) all posted (Err fault) is faulted = ap (λ (it : CrewFault _ B). is_some it.book) faulted
 
-      pub crew_run : {W : Type 0} (sink after : LetterSink) (fresh : sink.letters ≡ []) (drain : Drain W) (poster : Outgoing W) (posted : Posted W) → IsPosted drain poster 16 after.letters posted → (collected : Result (Desk B) (BrokenOff B)) (all : Result Gathered Breach) (result : Result (Account W B) (CrewFault W B)) → (before : List Exchange) × BeginsWith keeper book before
-          → ((before : List Exchange) → BeginsWith keeper begun.start before → IsCollected keeper before begun sink after collected) → IsGathered ends all → Concludes keeper collected all posted result → IsCrewRun keeper port drain book ports poster result
-      crew_run sink after fresh drain poster posted post collected all result some has is ends_so = record {
-        account = λ from by before with_it. account_is sink after fresh before drain from poster by posted post with_it collected all result (has before (begins before with_it)) is ends_so;
+      pub crew_run : {O L : Type 0} (sink after : LetterSink) (fresh : sink.letters ≡ []) (outlet : Outlet O L) (given : O) (posted : Posted L) → IsPosted outlet given (outlet.room given) after.letters posted → (collected : Result (Desk B) (BrokenOff B)) (all : Result Gathered Breach) (result : Result (Account L B) (CrewFault L B)) → (before : List Exchange) × BeginsWith keeper book before
+          → ((before : List Exchange) → BeginsWith keeper begun.start before → IsCollected keeper before begun sink after collected) → IsGathered ends all → Concludes keeper collected all posted result → IsCrewRun keeper port outlet book ports given result
+      crew_run sink after fresh outlet given posted post collected all result some has is ends_so = record {
+        account = λ start first by before with_it. account_is sink after fresh before outlet start first given by posted post with_it collected all result (has before (begins before with_it)) is ends_so;
         sealed = sealed_few sink after fresh some.0 collected all posted result (has some.0 (begins some.0 some.1)) ends_so;
-        fault = λ from by before with_it. fault_is sink after fresh before drain from poster by posted post with_it collected all result (has before (begins before with_it)) is ends_so;
+        fault = λ start first by before with_it. fault_is sink after fresh before outlet start first given by posted post with_it collected all result (has before (begins before with_it)) is ends_so;
         left = left_few sink after fresh some.0 collected all posted result (has some.0 (begins some.0 some.1)) is ends_so;
         crash = λ before with_it. crash_at_end sink after fresh before collected all posted result with_it (has before (begins before with_it)) ends_so;
         crash_at_fault = λ before with_it. crash_at_fault sink after fresh before collected all posted result with_it (has before (begins before with_it)) is ends_so;

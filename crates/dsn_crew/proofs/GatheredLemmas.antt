@@ -1,4 +1,4 @@
--- What came of the agents' threads: one agent more, and the last of them.
+-- The results of the agents' threads: one agent more, and the last of them.
 use Rattle.std.proofs.Common.{◌≡◌, Bool, ◌||◌, List, [], ◌∷◌, ◌++◌, length, ap, sym, ◌∙◌, subst, append_assoc}
 use Rattle.std.specs.Prelude.{Option, Some}
 use Rattle.std.specs.List.{list_any}

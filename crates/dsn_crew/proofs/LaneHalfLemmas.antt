@@ -21,7 +21,7 @@ fresh_suc {T} first zero = ap (λ (n : ℕ). record { agent = n; sent = let none
 fresh_suc {T} first (suc more) =
     ap (λ (rest : List (Sending T)). record { agent = first; sent = [] } ∷ rest) (fresh_suc {T = T} (suc first) more ∙ ap (λ (n : ℕ). fresh {T = T} (suc first) more ++ record { agent = n; sent = [] } ∷ []) (omega arith))
 
--- one more agent stands behind the others
+-- one more agent comes after the others
 pub fresh_more : {T : Type 0} (first more : ℕ) → fresh {T = T} first (more + 1) ≡ fresh first more ++ record { agent = first + more; sent = [] } ∷ []
 fresh_more {T} first more = let one : more + 1 ≡ suc more = omega arith in ap (fresh {T = T} first) one ∙ fresh_suc {T = T} first more
 
@@ -113,7 +113,7 @@ halves_suc {T} lane first zero = ap (λ (n : ℕ). record { lane = lane; agent =
 halves_suc {T} lane first (suc more) =
     ap (λ (rest : List (Half T)). record { lane = lane; agent = first; sent = [] } ∷ rest) (halves_suc lane (suc first) more ∙ ap (λ (n : ℕ). fresh_halves lane (suc first) more ++ record { lane = lane; agent = n; sent = [] } ∷ []) (omega arith))
 
--- one more half stands behind the others
+-- one more half comes after the others
 pub halves_more : {T : Type 0} (lane : Identity T) (first more : ℕ) → fresh_halves lane first (more + 1) ≡ fresh_halves lane first more ++ record { lane = lane; agent = first + more; sent = [] } ∷ []
 halves_more lane first more = let one : more + 1 ≡ suc more = omega arith in ap (fresh_halves lane first) one ∙ halves_suc lane first more
 
@@ -149,7 +149,7 @@ passed_more {T} capacity n old left right is split off =
 abbrev new_token : {T : Type 0} → ℕ → ℕ → ℕ → LaneKnowledge T
 new_token capacity first past = Takes capacity (record { made = past; taken = []; back = fresh 0 first })
 
--- the next agent's half stands behind the others
+-- the next agent's half comes after the others
 pub halves_pushed : {T : Type 0} (lane : Identity T) (capacity first more : ℕ) (token : LaneKnowledge T) (half : Half T) (old new : List (Half T)) → token ≡ Takes capacity (record { made = first + more; taken = []; back = fresh 0 first }) → half ≡ record { lane = lane; agent = (taking token).made; sent = [] } → old ≡ fresh_halves lane first more → new ≡ old ++ half ∷ [] → new ≡ fresh_halves lane first (more + 1)
 halves_pushed {T} lane capacity first more token half old new is half_is before pushed =
     let made : (taking token).made ≡ first + more = ap (λ (it : LaneKnowledge T). (taking it).made) is in

@@ -17,6 +17,6 @@ agent_send = search (requests_in_send, answers_out_send, crosses, option.the_fie
 pub finished_send : IsSend Finished.the_row
 finished_send = search (requests_in_send, answers_out_send, crosses, sendable) depth 20
 
--- what came of an agent that served its port
+-- the end of an agent that served its port
 pub port_end_send : IsSend PortEnd.the_row
 port_end_send = search (finished_send, crosses, option.the_field_send, sendable) depth 20

@@ -56,7 +56,7 @@ module _ {P : Type 0} where
   starts-end agents ports none pairs =
       subst (λ l. AreStarted l ports []) (sym (nil_from_length agents none)) (subst (λ l. AreStarted [] l []) (sym (nil_from_length ports (pairs ∙ none))) tt)
 
--- ---- what comes of the threads
+-- ---- the results of the threads
 
 module _ {P S : Type 0} (port : Port P S) where
   end-of : (agent : Agent) (served : P) (handle : Option (PromisedHandle PortEnd (Serves P))) (end : Option PortEnd) → IfSome handle (λ started. IsStarted agent served started.promise) → IsJoined port handle end

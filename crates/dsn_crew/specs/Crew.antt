@@ -15,9 +15,8 @@ use Rattle.dsn_outcome.specs.History.{Limits, Exchange, answers_to, history_of, 
 use Rattle.dsn_outcome.specs.Letter.{Letter}
 use Rattle.dsn_outcome.specs.Request.{Request, Bye}
 use Rattle.dsn_outcome.specs.declared.answer.Reply.TheVariants.{Gone}
-use Rattle.dsn_crew.specs.post.LetterSink.{letters_waiting}
-use Rattle.dsn_crew.specs.post.Posting.{IsUntouched}
-use Rattle.dsn_report.specs.Outgoing.{Delivered, IsOutbox, Outgoing}
+use Rattle.dsn_crew.specs.post.Outlet.{outbox_outlet}
+use Rattle.dsn_report.specs.Outgoing.{begun}
 use Rattle.dsn_crew.specs.agents.Agent.{LaneHalves}
 use Rattle.dsn_crew.specs.agents.Port.{AreOverPort, AreSessions, Conn, Given, HasGiven, Session, answers_of, bodies_of, faults_of, most_connections}
 use Rattle.dsn_crew.specs.agents.Serve.{answers_from, numbered_answer, numbered_request, requests_from}
@@ -27,6 +26,7 @@ use Rattle.dsn_crew.specs.declared.agents.agent_line.AgentLine.{AgentLine}
 use Rattle.dsn_crew.specs.declared.crew_cause.CrewCause.{CrewCause}
 use Rattle.dsn_crew.specs.declared.crew_cause.CrewCause.TheVariants.{Lost, Refused, PortCount, Unkept}
 use Rattle.dsn_crew.specs.declared.agents.port.Port.{Ghosts as Port}
+use Rattle.dsn_crew.specs.declared.post.outlet.Outlet.{Ghosts as Outlet}
 
 -- how many ports a crew has at most: as many as agents
 abbrev pub most_ports : ℕ
@@ -38,10 +38,11 @@ crew_cause_code Refused = crew_refused_code
 crew_cause_code PortCount = agent_count_code
 crew_cause_code (Unkept why) = unkept_code why
 
--- a run that ended well: what each agent did; how many letters were posted, and those that were
--- not, in order; the outbox, and whether nothing failed in it; what carried the requests out, as it is
--- at the end; the requests that the collector took, in order; and each agent's two halves, with all
--- that it sent and got
+-- a run that ended well. `agents` is what each agent did. `letters` is how many letters were
+-- posted, and `unsent` are those that were not, in order. `outbox` is the outbox, or what is left
+-- of another outlet, and `whole` says whether nothing failed in it. `book` is the keeper at the
+-- end. `taken` are the requests that the collector took, in order. `halves` are each agent's two
+-- halves, with all that it sent and got
 pub record Account (W B : Type 0) : Type 0 where
   pub agents : List AgentLine
   pub letters : ℕ
@@ -94,46 +95,30 @@ AreAgentAccounts port rules before taken agent (one ∷ ports) (line ∷ lines) 
     × AreAgentAccounts port rules before taken (suc agent) ports lines crew
 AreAgentAccounts port rules before taken agent ports lines crew = ⊥
 
--- what was posted before a run: the host that notices are from; the outbox before the first letter
--- of all; the letters that were passed to the poster since; and the outbox that the run gets
-pub record PostedBefore (W : Type 0) : Type 0 where
-  pub host : List ℕ
-  pub start : W
-  pub first : List Letter
-  pub outbox : W
-
--- nothing was posted yet
-abbrev pub none_posted : {W : Type 0} → List ℕ → W → PostedBefore W
-none_posted host start = record { host = host; start = start; first = []; outbox = start }
-
--- it is what this poster has posted
-pub record IsPostedBy {W : Type 0} (drain : Drain W) (from : PostedBefore W)
-    (poster : Outgoing W) : Type 0 where
-  pub delivered : Delivered drain from.host from.start poster from.first
-  pub outbox : from.outbox ≡ poster.poster.outbox
-
 -- The account of a run after a history, which ended well and carried out requests by these rules.
 -- It has the account of each agent, and only these agents' requests were taken. The book keeps the
--- rules, models the history with what was taken, and no kept request waits. The outbox is that of
--- the letters that were posted before and of these, in order; each of these is posted or unsent
-pub record IsAccountAfter {B P S W : Type 0} (keeper : Keeper B) (port : Port P S) (drain : Drain W)
-    (from : PostedBefore W) (rules : Rules) (before : List Exchange) (letters : List Letter)
-    (ports : List P) (account : Account W B) : Type 0 where
+-- rules, models the history with what was taken, and no kept request waits. The outlet, from this
+-- start, has ended after the letters that were passed to it first and these, in order; each of these
+-- is posted or unsent
+pub record IsAccountAfter {B P S O L : Type 0} (keeper : Keeper B) (port : Port P S)
+    (outlet : Outlet O L) (start : O) (first : List Letter) (rules : Rules) (before : List Exchange)
+    (letters : List Letter) (ports : List P) (account : Account L B) : Type 0 where
   pub agents : AreAgentAccounts port rules before account.taken 0 ports account.agents account.halves
   pub only : All (λ (request : Request). request.agent < length ports) account.taken
   pub book_rules : keeper.rules account.book ≡ rules
   pub book : keeper.has account.book (history_under rules before account.taken) []
   pub count : account.letters + length account.unsent ≡ length letters
   pub outbox :
-      IsOutbox drain from.host from.start account.outbox account.whole account.unsent
-      (from.first ++ letters)
+      outlet.ended start (first ++ letters)
+      (record { outbox = account.outbox; whole = account.whole; unsent = account.unsent })
 
--- the account of a run over a book that begins empty: no key is released, and its letters are those
--- that the history of what was taken sealed
+-- the account of a run over a book that begins empty, and over an outbox. No key is released. Its
+-- letters are those that the history of what was taken sealed
 abbrev pub IsAccount :
     {P S W : Type 0} → Port P S → Drain W → List ℕ → Limits → List P → W → Account W Book → Type 0
 IsAccount port drain host limits ports start account =
-    IsAccountAfter book_keeper port drain (none_posted host start) (releasing_none limits) []
+    IsAccountAfter book_keeper port (outbox_outlet drain) (begun host start) []
+    (releasing_none limits) []
     (sealed_letters (history_of limits account.taken)) ports account
 
 -- the letters that a history sealed after one before it
@@ -141,16 +126,17 @@ pub record AreSealedAfter (before history : List Exchange) (letters : List Lette
   pub are : sealed_letters history ≡ sealed_letters before ++ letters
 
 -- the account of a run after any history: its letters are those that were sealed in it
-pub record HasAccount {B P S W : Type 0} (keeper : Keeper B) (port : Port P S) (drain : Drain W)
-    (from : PostedBefore W) (rules : Rules) (before : List Exchange) (ports : List P)
-    (account : Account W B) : Type 0 where
+pub record HasAccount {B P S O L : Type 0} (keeper : Keeper B) (port : Port P S)
+    (outlet : Outlet O L) (start : O) (first : List Letter) (rules : Rules) (before : List Exchange)
+    (ports : List P) (account : Account L B) : Type 0 where
   pub letters : List Letter
   pub sealed : AreSealedAfter before (history_under rules before account.taken) letters
-  pub is : IsAccountAfter keeper port drain from rules before letters ports account
+  pub is : IsAccountAfter keeper port outlet start first rules before letters ports account
 
--- a run that ended with a fault: its cause, the outbox, the letters that are not in it, the keeper
--- if it is returned, the requests that were taken and carried out, and those behind these that were
--- taken and not carried out
+-- a run that ended with a fault. `cause` is its cause. `outbox` is the outbox, or what is left of
+-- another outlet, and `unsent` are the letters that it didn't pass on. `book` is the keeper, if it
+-- is returned. `taken` are the requests that were taken and carried out, and `behind` those after
+-- them that were taken and not carried out
 pub record CrewFault (W B : Type 0) : Type 0 where
   pub cause : CrewCause
   pub outbox : W
@@ -159,23 +145,23 @@ pub record CrewFault (W B : Type 0) : Type 0 where
   pub taken : List Request
   pub behind : List Request
 
--- a run that never began: nothing was taken, nothing is written
-pub record IsUnbegun {B W : Type 0} (drain : Drain W) (start : W)
-    (fault : CrewFault W B) : Type 0 where
+-- a run that never began: nothing was taken, and no letter was passed to the outlet that it got
+pub record IsUnbegun {B O L : Type 0} (outlet : Outlet O L) (given : O)
+    (fault : CrewFault L B) : Type 0 where
   pub taken : fault.taken ≡ []
   pub behind : fault.behind ≡ []
   pub unsent : fault.unsent ≡ []
-  pub outbox : IsUntouched drain start fault.outbox
+  pub outbox : outlet.untouched given fault.outbox
 
 -- What is left of a run of the given number of agents, in which these letters were sealed, if it was
 -- broken off. The requests that were carried out are of these agents, and numbered from 0 agent by
 -- agent; those behind are at most `most_together`, and the next of their agents. The poster received
--- the first of the sealed letters. Those of them that are not in the outbox are unsent, in order; the
--- outbox is that of the letters that were posted before and of these. At most `letters_waiting` later
--- letters waited for the poster, and are dropped. The collector still held at most one letter after
--- them. The keeper is returned
-pub record IsBrokenOff {B W : Type 0} (drain : Drain W) (from : PostedBefore W)
-    (sealed : List Letter) (agents : ℕ) (fault : CrewFault W B) : Type 0 where
+-- the first of the sealed letters. Those of them that the outlet didn't pass on are unsent, in order;
+-- it has ended after the letters that were passed to it first and these. No more later letters waited
+-- for the poster than the outlet that the run got has room for; they are dropped. The collector still
+-- held at most one letter after them. The keeper is returned
+pub record IsBrokenOff {B O L : Type 0} (outlet : Outlet O L) (start : O) (first : List Letter)
+    (given : O) (sealed : List Letter) (agents : ℕ) (fault : CrewFault L B) : Type 0 where
   pub only : All (λ (request : Request). request.agent < agents) fault.taken
   pub numbered :
       (agent : ℕ)
@@ -187,40 +173,42 @@ pub record IsBrokenOff {B W : Type 0} (drain : Drain W) (from : PostedBefore W)
   pub between : List Letter
   pub held : List Letter
   pub sealed_are : sealed ≡ letters ++ (between ++ held)
-  pub few : length between ≤ letters_waiting
+  pub few : length between ≤ outlet.room given
   pub one : length held ≤ 1
   pub whole : Bool
   pub unsent : List Letter
   pub unsent_are : fault.unsent ≡ unsent ++ held
-  pub outbox : IsOutbox drain from.host from.start fault.outbox whole unsent (from.first ++ letters)
+  pub outbox :
+      outlet.ended start (first ++ letters)
+      (record { outbox = fault.outbox; whole = whole; unsent = unsent })
   pub handed_back : is_some fault.book ≡ true
 
 -- The fault of a run for the given number of agents, if these letters were sealed. 43: there are not
--- 1 to 16 ports, and the outbox is returned as it was. 42: the run never began; or the thread of an
--- agent could not be made, the poster received all letters, and nothing is behind. 41: a lane was
--- lost. 45: a request was not kept
+-- 1 to 16 ports, and the run never began. 42: the run never began; or the thread of an agent could not
+-- be made, the poster received all letters, and nothing is behind. 41: a lane was lost. 45: a request
+-- was not kept
 abbrev pub IsFaultWith :
-    {B W : Type 0} → Drain W → PostedBefore W → List Letter → ℕ → CrewFault W B → CrewCause → Type 0
-IsFaultWith drain from sealed agents fault PortCount =
-    (fault.outbox ≡ from.outbox) × (fault.unsent ≡ []) × (fault.taken ≡ []) × (fault.behind ≡ [])
-IsFaultWith drain from sealed agents fault Refused =
-    IsUnbegun drain from.outbox fault
-    ⊎ ((broken : IsBrokenOff drain from sealed agents fault) × (broken.letters ≡ sealed)
-    × (fault.behind ≡ []))
-IsFaultWith drain from sealed agents fault Lost =
-    IsBrokenOff drain from sealed agents fault
-IsFaultWith drain from sealed agents fault (Unkept why) =
-    IsBrokenOff drain from sealed agents fault
+    {B O L : Type 0} → Outlet O L → O → List Letter → O → List Letter → ℕ → CrewFault L B → CrewCause
+    → Type 0
+IsFaultWith outlet start first given sealed agents fault PortCount = IsUnbegun outlet given fault
+IsFaultWith outlet start first given sealed agents fault Refused =
+    IsUnbegun outlet given fault
+    ⊎ ((broken : IsBrokenOff outlet start first given sealed agents fault)
+    × (broken.letters ≡ sealed) × (fault.behind ≡ []))
+IsFaultWith outlet start first given sealed agents fault Lost =
+    IsBrokenOff outlet start first given sealed agents fault
+IsFaultWith outlet start first given sealed agents fault (Unkept why) =
+    IsBrokenOff outlet start first given sealed agents fault
 
--- the fault of a run over a book that begins empty
+-- the fault of a run over a book that begins empty, and over an outbox
 abbrev pub IsCrewFault :
     {B W : Type 0} → Drain W → List ℕ → Limits → ℕ → W → CrewFault W B → CrewCause → Type 0
 IsCrewFault drain host limits agents start fault cause =
-    IsFaultWith drain (none_posted host start) (sealed_letters (history_of limits fault.taken)) agents
-    fault cause
+    IsFaultWith (outbox_outlet drain) (begun host start) [] (begun host start)
+    (sealed_letters (history_of limits fault.taken)) agents fault cause
 
--- the keeper models this history at a fault of this cause, and has kept those behind; or it modelled
--- the history until it refused these, for this reason, and is what its refusal says
+-- the keeper models this history at a fault of this cause, and has kept those behind. If the cause
+-- is that it refused these, it modelled the history until then, and is what its refusal says
 abbrev pub StandsAtFault :
     {B : Type 0} → Keeper B → List Request → List Exchange → CrewCause → B → Type 0
 StandsAtFault keeper behind exchanges Lost book = keeper.has book exchanges behind
@@ -236,12 +224,12 @@ pub record IsHandedBack {B : Type 0} (keeper : Keeper B) (rules : Rules) (behind
   pub stands : StandsAtFault keeper behind exchanges cause book
 
 -- the fault of a run after any history, which carried out requests by these rules
-pub record HasFault {B W : Type 0} (keeper : Keeper B) (drain : Drain W)
-    (from : PostedBefore W) (rules : Rules) (before : List Exchange) (agents : ℕ)
-    (fault : CrewFault W B) : Type 0 where
+pub record HasFault {B O L : Type 0} (keeper : Keeper B) (outlet : Outlet O L) (start : O)
+    (first : List Letter) (given : O) (rules : Rules) (before : List Exchange) (agents : ℕ)
+    (fault : CrewFault L B) : Type 0 where
   pub sealed : List Letter
   pub are : AreSealedAfter before (history_under rules before fault.taken) sealed
-  pub is : IsFaultWith drain from sealed agents fault fault.cause
+  pub is : IsFaultWith outlet start first given sealed agents fault fault.cause
   pub book :
       IfSome fault.book
       (IsHandedBack keeper rules fault.behind (history_under rules before fault.taken) fault.cause)
@@ -255,22 +243,23 @@ pub record MayCrashWithin {B : Type 0} (keeper : Keeper B) (start : B) (rules : 
   pub next : AreNextOf agents taken behind
   pub at_each_moment : MayCrash keeper start book rules before (taken ++ behind)
 
--- The result of a run over these ports and this keeper, after what this poster has posted. It is an
--- account by the keeper's rules, whatever was posted before and whatever history the run began with;
+-- The result of a run over these ports and this keeper, after what was passed to this outlet. It is an
+-- account by the keeper's rules, whatever was passed before and whatever history the run began with;
 -- otherwise a fault, which returns the keeper. The run sealed no more letters than requests were
 -- taken. The last clauses say what a crash leaves at each moment of the run
-pub record IsCrewRun {B P S W : Type 0} (keeper : Keeper B) (port : Port P S) (drain : Drain W)
-    (book : B) (ports : List P) (outgoing : Outgoing W)
-    (result : Result (Account W B) (CrewFault W B)) : Type 0 where
-  pub account : (from : PostedBefore W) → IsPostedBy drain from outgoing
+pub record IsCrewRun {B P S O L : Type 0} (keeper : Keeper B) (port : Port P S)
+    (outlet : Outlet O L) (book : B) (ports : List P) (given : O)
+    (result : Result (Account L B) (CrewFault L B)) : Type 0 where
+  pub account : (start : O) (first : List Letter) → outlet.posted start first given
       → (before : List Exchange) → BeginsWith keeper book before
-      → IfOk result (HasAccount keeper port drain from (keeper.rules book) before ports)
+      → IfOk result (HasAccount keeper port outlet start first (keeper.rules book) before ports)
   pub sealed :
       IfOk result
       (λ account. keeper.sealed account.book ≤ keeper.sealed book + length account.taken)
-  pub fault : (from : PostedBefore W) → IsPostedBy drain from outgoing
+  pub fault : (start : O) (first : List Letter) → outlet.posted start first given
       → (before : List Exchange) → BeginsWith keeper book before
-      → IfErr result (HasFault keeper drain from (keeper.rules book) before (length ports))
+      → IfErr result
+      (HasFault keeper outlet start first given (keeper.rules book) before (length ports))
   pub left :
       IfErr result
       (λ fault. IfSome fault.book

@@ -17,11 +17,11 @@ pub struct Account<W, B: Keeper = Book> {
     pub agents: Vec<AgentLine>,
     /// How many letters were posted.
     pub letters: u32,
-    /// The letters that could not be written, in order.
+    /// The letters that could not be passed on, in order.
     pub unsent: Letters,
-    /// Whether nothing failed in the outbox, so that it has the notice of each letter, and QUIT.
+    /// Whether nothing failed in the outlet. An outbox then has the notice of each letter, and QUIT.
     pub whole: bool,
-    /// The outbox.
+    /// The outbox, or what is left of another outlet.
     pub outbox: W,
     /// The book of the collector, with the logs that are still open.
     pub book: B,
@@ -46,7 +46,7 @@ impl<W, B: Keeper> Model for Account<W, B> {
 }
 
 impl<W, B: Keeper> Account<W, B> {
-    /// The account of a crew that was closed so, with its outbox.
+    /// The account of a crew that was closed so, with what is left of its outlet.
     pub(crate) fn new(
         shut: CrewShut<B>,
         agents: Vec<AgentLine>,

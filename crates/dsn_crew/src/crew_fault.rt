@@ -22,9 +22,9 @@ use std::snapshot::Snapshot;
 pub struct CrewFault<W, B: Keeper = Book> {
     /// Why.
     pub cause: CrewCause,
-    /// The outbox.
+    /// The outbox, or what is left of another outlet.
     pub outbox: W,
-    /// The letters that reached the poster and could not be written, in order, and then the one that
+    /// The letters that reached the poster and could not be passed on, in order, and then the one that
     /// the collector still held.
     pub unsent: Letters,
     /// What carried the requests out, with the logs that are still open; `None` if it could not be
@@ -86,7 +86,7 @@ impl<W, B: Keeper> CrewFault<W, B> {
         }
     }
 
-    /// The fault of a run that was broken off, with what is left of its collector, and of its outbox.
+    /// The fault of a run that was broken off, with what is left of its collector, and of its outlet.
     pub(crate) fn broken_off(broken: BrokenOff<B>, end: OutboxEnd<W>) -> CrewFault<W, B>
         requires shown { IsShown B.Keeper (Some broken.desk) broken.breach }
         ensures { result ≡ record {

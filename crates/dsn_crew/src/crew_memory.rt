@@ -1,6 +1,6 @@
 //! What a run of a crew needs memory for.
 ghost use Rattle.std.specs.Prelude.{◌≡◌, ◌^◌, ◌<◌, ◌≤◌, List, [], IfErr, IfOk};
-ghost use Rattle.dsn_crew.specs.lane.Lane.{most_agents};
+ghost use Rattle.dsn_crew.specs.lane.Lane.{most_agents, most_waiting};
 ghost use Rattle.dsn_outcome.specs.History.{Exchange};
 ghost use Rattle.dsn_crew.specs.inner.CrewMemory.{IsRoom};
 ghost use Rattle.dsn_crew.specs.KeeperHistory.{BeginsWith};
@@ -25,23 +25,25 @@ pub(crate) struct CrewMemory<P: Port, B: Keeper> {
 }
 
 impl<P: Port, B: Keeper + Drop> CrewMemory<P, B> {
-    /// The room of a run with this number of agents. Returns what carries the requests out if memory
-    /// is refused.
+    /// The room of a run with this number of agents, in which this number of letters may wait. Returns
+    /// what carries the requests out if memory is refused.
     pub(crate) fn take(
         rt: &impl Wait,
         alloc: Global,
         book: B,
         agents: u32,
+        letters: u32,
     ) -> Result<CrewMemory<P, B>, B>
         requires count { (1 ≤ agents) × (agents ≤ most_agents) }
+        requires letters { (1 ≤ letters) × (letters ≤ most_waiting) }
         requires begins { (before : List Exchange) × BeginsWith B.Keeper book before }
         requires few { B.sealed book < 2 ^ 63 }
-        ensures room { IfOk result (IsRoom B.Keeper book agents) }
+        ensures room { IfOk result (IsRoom B.Keeper book agents letters) }
         ensures back { IfErr result (λ back. back ≡ book) }
     {
         // On the caller's thread, before the first thread starts.
         let (crew, desk) = open_room(rt, alloc, book, agents)?;
-        let Ok((sink, source)) = open_post(rt, alloc) else {
+        let Ok((sink, source)) = open_post(rt, alloc, letters) else {
             return Err(desk.into_book());
         };
         let Ok(slots) = AgentMemory::take(alloc, agents) else {

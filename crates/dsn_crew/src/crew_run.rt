@@ -17,7 +17,7 @@ use crate::crew_cause::CrewCause;
 use crate::crew_fault::CrewFault;
 use crate::crew_memory::CrewMemory;
 use crate::gathered::gather;
-use crate::post::{end_posting, start_posting};
+use crate::post::{Outlet, end_posting, start_posting};
 use crate::start_serving::{count_missing, join_all, start_all};
 use dsn_book::{Book, Keeper, Limits};
 use dsn_device::Drain;
@@ -30,15 +30,16 @@ use std::thread::{Scope, Threads};
 /// The largest number of ports.
 const MOST_PORTS: usize = 16;
 
-/// Runs a crew: one agent for each port, each on a thread of its own, which serves the port's
-/// connections until the port is done and then says goodbye; the collector, on this thread; and a
-/// poster on a thread of its own, which writes a notice of each letter while requests are taken.
+/// Runs a crew: one agent for each port, each on a thread of its own; the collector, on this
+/// thread; and a poster, on a thread of its own. An agent serves its port's connections until the
+/// port is done, and then says goodbye. The poster writes a notice of each letter while requests
+/// are taken.
 ///
 /// Returns `PortCount` (43) if there are not 1 to 16 ports, before anything else. Returns `Refused`
 /// (42) if memory or the poster's thread is refused, before any agent is started and with nothing
-/// written; and if an agent's thread is refused, once all other agents were served. Returns `Lost`
-/// (41) if the collector, an agent or the poster was gone before its time. An outbox that fails is
-/// no fault: the letters from the failed one on are `unsent`.
+/// written. Returns `Refused` too if an agent's thread is refused, once all other agents were
+/// served. Returns `Lost` (41) if the collector, an agent or the poster was gone before its time.
+/// An outbox that fails is no fault: the letters from the failed one on are `unsent`.
 ///
 /// Requires that each port may be asked. None is asked again that was done or failed.
 pub fn run_crew<
@@ -93,40 +94,41 @@ fn empty_book(alloc: Global, limits: Limits, ports: usize) -> Result<Book, Breac
     }
 }
 
-/// Runs a crew as [`run_crew`] does, over a keeper, which keeps its requests and carries them out by
-/// its rules. Its notices come after those that were posted before.
+/// Runs a crew as [`run_crew`] does, over a keeper and an outlet. The keeper keeps the requests and
+/// carries them out by its rules. The poster passes the letters to the outlet, after those that
+/// were passed to it before. As many letters as the outlet has room for may wait for the poster.
 ///
 /// If the rules say so, the keeper releases closed keys to make room. The history of the run then
-/// has these requests of the keeper's own, exactly where `history_under` says; they answer no agent
-/// and seal no letter, and `taken` has the agents' requests alone.
+/// has these requests of the keeper's own, exactly where `history_under` says. They answer no agent
+/// and seal no letter; `taken` has the agents' requests alone.
 ///
-/// Requests that wait are kept together, up to 16. Beside what [`run_crew`] returns, it returns
-/// `Unkept` (45) if they were not kept; none of them is carried out or answered then, nor a later
-/// one. A fault returns the keeper.
+/// Requests that wait are kept together, up to 16. Beside the errors of [`run_crew`], it returns
+/// `Unkept` (45) if requests were not kept. Then none of them is carried out or answered, nor is
+/// any later request. A fault returns the keeper.
 ///
-/// A crash at any moment of the run leaves what a later run reopens to the history with a first part
-/// of the requests that were taken, and no other. Each request is in that part before its answer is
+/// After a crash at any moment of the run, a later run reopens to the history with a prefix of the
+/// requests that were taken, and to no other. Each request is in that prefix before its answer is
 /// sent. Requires that fewer than 2^63 letters were sealed before, that there is a history to begin
 /// with, after which no kept request waits, and that no letter is unsent.
 pub fn run_crew_over<
     R: Threads + Wait + Sync,
     B: Keeper + Drop,
     P: Port + Drop + Send,
-    W: Drain + Drop + Send,
+    O: Outlet + Drop + Send,
     G: Gate + Sync,
 >(
     rt: &R,
     alloc: Global,
     book: B,
     ports: Vec<P>,
-    outgoing: Outgoing<W>,
+    outlet: O,
     gate: &G,
-) -> Result<Account<W, B>, CrewFault<W, B>>
+) -> Result<Account<O::Left, B>, CrewFault<O::Left, B>>
     requires asked { All P.may_be_asked ports.items }
     requires few { B.sealed book < 2 ^ 63 }
     requires begins { (before : List Exchange) × BeginsWith B.Keeper book before }
-    requires all_sent { outgoing.unsent ≡ [] }
-    ensures run { IsCrewRun B.Keeper P.Port W.Drain book ports.items outgoing result }
+    requires all_sent { O.unsent outlet ≡ 0 }
+    ensures run { IsCrewRun B.Keeper P.Port O.Outlet book ports.items outlet result }
     ensures count { IfOk result
         (λ _. (1 ≤ length ports.items) × (length ports.items ≤ most_ports)) }
     ensures refused { IfErr result
@@ -135,14 +137,14 @@ pub fn run_crew_over<
 {
     let agents = ports.len();
     if agents == 0 || agents > MOST_PORTS {
-        return Err(CrewFault::unbegun(Breach::PortCount, outgoing.into_outbox(), Some(book)));
+        return Err(CrewFault::unbegun(Breach::PortCount, outlet.into_left(), Some(book)));
     }
     thread::scope(
         thread::scope_env(),
         rt,
-        move |scope| -> Result<Account<W, B>, CrewFault<W, B>>
-            requires { MayRun B.Keeper P.Port book ports.items outgoing }
-        { run_in(scope, rt, alloc, book, ports, outgoing, gate) },
+        move |scope| -> Result<Account<O::Left, B>, CrewFault<O::Left, B>>
+            requires { MayRun B.Keeper P.Port O.Outlet book ports.items outlet }
+        { run_in(scope, rt, alloc, book, ports, outlet, gate) },
     )
 }
 
@@ -153,7 +155,7 @@ fn run_in<
     R: Threads + Wait + Sync,
     B: Keeper + Drop,
     P: Port + Drop + Send + 's,
-    W: Drain + Drop + Send + 's,
+    O: Outlet + Drop + Send + 's,
     G: Gate + Sync,
 >(
     scope: &Scope<'s, E>,
@@ -161,17 +163,17 @@ fn run_in<
     alloc: Global,
     book: B,
     ports: Vec<P>,
-    outgoing: Outgoing<W>,
+    outlet: O,
     gate: &'s G,
-) -> Result<Account<W, B>, CrewFault<W, B>>
-    requires { MayRun B.Keeper P.Port book ports.items outgoing }
-    ensures run { IsCrewRun B.Keeper P.Port W.Drain book ports.items outgoing result }
+) -> Result<Account<O::Left, B>, CrewFault<O::Left, B>>
+    requires { MayRun B.Keeper P.Port O.Outlet book ports.items outlet }
+    ensures run { IsCrewRun B.Keeper P.Port O.Outlet book ports.items outlet result }
     ensures counted { IfErr result (λ fault. fault.cause ≢ CrewCause.PortCount) }
 {
-    let room = match CrewMemory::take(rt, alloc, book, ports.len() as u32) {
+    let room = match CrewMemory::take(rt, alloc, book, ports.len() as u32, outlet.room()) {
         Ok(room) => room,
         Err(book) => {
-            return Err(CrewFault::unbegun(Breach::Refused, outgoing.into_outbox(), Some(book)));
+            return Err(CrewFault::unbegun(Breach::Refused, outlet.into_left(), Some(book)));
         }
     };
     let CrewMemory {
@@ -181,10 +183,10 @@ fn run_in<
         source,
         slots,
     } = room;
-    let (mut sink, poster) = match start_posting(scope, rt, outgoing, sink, source) {
+    let (mut sink, poster) = match start_posting(scope, rt, outlet, sink, source) {
         Ok(started) => started,
-        Err(outbox) => {
-            return Err(CrewFault::unbegun(Breach::Refused, outbox, Some(desk.into_book())));
+        Err(left) => {
+            return Err(CrewFault::unbegun(Breach::Refused, left, Some(desk.into_book())));
         }
     };
     let AgentMemory {

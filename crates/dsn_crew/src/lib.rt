@@ -28,4 +28,4 @@ pub use dsn_frame::{ServeFault, Served};
 pub use lane::{
     LaneEnd, LaneGone, LaneIn, LaneLeft, LaneLists, LaneOut, LaneShut, Lost, close_lane, open_lane,
 };
-pub use post::{LetterSink, LetterSource, Posting, Posts, Sink, open_post, start_posting};
+pub use post::{LetterSink, LetterSource, Outlet, Posting, Posts, Sink, open_post, start_posting};

@@ -3,3 +3,4 @@ mod disks;
 mod files;
 mod mark_count;
 mod marks;
+mod raised;

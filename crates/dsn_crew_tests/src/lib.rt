@@ -1,6 +1,6 @@
 //! Tests of books, of marks and disks, of lanes, of agents and their collector, of the post, and of
-//! whole crews, over what their crates make public: so they are proved without the proofs of these,
-//! and beside their wrong edits.
+//! whole crews. They use what their crates make public, so they are proved without these crates'
+//! proofs, and beside their wrong edits.
 #![tactic(auto)]
 
 #[cfg(test)]

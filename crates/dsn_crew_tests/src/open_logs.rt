@@ -10,7 +10,8 @@ pub(crate) fn open_logs(alloc: Global, book: &Book) -> Result<Vec<OpenLine>, NoM
     book.open_lines(alloc)
 }
 
-/// Asserts that the bounce log of a message is open, with so many outcomes, and no other log.
+/// Asserts that the bounce log of a message is open, with this number of outcomes, and no other
+/// log.
 pub(crate) fn expect_open(rt: &impl Abort, open: &[OpenLine], message: [u8; 2], outcomes: u32) {
     same(rt, open.len(), 1);
     for line in open {

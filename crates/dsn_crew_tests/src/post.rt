@@ -2,24 +2,24 @@
 use crate::assert_same::same;
 use crate::letters::one_letter;
 use dsn_crew::{LetterSink, Sink, open_post, start_posting};
-use dsn_device::Plain;
+use dsn_device::{Drain, Plain};
 use dsn_outcome::{Letter, QueueId};
 use dsn_report::{Outgoing, Site};
 use std::alloc::Global;
 use std::sync::Wait;
 use std::test::Fail;
 use std::thread;
-use std::thread::Threads;
+use std::thread::{Scope, Threads};
 
-/// Hands this letter on, if there is one, and gives the lane up.
+/// Passes this letter on, if there is one, and drops the lane.
 fn hand_last(rt: &impl Wait, mut sink: LetterSink, letter: Option<Letter>) {
     if let Some(letter) = letter {
         drop(sink.hand(rt, letter));
     }
 }
 
-/// How many letters came to a poster on a thread of its own, whose lane is lost once this one, if
-/// any, was handed on; and whether that ended it.
+/// How many letters reached a poster on a thread of its own, and whether the loss of its lane ended
+/// it. The lane is lost once this letter, if there is one, was passed on.
 fn lost_after<R: Threads + Wait + Sync>(
     rt: &R,
     alloc: Global,
@@ -29,18 +29,28 @@ fn lost_after<R: Threads + Wait + Sync>(
     thread::scope(
         thread::scope_env(),
         rt,
-        move |scope| -> Option<(u32, bool)> {
-            let Ok((sink, source)) = open_post(rt, alloc) else {
-                return None;
-            };
-            let Ok((sink, handle)) = start_posting(scope, rt, outgoing, sink, source) else {
-                return None;
-            };
-            hand_last(rt, sink, letter);
-            let posting = handle.join(rt);
-            Some((posting.handed, posting.lost.is_some()))
-        },
+        move |scope| -> Option<(u32, bool)> { lost_in(scope, rt, alloc, outgoing, letter) },
     )
+}
+
+/// The same, on a thread of this scope.
+// A function of its own, since an outlet of a given type isn't seen to be one for another thread.
+fn lost_in<'s, E: 's, R: Threads + Wait + Sync, W: Drain + Drop + Send + 's>(
+    scope: &Scope<'s, E>,
+    rt: &'s R,
+    alloc: Global,
+    outgoing: Outgoing<W>,
+    letter: Option<Letter>,
+) -> Option<(u32, bool)> {
+    let Ok((sink, source)) = open_post(rt, alloc, 16) else {
+        return None;
+    };
+    let Ok((sink, handle)) = start_posting(scope, rt, outgoing, sink, source) else {
+        return None;
+    };
+    hand_last(rt, sink, letter);
+    let posting = handle.join(rt);
+    Some((posting.handed, posting.lost.is_some()))
 }
 
 /// What is posted by, which has posted nothing.
@@ -59,10 +69,10 @@ fn poster_ends_where_its_lane_is_lost(rt: HostRuntime) -> Result<(), Fail> {
     Ok(())
 }
 
-/// The message of a letter that is handed to a sink whose source is gone, and comes back.
+/// The message of a letter that is passed to a sink whose source is gone, and comes back.
 fn comes_back(rt: &impl Wait, alloc: Global) -> Option<QueueId> {
     let letter = one_letter(alloc)?;
-    let (mut sink, source) = open_post(rt, alloc).ok()?;
+    let (mut sink, source) = open_post(rt, alloc, 16).ok()?;
     drop(source);
     let back = sink.hand(rt, letter).err()?;
     Some(back.key().id)

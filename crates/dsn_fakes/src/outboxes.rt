@@ -1,5 +1,5 @@
-//! Outboxes as a mail program gets them, written out from docs/FORMATS.md. `tests/examples.py`
-//! compares them with those of `examples/`.
+//! Outboxes as a mail program gets them, written out from noticed-protocol(5). `tests/examples.py`
+//! compares them with those of `vectors/`.
 
 /// The outbox of a run that made no notice.
 pub const EMPTY: &[u8] = b"\

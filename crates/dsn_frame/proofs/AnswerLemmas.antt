@@ -1,4 +1,4 @@
--- Answers: the frames of answers, one answer more, and what frames are told.
+-- Answers: their frames, one answer more, and the answer that each frame gets.
 use Rattle.std.proofs.Common.{◌≡◌, ℕ, suc, ◌+◌, List, [], ◌∷◌, ◌++◌, length, refl, ap, append_assoc, arith}
 use Rattle.std.proofs.lemmas.List.{append-nil}
 use Rattle.dsn_frame.specs.bodies.Spoken.{answer_bytes, answer_frames_from, told_each, told_to}
@@ -15,9 +15,9 @@ answer_frames_from-more place (first ∷ rest) answer =
     let more = answer_frames_from-more (suc place) rest answer in
     rw (more, at) (simp append_assoc)
 
--- ---- what frames are told
+-- ---- the answer that a frame gets
 
--- one more frame that is answered is told its own answer
+-- one more frame that is answered gets its own answer
 pub told-more : (frames : List (List ℕ)) (answers : List Spoken) (bytes : List ℕ) (answer : Spoken) → length frames ≡ length answers → told_each (frames ++ bytes ∷ []) (answers ++ answer ∷ []) ≡ told_each frames answers ++ told_to bytes answer ∷ []
 told-more [] [] bytes answer as_many = refl
 told-more [] (first ∷ answers) bytes answer as_many = absurd (omega (arith, as_many))
@@ -25,7 +25,7 @@ told-more (frame ∷ frames) [] bytes answer as_many = absurd (omega (arith, as_
 told-more (frame ∷ frames) (first ∷ answers) bytes answer as_many =
     ap (λ (said : List Spoken). told_to frame first ∷ said) (told-more frames answers bytes answer (omega (arith, as_many)))
 
--- one more that isn't answered is told nothing
+-- one more frame that isn't answered gets no answer
 pub told-unanswered : (frames : List (List ℕ)) (answers : List Spoken) (bytes : List ℕ) → length frames ≡ length answers → told_each (frames ++ bytes ∷ []) answers ≡ told_each frames answers
 told-unanswered [] [] bytes as_many = refl
 told-unanswered [] (first ∷ answers) bytes as_many = absurd (omega (arith, as_many))
@@ -33,7 +33,7 @@ told-unanswered (frame ∷ frames) [] bytes as_many = absurd (omega (arith, as_m
 told-unanswered (frame ∷ frames) (first ∷ answers) bytes as_many =
     ap (λ (said : List Spoken). told_to frame first ∷ said) (told-unanswered frames answers bytes (omega (arith, as_many)))
 
--- frames that are all answered are told as much
+-- if all frames are answered, the number of answers stays the same
 pub told-length : (frames : List (List ℕ)) (answers : List Spoken) → length frames ≡ length answers → length (told_each frames answers) ≡ length answers
 told-length [] [] as_many = refl
 told-length [] (first ∷ answers) as_many = absurd (omega (arith, as_many))

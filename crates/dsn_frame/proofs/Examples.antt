@@ -6,7 +6,7 @@ use Rattle.dsn_frame.proofs.bodies.Examples.{append_body, flush_body}
 use Rattle.dsn_frame.specs.Frame.{AreFramesOf}
 use Rattle.dsn_frame.specs.declared.frame_fault.FrameFault.TheVariants.{TooLong, Empty, CutShort}
 
--- the input of this agent is these two frames; where its last byte is missing, one frame, and a fault
+-- the input of this agent is these two frames; without its last byte it is one frame and a fault
 unfoldable pub agent_input : List ℕ
 agent_input = frame append_body ++ frame flush_body
 

@@ -1,4 +1,4 @@
--- There are frames and an end for each input.
+-- Each input has frames and an end.
 use Rattle.std.proofs.Common.{◌≡◌, ℕ, zero, suc, ◌+◌, ◌-◌, ◌<◌, ◌≤◌, List, [], ◌∷◌, ◌++◌, length, take, drop, Option, Some, None, inl, inr, refl, sym, ap, subst, ◌∙◌, append_assoc, arith}
 use Rattle.std.proofs.lemmas.Bool.{cases_lt}
 use Rattle.std.proofs.lemmas.List.{nil_from_length, length-take, length-drop, take-append-drop}
@@ -12,7 +12,7 @@ use Rattle.dsn_frame.specs.Frame.{declared_length, FramesEnd, AreFramesOf}
 use Rattle.dsn_frame.specs.declared.frame_fault.FrameFault.{FrameFault}
 use Rattle.dsn_frame.specs.declared.frame_fault.FrameFault.TheVariants.{TooLong, Empty, CutShort}
 
--- a front of so many bytes is a frame of the body after its length
+-- a front of this length is a frame of the body after its length
 frame_at : (input : List ℕ) → IsBytes input → 4 + declared_length input ≤ length input → IsFrameLength (declared_length input)
     → (body : List ℕ) × (rest : List ℕ) × IsFrameBody body × (input ≡ frame body ++ rest) × (length rest < length input)
 frame_at input fits long legal =

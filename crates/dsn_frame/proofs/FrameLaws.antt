@@ -1,4 +1,4 @@
--- Frames: the length and the body that are read in turn are a frame, or a part of one.
+-- Frames: a length and a body, read in turn, are a frame or a part of one.
 use Rattle.std.proofs.Common.{◌≡◌, ℕ, ◌+◌, ◌^◌, ◌<◌, ◌≤◌, List, ◌++◌, length, take, Option, Some, ap, subst, ◌∙◌, arith}
 use Rattle.std.specs.Int.{w32, to_be_bytes}
 use Rattle.std.specs.Io.KnownBytes.{Consumes}
@@ -18,7 +18,7 @@ declared size rest fits = from_be_bytes-to_be_bytes_4 size fits
 pub length_with : (size : ℕ) (rest : List ℕ) → length (to_be_bytes w32 size ++ rest) ≡ 4 + length rest
 length_with size rest = length-append (to_be_bytes w32 size) rest
 
--- four bytes that were read are the length of which they are written
+-- four bytes that were read are the encoding of their number
 pub length_read : (a b : Option (List ℕ)) (bytes : List ℕ) (count size : ℕ) → length bytes ≡ 4 → 4 ≤ count → bytes ≡ to_be_bytes w32 size
     → Consumes a b (take count bytes) → IsFrameLength size → ConsumesLength a b size
 length_read a b bytes count size four enough written consumed legal =
@@ -49,7 +49,7 @@ stops_in_length Empty part misses = misses
 stops_in_length CutShort part misses = (misses.0, part_of_length part misses.1)
 stops_in_length Read part misses = part_of_length part misses
 
--- without a length that a frame may have there is no frame
+-- without a valid length there is no frame
 pub length_missed : (a b : Option (List ℕ)) (fault : FrameFault) → LengthMissing a b fault → ReadsNone a b fault
 length_missed a b fault missing = record {
   part = missing.part;

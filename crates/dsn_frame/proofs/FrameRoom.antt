@@ -1,4 +1,4 @@
--- How much room a buffer has after a fault.
+-- The room of a buffer after a fault.
 use Rattle.std.proofs.Common.{◌≡◌, ◌≢◌, ℕ, ◌+◌, ◌^◌, ◌<◌, List, ◌++◌, length, Option, refl, arith}
 use Rattle.std.specs.Int.{w32, to_be_bytes}
 use Rattle.std.proofs.KnownBytes.{Consumes-trans}
@@ -19,16 +19,16 @@ room_without Empty part room misses = refl
 room_without CutShort part room misses = no_length part room misses.1
 room_without Read part room misses = no_length part room misses
 
--- where no length was read the room is as it was
+-- without a length the room is unchanged
 pub room_of_none : (a b : Option (List ℕ)) (fault : FrameFault) (room : ℕ) → LengthMissing a b fault → LeavesRoom a b fault room room
 room_of_none a b fault room missing =
     record { part = missing.part; consumed = missing.consumed; room = room_without fault missing.part room missing.misses }
 
--- where there is no memory for the frame too
+-- if memory for the frame is refused, the room is unchanged too
 pub room_refused : (a b : Option (List ℕ)) (size old new : ℕ) → ConsumesLength a b size → new ≡ old → LeavesRoom a b NoMemory old new
 room_refused a b size old new head same = record { part = to_be_bytes w32 size; consumed = head.consumed; room = same }
 
--- a length and a part of its body, once there is room for them
+-- a length and a part of its body, with room for the frame
 after_part : (size old new : ℕ) (part : List ℕ) → size < 2 ^ 32 → RoomFor (length_prefix + size) old new → RoomAfterPart (to_be_bytes w32 size ++ part) old new
 after_part size old new part fits grown = record {
   no_length = λ less. absurd (omega (arith, length_with size part));
@@ -43,7 +43,7 @@ room_with Empty size old new part fits grows misses grown = absurd misses
 room_with CutShort size old new part fits grows misses grown = after_part size old new part fits grown
 room_with Read size old new part fits grows misses grown = after_part size old new part fits grown
 
--- where the body was not read whole there is room for it, and reading it left so much
+-- if the body was not read whole, there is room for it, and reading it keeps that room
 pub room_of_part : (a b c : Option (List ℕ)) (size old grown new : ℕ) (fault : FrameFault) → ConsumesLength a b size → fault ≢ NoMemory → BodyMissing b c size fault
     → RoomFor (length_prefix + size) old grown → new ≡ grown → LeavesRoom a c fault old new
 room_of_part a b c size old grown new fault head grows missing room same = record {

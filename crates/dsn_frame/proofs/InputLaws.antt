@@ -1,4 +1,5 @@
--- The frames of an input: reading them one by one reads them, and an input has one list of frames and one end.
+-- The frames of an input: reading them one by one finds them, and an input has one list of frames
+-- and one end.
 use Rattle.std.proofs.Common.{◌≡◌, ℕ, ◌+◌, ◌<◌, ◌≤◌, List, [], ◌∷◌, ◌++◌, length, take, drop, Option, Some, None, refl, sym, ap, subst, ◌∙◌, append_assoc, arith}
 use Rattle.std.specs.Int.{w32, from_be_bytes, to_be_bytes}
 use Rattle.std.specs.List.{flat_map, AllByRecursion}
@@ -10,13 +11,13 @@ use Rattle.dsn_frame.specs.declared.frame_fault.FrameFault.{FrameFault}
 use Rattle.dsn_frame.specs.declared.frame_fault.FrameFault.TheVariants.{NoMemory, TooLong, Empty, CutShort, Read}
 use Rattle.dsn_frame.proofs.FrameLaws.{declared}
 
--- ---- what is read from a source that tells its bytes
+-- ---- reads from a source with known bytes
 
 -- what follows the first four bytes doesn't change the length that they declare
 same_length : (part rest : List ℕ) → 4 ≤ length part → declared_length (part ++ rest) ≡ declared_length part
 same_length part rest long = ap (from_be_bytes w32) (take-append-le 4 part rest long)
 
--- a source with no whole frame ends so, where neither memory nor the device failed
+-- a source without a whole frame ends so, if neither memory nor the device failed
 pub none_ends : (input : List ℕ) (new : Option (List ℕ)) (fault : FrameFault) → ReadsNone (Some input) new fault → (fault ≡ Read → ⊥) → (fault ≡ NoMemory → ⊥) → FramesEnd input (Some fault)
 none_ends input None fault none not_read not_memory = absurd none.consumed
 none_ends input (Some rest) NoMemory none not_read not_memory = absurd (not_memory refl)
@@ -43,7 +44,7 @@ front_declares body rest legal = declared (length body) (body ++ rest) (omega ar
 pub front_length : (body rest : List ℕ) → length (frame body ++ rest) ≡ 4 + (length body + length rest)
 front_length body rest = omega (arith, length-append (frame body) rest, length-append (to_be_bytes w32 (length body)) body)
 
--- no frame stands where the frames end
+-- no frame begins at the end of the frames
 pub ends_with_no_frame : (rest body more : List ℕ) (end : Option FrameFault) → FramesEnd rest end → IsFrameBody body → rest ≡ frame body ++ more → ⊥
 ends_with_no_frame rest body more None ends legal is =
     let long : length rest ≡ 4 + (length body + length more) = ap length is ∙ front_length body more in

@@ -1,4 +1,5 @@
--- One session: two sessions over the same bytes that met nothing from outside them are the same but for their replies.
+-- One session: two sessions over the same bytes that met no event from outside are the same except
+-- for their replies.
 use Rattle.std.proofs.Common.{◌≡◌, ◌==◌, ℕ, ◌+◌, ◌<◌, Bool, true, false, if◌then◌else◌, List, [], ◌∷◌, ◌++◌, length, drop, refl, sym, ap, subst, ◌∙◌, append_assoc, arith}
 use Rattle.std.specs.Prelude.{◌≢◌, Option, Some, None}
 use Rattle.std.specs.Int.{w32, to_be_bytes}
@@ -30,7 +31,7 @@ is_outside_end end = option_map_or is_from_outside end false
 
 -- ---- one frame
 
--- what one frame comes to where nothing comes from outside the bytes
+-- the result of one frame if no event comes from outside the bytes
 data Comes (limit accepted place : ℕ) (bytes : List ℕ) : List Body → List Spoken → Option ℕ → Type 0 where
   is_faulty : (fault : BodyFault) → first_body_fault bytes ≡ Some fault → Comes limit accepted place bytes [] (spoken.Refused (body_fault_code fault) ∷ []) None
   is_out_of_turn : (number : ℕ) (body : Body) → Encodes bytes number body → number ≢ place → Comes limit accepted place bytes [] (spoken.Refused 46 ∷ []) (Some 46)
@@ -47,7 +48,7 @@ comes medium limit accepted place bytes _ _ _ (asked body reply encoded room) de
 comes medium limit accepted place bytes _ _ _ (given_up body encoded connected) decided ended = absurd (opposite true refl ended)
 comes medium limit accepted place bytes _ _ _ (given_up_after body encoded room connected) decided ended = absurd (opposite true refl ended)
 
--- two turns that are the same but for their replies
+-- two turns that are the same except for their replies
 record SameTurn (more other_more : List Body) (said other_said : List Spoken) (end other_end : Option ℕ) : Type 0 where
   bodies : more ≡ other_more
   answers : AnswerAlike said other_said
@@ -81,7 +82,7 @@ same_turn limit accepted place bytes _ _ _ _ _ _ (is_asked body reply encoded ro
 same_turn limit accepted place bytes _ _ _ _ _ _ (is_asked body reply encoded room) (is_asked other answer so space) =
     record { bodies = ap (λ (b : Body). b ∷ []) (encodes_one bytes place place body other encoded so).1; answers = (tt, tt); ends = refl }
 
--- an answer that could not be written comes from outside
+-- an unwritten answer comes from outside
 goes_on_so : (medium : Medium) (said : List Spoken) (end last : Option ℕ) → GoesOn medium said end last → is_outside_end last ≡ false → end ≡ last
 goes_on_so medium _ _ _ (written said end) ended = refl
 goes_on_so Input _ _ _ (unwritten answer end) ended = absurd (opposite true refl ended)
@@ -178,7 +179,7 @@ earlier medium limit before _ _ _ _ (taken frames bodies asks answers said one e
 
 -- ---- the ends
 
--- an end that the bytes decide was made by a frame that they decide
+-- an end that the bytes decide isn't caused by an event from outside at a frame
 made_decided : (limit count : ℕ) (made : Option ℕ) (rest : List ℕ) (end : Option ℕ) → EndsAt limit count made rest end → is_outside_end end ≡ false → is_outside_end made ≡ false
 made_decided limit count made rest end (at_frame code is end_is) ended = rw (is ∙ sym end_is) ended
 made_decided limit count made rest end (no_frame on fault ends end_is) ended = rw on refl
@@ -208,7 +209,7 @@ same_ends limit count made other rest end end' same (at_frame code is end_is) (f
 same_ends limit count made other rest end end' same (no_frame on fault ends end_is) (from_outside on' code outside apart here end_is') ended ended' = absurd (not_outside end' code outside end_is' ended')
 same_ends limit count made other rest end end' same (one_more on full bytes more legal left end_is) (from_outside on' code outside apart here end_is') ended ended' = absurd (not_outside end' code outside end_is' ended')
 
--- no session ends where a further frame follows that may still be taken
+-- no session ends before a further frame that may still be taken
 ends_there : (limit count : ℕ) (made : Option ℕ) (rest bytes after : List ℕ) (end : Option ℕ) → EndsAt limit count made rest end → is_outside_end end ≡ false → made ≡ None → count < limit → IsFrameBody bytes → rest ≡ frame bytes ++ after → ⊥
 ends_there limit count made rest bytes after end (at_frame code is end_is) ended on few legal left = none_is_none made code is on
 ends_there limit count made rest bytes after end (no_frame on' fault ends end_is) ended on few legal left = ends_with_no_frame rest bytes after fault ends legal left
@@ -218,7 +219,7 @@ ends_there limit count made rest bytes after end (from_outside on' code outside 
 -- ---- one session
 
 module _ (medium : Medium) (limit before : ℕ) (bytes : List ℕ) (frames others : List (List ℕ)) (bodies other_bodies : List Body) (answers other_answers : List Spoken) (end other_end : Option ℕ) (reading : Reading medium limit before bytes frames bodies answers end) (alone : IsOfBytesAlone answers end) (other : Reading medium limit before bytes others other_bodies other_answers other_end) (other_alone : IsOfBytesAlone other_answers other_end) where
-  -- the one can't have taken fewer frames
+  -- the first can't have taken fewer frames
   pub not_fewer : (one : List ℕ) (more : List (List ℕ)) → others ≡ frames ++ one ∷ more → reading.rest ≡ frame one ++ (flat_map frame more ++ other.rest) → ⊥
   not_fewer one more parts left =
       let went_on = earlier medium limit before others other_bodies other_answers other.made other.takes frames one more parts in
@@ -253,7 +254,7 @@ compared medium limit before bytes frames others bodies other_bodies answers oth
 compared medium limit before bytes frames others bodies other_bodies answers other_answers end other_end reading alone other other_alone (beyond one more parts left) =
     absurd (not_fewer medium limit before bytes others frames other_bodies bodies other_answers answers other_end end other other_alone reading alone one more parts left)
 
--- sessions over the same bytes that met nothing from outside are one, but for their replies
+-- sessions over the same bytes that met no event from outside are the same except for their replies
 pub one_session : (medium : Medium) (limit before : ℕ) (bytes : List ℕ) → HasOneSession medium limit before bytes
 one_session medium limit before bytes left other_left frames others bodies other_bodies answers other_answers end other_end session alone other_session other_alone =
     let reading = session_reads medium limit before bytes left frames bodies answers end session in
@@ -265,7 +266,7 @@ one_session medium limit before bytes left other_left frames others bodies other
 
 -- ---- what is left of the bytes
 
--- what an end that the bytes decide leaves of them, where no frame made it
+-- the bytes that are left by an end that they decide, if no frame made it
 left_after : Option ℕ → List ℕ → List ℕ
 left_after None rest = []
 left_after (Some code) rest = if code == 47 then drop (4 + declared_length rest) rest else if code == 13 then [] else drop 4 rest
@@ -322,7 +323,7 @@ leaving medium limit before bytes now frames bodies answers end session =
       leaves = left_at medium limit (length frames) session.made known.0 now end ends;
     }
 
--- sessions over the same bytes that met nothing from outside leave the same of them
+-- sessions over the same bytes that met no event from outside leave the same bytes
 pub one_rest : (medium : Medium) (limit before : ℕ) (bytes : List ℕ) → LeavesOneRest medium limit before bytes
 one_rest medium limit before bytes now other_now frames others bodies other_bodies answers other_answers end other_end session alone other_session other_alone =
     let same = one_session medium limit before bytes (Some now) (Some other_now) frames others bodies other_bodies answers other_answers end other_end session alone other_session other_alone in

@@ -7,7 +7,7 @@ use Rattle.dsn_device.specs.Transfer.{AppendsPart}
 use Rattle.dsn_frame.specs.declared.bodies.spoken.Spoken.{Spoken}
 use Rattle.dsn_frame.specs.SentAnswers.{AnswersSent}
 
--- what holds of a result that is an error, and of one that is none
+-- laws of a result that is an error, and of one that isn't
 pub OnErr-is_err : {T E : Type 0} (result : Result T E) (P : Type 0) → is_err result ≡ true → OnErr result P → P
 OnErr-is_err (Ok value) P is holds = absurd (let never : false ≡ true = is in cc)
 OnErr-is_err (Err fault) P is holds = holds

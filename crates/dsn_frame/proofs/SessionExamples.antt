@@ -18,7 +18,7 @@ use Rattle.dsn_frame.proofs.SessionFrames.{takes_its_frames}
 use Rattle.dsn_frame.proofs.WholeInputLemmas.{taken_whole}
 use Rattle.dsn_frame.specs.WholeInput.{IsWholeInput, TakesAll}
 
--- the answers to one append and one flush: an outcome was logged, and the first notice of all is made
+-- the answers to one append and one flush: an outcome was logged, and the first notice was made
 abbrev logged_first : Replied
 logged_first = plain (Logged 0)
 
@@ -29,7 +29,7 @@ sealed_first = record { reply = Sealed 1; serial = Some 0 }
 garbage : List ℕ
 garbage = 0 ∷ []
 
--- one append and one flush are asked, on a connection to a daemon of which nothing was asked before
+-- one append and one flush on a connection, without requests before it
 one_append_one_flush :
     IsSession Connection 2 0 (Some (frame append_body ++ frame flush_body)) (Some []) (append_body ∷ flush_body ∷ [])
     (append_asked ∷ flush_asked ∷ []) (Reply logged_first ∷ Reply sealed_first ∷ []) None
@@ -40,8 +40,8 @@ one_append_one_flush =
     (asked flush_asked sealed_first flush_is_encoded (lit< tt)) (written _ None) in
     record { made = None; takes = second; left = Some []; read = refl; ends = well refl refl refl }
 
--- the same frames after the one request that there may be: the append is refused, and the flush is read and neither decoded
--- nor answered
+-- the same frames after the one request within the limit: the append is refused, and the flush is
+-- read and neither decoded nor answered
 used_up_before :
     IsSession Connection 1 1 (Some (frame append_body ++ frame flush_body)) (Some []) (append_body ∷ []) [] (Refused 44 ∷ []) (Some 47)
 used_up_before =
@@ -51,8 +51,8 @@ used_up_before =
 zero_is_not_one : ◌≢◌ {A = ℕ} 0 1
 zero_is_not_one same = cc
 
--- a refused body leaves the session as it was; the append that follows it has the number of its request, not of its
--- frame, and ends it
+-- A refused body leaves the session as it was. The append after it has the number of its request,
+-- not of its frame, and ends it.
 number_out_of_turn :
     IsSession Input 9 0 (Some (frame garbage ++ (frame append_body ++ frame flush_body))) (Some (frame flush_body)) (garbage ∷ append_body ∷ []) [] (Refused 21 ∷ Refused 46 ∷ []) (Some 46)
 unfolding garbage first_body_fault
@@ -62,7 +62,7 @@ number_out_of_turn =
     (out_of_turn 0 append_asked append_is_encoded zero_is_not_one) (written _ (Some 46)) in
     record { made = Some 46; takes = second; left = Some (frame flush_body); read = refl; ends = stopped 46 refl refl }
 
--- an answer that couldn't be written stands among the answers, and ends the session
+-- an unwritten answer is one of the answers, and ends the session
 answer_unwritten :
     IsSession Connection 9 3 (Some (frame append_body ++ frame flush_body)) (Some (frame flush_body)) (append_body ∷ []) (append_asked ∷ []) (Reply logged_first ∷ []) (Some 35)
 answer_unwritten =
@@ -80,7 +80,7 @@ given_up_at_append =
 
 -- ---- sessions over the same bytes
 
--- the two frames asked, and answered so
+-- both frames are asked, and get these replies
 both_asked : (first second : Replied) → IsSession Connection 2 0 (Some agent_input) (Some []) (append_body ∷ flush_body ∷ []) (append_asked ∷ flush_asked ∷ []) (Reply first ∷ Reply second ∷ []) None
 unfolding agent_input
 both_asked first second =
@@ -90,7 +90,7 @@ both_asked first second =
     (asked flush_asked second flush_is_encoded (lit< tt)) (written _ None) in
     record { made = None; takes = two; left = Some []; read = refl; ends = well refl refl refl }
 
--- it met nothing from outside the bytes
+-- the session met no event from outside the bytes
 of_bytes_alone : (first second : Replied) → IsOfBytesAlone (Reply first ∷ Reply second ∷ []) None
 of_bytes_alone first second = record { answered = (tt, (tt, tt)); ended = refl }
 
@@ -109,7 +109,7 @@ one_but_for_replies =
 takes_both : AreFirstFrames (append_body ∷ flush_body ∷ []) (append_body ∷ flush_body ∷ []) None None
 takes_both = takes_its_frames agent_input Connection 2 0 (Some []) _ _ _ _ None None (both_asked logged_first sealed_first) two_frames
 
--- these bytes are requests in turn, and the session took them whole
+-- these bytes are requests in turn, and the session took all of them
 whole_input : IsWholeInput 2 0 (Some agent_input) (append_body ∷ flush_body ∷ []) (append_asked ∷ flush_asked ∷ [])
 unfolding agent_input
 whole_input = record { bytes = refl; legal = ((lit≤ tt, lit≤ tt), ((lit≤ tt, lit≤ tt), tt)); few = lit≤ tt; in_turn = (append_is_encoded, (flush_is_encoded, tt)) }
@@ -117,7 +117,8 @@ whole_input = record { bytes = refl; legal = ((lit≤ tt, lit≤ tt), ((lit≤ t
 takes_whole : TakesAll Connection (append_body ∷ flush_body ∷ []) (append_asked ∷ flush_asked ∷ []) (append_body ∷ flush_body ∷ []) (append_asked ∷ flush_asked ∷ []) (Reply logged_first ∷ Reply sealed_first ∷ []) None
 takes_whole = taken_whole agent_input Connection 2 0 (Some []) _ _ _ _ _ None whole_input (both_asked logged_first sealed_first)
 
--- another session over these bytes met want of memory at the append: its answers aren't those of the bytes alone
+-- another session over these bytes met want of memory at the append: the bytes alone don't decide
+-- its answers
 no_memory_at_append : IsSession Connection 2 0 (Some agent_input) (Some []) (append_body ∷ flush_body ∷ []) (flush_asked ∷ []) (Refused 9 ∷ Reply sealed_first ∷ []) None
 unfolding agent_input
 no_memory_at_append =
@@ -127,7 +128,7 @@ no_memory_at_append =
     (asked flush_asked sealed_first flush_is_encoded (lit< tt)) (written _ None) in
     record { made = None; takes = two; left = Some []; read = refl; ends = well refl refl refl }
 
--- what comes from outside the bytes: want of memory, a failed read or write, a daemon that gave up
+-- the events from outside the bytes: want of memory, a failed read or write, a daemon that gave up
 from_outside : map is_from_outside (9 ∷ 14 ∷ 33 ∷ 35 ∷ 41 ∷ []) ≡ true ∷ true ∷ true ∷ true ∷ true ∷ []
 from_outside = refl
 
@@ -135,6 +136,7 @@ from_outside = refl
 from_bytes : map is_from_outside (1 ∷ 8 ∷ 10 ∷ 11 ∷ 13 ∷ 21 ∷ 30 ∷ 44 ∷ 46 ∷ 47 ∷ []) ≡ false ∷ false ∷ false ∷ false ∷ false ∷ false ∷ false ∷ false ∷ false ∷ false ∷ []
 from_bytes = refl
 
--- the ends that frames make are none, a length that is none, and a frame that is cut short
+-- the ends that frames make: without a fault, at an invalid length, and at a frame that is cut
+-- short
 ends_of_frames : map is_end_of_frames (None ∷ Some 11 ∷ Some 12 ∷ Some 13 ∷ Some 14 ∷ Some 46 ∷ Some 47 ∷ []) ≡ true ∷ true ∷ true ∷ true ∷ false ∷ false ∷ false ∷ []
 ends_of_frames = refl

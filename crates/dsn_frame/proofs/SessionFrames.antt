@@ -1,4 +1,5 @@
--- The frames of a session: they are the first frames of the bytes that it read, and its end says what follows them.
+-- The frames of a session: they are the first frames of the bytes that it read, and its end says
+-- what follows them.
 use Rattle.std.proofs.Common.{◌≡◌, ℕ, ◌+◌, Bool, true, false, List, [], ◌∷◌, ◌++◌, length, refl, sym, ap, subst, ◌∙◌, append_assoc}
 use Rattle.std.specs.Prelude.{Option, Some, None, unwrap_or}
 use Rattle.std.specs.Io.KnownBytes.{Consumes}
@@ -35,7 +36,7 @@ all_parts P (x ∷ xs) ys all =
 pub frames_cons : (bytes : List ℕ) (frames : List (List ℕ)) (rest : List ℕ) → flat_map frame (bytes ∷ frames) ++ rest ≡ frame bytes ++ (flat_map frame frames ++ rest)
 frames_cons bytes frames rest = ap (λ (text : List ℕ). text ++ rest) (flat_map-cons frame bytes frames) ∙ append_assoc (frame bytes) (flat_map frame frames) rest
 
--- of two lists of frames with which the same bytes begin the one begins with the other
+-- if the same bytes begin with two lists of frames, one list begins with the other
 pub data Compared (some others : List (List ℕ)) (x y : List ℕ) : Type 0 where
   first : (more : List (List ℕ)) → others ≡ some ++ more → x ≡ flat_map frame more ++ y → Compared some others x y
   beyond : (bytes : List ℕ) (more : List (List ℕ)) → some ≡ others ++ bytes ∷ more → y ≡ frame bytes ++ (flat_map frame more ++ x) → Compared some others x y
@@ -54,7 +55,7 @@ compare (a ∷ some) (b ∷ others) x y legal legal_others is =
     let same = same_front a b (flat_map frame some ++ x) (flat_map frame others ++ y) legal.0 legal_others.0 fronts in
     compared_push a b some others x y same.0 (compare some others x y legal.1 legal_others.1 same.1)
 
--- a source that tells all its bytes tells what is left
+-- a source with known bytes leaves known bytes
 pub known_left : (bytes : List ℕ) (left : Option (List ℕ)) (text : List ℕ) → Consumes (Some bytes) left text → (rest : List ℕ) × (left ≡ Some rest) × (bytes ≡ text ++ rest)
 known_left bytes None text read = absurd read
 known_left bytes (Some rest) text read = (rest, refl, read)
@@ -73,7 +74,7 @@ number_of a b same = ap (λ (known : Option ℕ). unwrap_or known 0) same
 no_end_so : (number code : ℕ) → is_end_of_frames (Some number) ≡ false → Some number ≡ Some code → is_end_of_frames (Some code) ≡ false
 no_end_so number code apart same = subst (λ (n : ℕ). is_end_of_frames (Some n) ≡ false) (number_of number code same) apart
 
--- an end that a frame makes is none that bytes which are no frame make
+-- an end at a frame isn't one that a rest without a whole frame makes
 takes_no_end : (medium : Medium) (limit accepted place : ℕ) (bytes : List ℕ) (asks : List Body) (said : List Spoken) (end : Option ℕ) → Takes medium limit accepted place bytes asks said end → (code : ℕ) → end ≡ Some code → is_end_of_frames (Some code) ≡ false
 takes_no_end medium limit accepted place bytes _ _ _ (faulty fault is) code never = absurd cc
 takes_no_end medium limit accepted place bytes _ _ _ (out_of_memory is) code never = absurd cc
@@ -95,8 +96,8 @@ session_no_end medium limit before _ _ _ _ (taken frames bodies more answers sai
 
 -- ---- the end of a session
 
--- what the end says of the bytes that were left: a frame made it; no frame followed; a whole frame followed beyond as
--- many as there may be; or it came from outside the bytes
+-- the cause of the end, given the bytes that were left: a frame, no further frame, a whole frame
+-- beyond the limit, or an event from outside the bytes
 pub data EndsAt (limit count : ℕ) (made : Option ℕ) (rest : List ℕ) (end : Option ℕ) : Type 0 where
   at_frame : (code : ℕ) → made ≡ Some code → end ≡ Some code → EndsAt limit count made rest end
   no_frame : made ≡ None → (fault : Option FrameFault) → FramesEnd rest fault → end ≡ option_map frame_fault_code fault → EndsAt limit count made rest end
@@ -184,7 +185,8 @@ first_frames medium limit before bytes frames whole bodies answers end fault rea
     let legal = all_parts IsFrameBody whole (one ∷ more) (subst (λ (fs : List (List ℕ)). AllByRecursion IsFrameBody fs) parts all) in
     absurd (ends_with_no_frame of.rest one (flat_map frame more ++ reading.rest) fault of.ends legal.1.0 left)
 
--- the frames of a session are the first ones of the bytes, and all of them where the session ended as frames do
+-- the frames of a session are the first ones of the bytes, and all of them if the session ended as
+-- frames do
 pub takes_its_frames : (bytes : List ℕ) → TakesItsFrames bytes
 takes_its_frames bytes medium limit before left frames whole bodies answers end fault session of =
     let reading = session_reads medium limit before bytes left frames bodies answers end session in

@@ -1,4 +1,5 @@
--- Sessions: how one begins, goes on with one frame more, and ends; for an input and a connection alike.
+-- Sessions: how one begins, goes on with one frame more, and ends; for an input and a connection
+-- alike.
 use Rattle.std.proofs.Common.{◌≡◌, ℕ, ◌+◌, ◌<◌, List, [], ◌∷◌, ◌++◌, length, refl}
 use Rattle.std.specs.Prelude.{Option, Some, None, Result, Ok, Err, IfErr, unwrap_or}
 use Rattle.std.specs.Io.KnownBytes.{Consumes}
@@ -23,20 +24,20 @@ use Rattle.dsn_frame.specs.declared.frame_fault.FrameFault.{FrameFault}
 use Rattle.dsn_frame.specs.declared.refusal.Refusal.{Refusal}
 use Rattle.dsn_frame.specs.declared.refusal.Refusal.TheVariants as refusals
 
--- ---- what one frame comes to
+-- ---- the result of one frame
 
 refused_by : (medium : Medium) (limit accepted place : ℕ) (bytes : List ℕ) (fault : BodyFault) (first : Option BodyFault) → first_body_fault bytes ≡ first → fault ≡ unwrap_or first faults.NoMemory
     → Takes medium limit accepted place bytes [] (spoken.Refused (body_fault_code fault) ∷ []) None
 refused_by medium limit accepted place bytes fault None none is = rw is (out_of_memory none)
 refused_by medium limit accepted place bytes fault (Some first) some is = rw is (faulty first some)
 
--- a refused frame is answered by its refusal, and asks nothing
+-- a refused frame is answered with its refusal, and asks nothing
 pub refused_takes : (medium : Medium) (limit accepted place : ℕ) (bytes : List ℕ) (refusal : Refusal) → IsFrameRefused place bytes refusal
     → Takes medium limit accepted place bytes [] (spoken.Refused (refusal_code refusal) ∷ []) (refusal_end refusal)
 refused_takes medium limit accepted place bytes (refusals.Body fault) is = refused_by medium limit accepted place bytes fault (first_body_fault bytes) refl is
 refused_takes medium limit accepted place bytes refusals.OutOfTurn is = out_of_turn is.number is.body is.encoded is.apart
 
--- so it is for whatever is refused
+-- this holds for every result that is a refusal
 pub refused_takes_any : {A : Type 0} (medium : Medium) (limit accepted place : ℕ) (bytes : List ℕ) (result : Result A Refusal) → IfErr result (λ refusal. IsFrameRefused place bytes refusal)
     → IfErr result (λ refusal. Takes medium limit accepted place bytes [] (spoken.Refused (refusal_code refusal) ∷ []) (refusal_end refusal))
 refused_takes_any medium limit accepted place bytes (Ok body) is = tt
@@ -56,7 +57,7 @@ module _ (medium : Medium) (limit before : ℕ) (start : Option (List ℕ)) wher
   read_more left next frames bytes first more = rw (frames_more frames bytes) (Consumes-trans start left next (flat_map frame frames) (frame bytes) first more)
 
   module _ (left next : Option (List ℕ)) (frames : List (List ℕ)) (bodies : List Body) (answers : List Spoken) (bytes : List ℕ) (session : IsOpenSession medium limit before start left frames bodies answers) (few : length frames < limit) (reads : ReadsNext left next (Some bytes)) where
-    -- one frame more was read, and what it came to was answered: the session goes on
+    -- one frame more was read and answered, and the session goes on
     pub session_more : (more : List Body) (said : List Spoken) → Takes medium limit (before + length bodies) (length frames) bytes more said None
         → IsOpenSession medium limit before start next (frames ++ bytes ∷ []) (bodies ++ more) (answers ++ said)
     session_more more said takes = record {
@@ -77,7 +78,7 @@ module _ (medium : Medium) (limit before : ℕ) (start : Option (List ℕ)) wher
       ends = stopped code refl refl;
     }
 
-  -- ---- the end where a frame is to be read
+  -- ---- the end before a frame is read
 
   module _ (left now : Option (List ℕ)) (frames : List (List ℕ)) (bodies : List Body) (answers : List Spoken) (session : IsOpenSession medium limit before start left frames bodies answers) where
     -- there is no further frame
@@ -88,7 +89,7 @@ module _ (medium : Medium) (limit before : ℕ) (start : Option (List ℕ)) wher
     pub session_cut : (fault : FrameFault) → ReadsNone left now fault → IsSession medium limit before start now frames bodies answers (Some (frame_fault_code fault))
     session_cut fault reads = record { made = None; takes = session.takes; left = left; read = session.read; ends = cut refl fault reads }
 
-    -- a frame is there beyond as many as there may be
+    -- there is a frame beyond the limit
     pub session_too_many : (bytes : List ℕ) → length frames ≡ limit → ReadsNext left now (Some bytes) → IsSession medium limit before start now frames bodies answers (Some 47)
     session_too_many bytes full reads = record { made = None; takes = session.takes; left = left; read = session.read; ends = too_many refl bytes full reads.0 reads.1 }
 

@@ -53,7 +53,7 @@ turn_stream_failed (Err fault) over = refl
 -- ---- a run
 
 module _ {P : Type 0} (medium : Medium) (remaining : P → Option (List ℕ)) (limit accepted : P → ℕ) (after : P → P → List (List ℕ) → List Body → List Spoken → Option ServeFault → Type 0) (old : P) where
-  -- so many frames were taken and answered, and nothing ended the session
+  -- `count` frames were taken and answered, and nothing ended the session
   pub record IsRunSoFar (now : P) (count : ℕ) : Type 0 where
     pub frames : List (List ℕ)
     pub bodies : List Body
@@ -76,7 +76,7 @@ module _ {P : Type 0} (medium : Medium) (remaining : P → Option (List ℕ)) (l
     answers_counted = refl;
   }
 
-  -- the session ended where no frame was taken
+  -- the session ended before a frame was taken
   pub run_ended : (now last : P) (count : ℕ) (result : Result Served ServeFault) (so_far : IsRunSoFar now count)
       → IsSession medium (limit old) (accepted old) (remaining old) (remaining last) so_far.frames so_far.bodies so_far.answers (session_end medium (result_err result))
       → after old last so_far.frames so_far.bodies so_far.answers (result_err result) → IfOk result (λ served. served.frames ≡ count)

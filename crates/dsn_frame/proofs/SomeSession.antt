@@ -1,4 +1,5 @@
--- Some session: over all bytes there is a session that meets nothing from outside them, whatever its replies are.
+-- Some session: over all bytes there is a session that meets no event from outside, whatever its
+-- replies are.
 use Rattle.std.proofs.Common.{◌≡◌, ℕ, ◌+◌, ◌<◌, ◌≤◌, ◌⊎◌, inl, inr, Bool, true, false, cond, List, [], ◌∷◌, ◌++◌, length, take, drop, refl, sym, ap, subst, arith}
 use Rattle.std.specs.Prelude.{◌≢◌, Option, Some, None, option_and_then}
 use Rattle.std.specs.Int.{w32, to_be_bytes}
@@ -135,7 +136,7 @@ module _ (medium : Medium) (limit before : ℕ) (bytes rest : List ℕ) (replies
   ended left frames bodies answers end session decided replied from_bytes =
       record { left = left; frames = frames; bodies = bodies; answers = answers; end = end; session = session; alone = record { answered = decided; ended = from_bytes }; replied = replied }
 
-  -- it ended where a frame was to be read
+  -- it ended before a frame was read
   at_end : (fault : Option FrameFault) → FramesEnd rest fault → Before [] → Found
   at_end None is so_far =
       ended (Some []) so_far.frames so_far.bodies so_far.answers None (session_well medium limit before (Some bytes) (Some rest) (Some []) so_far.frames so_far.bodies so_far.answers so_far.session (is, refl))

@@ -1,4 +1,5 @@
--- Whole inputs: a session over frames that are requests in turn answers them, and its end is none of theirs.
+-- Whole inputs: a session over frames that are requests in turn answers them, and has no fault of
+-- its bytes.
 use Rattle.std.proofs.Common.{◌≡◌, ℕ, suc, ◌+◌, ◌<◌, ◌≤◌, true, List, [], ◌∷◌, ◌++◌, length, take, refl, ap, sym, subst, ◌∙◌, arith}
 use Rattle.std.specs.Prelude.{◌≢◌, Option, Some, None}
 use Rattle.std.specs.List.{flat_map, AllByRecursion}
@@ -60,7 +61,7 @@ turned number (first ∷ rest) bytes (body ∷ later) turn =
 
 -- ---- the session
 
--- what a session makes of a frame that encodes a body with its place as number
+-- the result of a frame that encodes a body with its place as number
 record TakesInTurn (medium : Medium) (body : Body) (more : List Body) (said : List Spoken) (end : Option ℕ) : Type 0 where
   outside : IsOutside medium end
   good : AllByRecursion IsReplyOrNoMemory said
@@ -80,12 +81,13 @@ takes_in_turn medium limit accepted position bytes body encodes few more said fa
 takes_in_turn medium limit accepted position bytes body encodes few more said fault (given_up_after other encoded room connected) =
     record { outside = end.given_up connected; good = tt; asks = λ on. absurd (on refl); few = omega arith }
 
--- an answer that could not be written ends the session so, whatever the frame came to
+-- an unwritten answer is the session's end, whatever the result of the frame
 goes_outside : (medium : Medium) (said : List Spoken) (made last : Option ℕ) → IsOutside medium made → GoesOn medium said made last → IsOutside medium last
 goes_outside medium _ _ _ outside (written said made) = outside
 goes_outside medium _ _ _ outside (unwritten answer made) = end.unwritten
 
--- a session that gave up stays so, unless an answer could not be written: then there is one, and it was asked
+-- a session that gave up keeps that end, unless an answer could not be written: then its body was
+-- asked
 goes_asks : (medium : Medium) (body : Body) (more : List Body) (said : List Spoken) (made last : Option ℕ) → (made ≢ Some 41 → AllByRecursion IsReply said → more ≡ body ∷ []) → GoesOn medium said made last → (made ≡ Some 41 → said ≡ [])
     → last ≢ Some 41 → AllByRecursion IsReply said → more ≡ body ∷ []
 goes_asks medium body more _ _ _ asks (written said made) silent on replies = asks on replies
@@ -103,7 +105,7 @@ takes_silent medium limit accepted position bytes _ _ _ (asked body reply encode
 takes_silent medium limit accepted position bytes _ _ _ (given_up body encoded connected) is = refl
 takes_silent medium limit accepted position bytes _ _ _ (given_up_after body encoded room connected) is = refl
 
--- what a session over frames that encode bodies in turn is
+-- a session over frames that encode bodies in turn
 record IsSessionInTurn (medium : Medium) (wanted : List Body) (frames : List (List ℕ)) (bodies : List Body) (answers : List Spoken) (made : Option ℕ) : Type 0 where
   outside : IsOutside medium made
   good : AllByRecursion IsReplyOrNoMemory answers
@@ -151,7 +153,8 @@ frames_end_so rest (Some NoMemory) fault ends is = absurd ends
 none_ended : (made : Option ℕ) → made ≡ None → made ≢ Some 41
 none_ended made none some = let never : ◌≡◌ {A = Option ℕ} None (Some 41) = sym none ∙ some in cc
 
--- what is asked where the last frame made no end of 41 is asked where the session ended with none
+-- if a body is asked unless the last frame made the end 41, it is asked unless the session ended
+-- with 41
 made_asks : (medium : Medium) (limit count : ℕ) (made : Option ℕ) (rest : List ℕ) (fault : Option ℕ) (more wanted : List Body) (P : Type 0) → (made ≢ Some 41 → P → more ≡ wanted) → EndsAt limit count made rest fault → fault ≢ Some 41 → P → more ≡ wanted
 made_asks medium limit count made rest fault more wanted P asks (at_frame code is fault_is) on here = asks (λ gone. on (fault_is ∙ sym is ∙ gone)) here
 made_asks medium limit count made rest fault more wanted P asks (no_frame none found ends fault_is) on here = asks (none_ended made none) here
@@ -166,12 +169,12 @@ whole_frames limit before bytes frames bodies whole = record {
   ends = refl;
 }
 
--- frames that are left are no further frame than there may be
+-- the frames that are left don't exceed the limit
 not_one_more : (limit before : ℕ) (frames taken_frames more : List (List ℕ)) (rest bytes after : List ℕ) → before + length frames ≤ limit → frames ≡ taken_frames ++ more → rest ≡ flat_map frame more → length taken_frames ≡ limit → rest ≡ frame bytes ++ after → ⊥
 not_one_more limit before frames taken_frames [] rest bytes after few parts left full is = omega (arith, front_length bytes after, ap length (sym left ∙ is))
 not_one_more limit before frames taken_frames (one ∷ more) rest bytes after few parts left full is = omega (arith, few, full, ap length parts, length-append taken_frames (one ∷ more))
 
--- the end of a session is none of a whole input's
+-- the end of a session over a whole input has no fault of the bytes
 ends_outside : (medium : Medium) (limit before : ℕ) (frames taken_frames more : List (List ℕ)) (made : Option ℕ) (rest : List ℕ) (fault : Option ℕ) → IsOutside medium made → before + length frames ≤ limit → frames ≡ taken_frames ++ more → rest ≡ flat_map frame more
     → (is_end_of_frames fault ≡ true → fault ≡ None) → EndsAt limit (length taken_frames) made rest fault → IsOutside medium fault
 ends_outside medium limit before frames taken_frames more made rest fault outside few parts left none (at_frame code is fault_is) = subst (λ (e : Option ℕ). IsOutside medium e) (is ∙ sym fault_is) outside
@@ -181,7 +184,7 @@ ends_outside medium limit before frames taken_frames more made rest fault outsid
     absurd (not_one_more limit before frames taken_frames more rest bytes after few parts left full is)
 ends_outside medium limit before frames taken_frames more made rest fault outside few parts left none (from_outside on code so apart here fault_is) = subst (λ (e : Option ℕ). IsOutside medium e) (sym fault_is) (here medium)
 
--- what is left after the first frames of a whole input are its other frames
+-- the bytes left after the first frames of a whole input are its other frames
 other_frames : (bytes rest : List ℕ) (frames taken_frames more : List (List ℕ)) → bytes ≡ flat_map frame frames → bytes ≡ flat_map frame taken_frames ++ rest → frames ≡ taken_frames ++ more → rest ≡ flat_map frame more
 other_frames bytes rest frames taken_frames more whole split parts =
     append_cancel_left (flat_map frame taken_frames) rest (flat_map frame more)

@@ -28,8 +28,8 @@ IsPartOfFrame part =
 
 -- ---- the frames of a whole input
 
--- how what follows the last whole frame ends an input: well, where nothing does, or with a fault of
--- its own
+-- how the bytes after the last whole frame end an input: without a fault if nothing is left, or
+-- with a fault
 abbrev pub FramesEnd : List ℕ → Option FrameFault → Type 0
 FramesEnd rest None = rest ≡ []
 FramesEnd rest (Some TooLong) = (length_prefix ≤ length rest) × (longest_body < declared_length rest)
@@ -43,7 +43,7 @@ pub record BeginsWithFrames (input : List ℕ) (bodies : List (List ℕ)) (rest 
   pub front : input ≡ flat_map frame bodies ++ rest
   pub whole : AllByRecursion IsFrameBody bodies
 
--- the frames of an input: as many whole ones as it begins with, and how the rest ends it
+-- the frames of an input: all the whole frames that it begins with, and how the rest ends it
 pub record AreFramesOf (input : List ℕ) (bodies : List (List ℕ))
     (end : Option FrameFault) : Type 0 where
   pub rest : List ℕ
@@ -52,12 +52,12 @@ pub record AreFramesOf (input : List ℕ) (bodies : List (List ℕ))
 
 -- ---- one frame, read from a source whose bytes may be known
 
--- what the next frame of a source is: this body's, or none at the end
+-- the next frame of a source: one with this body, or none at the end
 abbrev pub ReadsNext : Option (List ℕ) → Option (List ℕ) → Option (List ℕ) → Type 0
 ReadsNext old new None = IsAtEnd old × IsAtEnd new
 ReadsNext old new (Some body) = IsFrameBody body × Consumes old new (frame body)
 
--- what a fault says of the bytes that were read before it: the length alone, or less than a frame
+-- the bytes that were read before a fault: the length alone, or less than a frame
 abbrev pub StopsAt : FrameFault → List ℕ → Type 0
 StopsAt TooLong part = (length part ≡ length_prefix) × (longest_body < declared_length part)
 StopsAt Empty part = (length part ≡ length_prefix) × (declared_length part ≡ 0)
@@ -65,8 +65,8 @@ StopsAt CutShort part = (0 < length part) × IsPartOfFrame part
 StopsAt Read part = IsPartOfFrame part
 StopsAt NoMemory part = (length part ≡ length_prefix) × IsFrameLength (declared_length part)
 
--- no frame could be read: these bytes were, and a frame that is cut short is cut by the end of the
--- input
+-- no frame could be read, and these bytes were consumed; a frame that is cut short is cut by the
+-- end of the input
 pub record ReadsNone (old new : Option (List ℕ)) (fault : FrameFault) : Type 0 where
   pub part : List ℕ
   pub consumed : Consumes old new part
@@ -78,7 +78,7 @@ pub record ConsumesLength (old new : Option (List ℕ)) (size : ℕ) : Type 0 wh
   pub consumed : Consumes old new (to_be_bytes w32 size)
   pub legal : IsFrameLength size
 
--- the length of the next frame, which is longer than a buffer with this much room
+-- the next frame has this length, and is longer than a buffer with this much room
 pub record LacksRoom (room : ℕ) (old new : Option (List ℕ)) : Type 0 where
   pub size : ℕ
   pub consumed : ConsumesLength old new size

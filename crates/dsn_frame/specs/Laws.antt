@@ -1,4 +1,4 @@
--- What holds of all inputs: each has one list of frames and one end.
+-- Laws of all inputs: each has one list of frames and one end.
 use Rattle.std.specs.Prelude.{◌≡◌, ℕ, List, Option}
 use Rattle.dsn_frame.specs.Frame.{AreFramesOf}
 use Rattle.dsn_frame.specs.declared.frame_fault.FrameFault.{FrameFault}

@@ -1,5 +1,4 @@
--- Runs of sessions: what one frame's turn is, and what a whole session is, for whatever reads and
--- answers it.
+-- Runs of sessions: the turn of one frame, and a whole session, for any responder.
 use Rattle.std.specs.Prelude.{◌≡◌, ℕ, ◌+◌, List, [], ◌∷◌, ◌++◌, length, Option, None, Result, IfOk}
 use Rattle.std.specs.Io.KnownBytes.{Keeps}
 use Rattle.std.specs.Result.{result_err}
@@ -12,7 +11,7 @@ use Rattle.dsn_frame.specs.declared.session.Served.{Served}
 
 module _ {P : Type 0} (medium : Medium) (remaining : P → Option (List ℕ)) (limit accepted : P → ℕ)
     (after : P → P → List (List ℕ) → List Body → List Spoken → Option ServeFault → Type 0) where
-  -- the frame with this body was taken at its place, and its answer was written or not
+  -- the frame with this body was taken at its place, and its answer was written or lost
   pub record IsFrameTurn (old new : P) (place : ℕ) (bytes : List ℕ)
       (fault : Option ServeFault) : Type 0 where
     pub bodies : List Body
@@ -27,7 +26,7 @@ module _ {P : Type 0} (medium : Medium) (remaining : P → Option (List ℕ)) (l
         → length frames ≡ place → length answers ≡ place → after start old frames before answers None
         → after start new (frames ++ bytes ∷ []) (before ++ bodies) (answers ++ said) fault
 
-  -- a session over the bytes that were to be read, and what it left
+  -- a session over the unread bytes, and what it left
   pub record IsSessionRun (old new : P) (result : Result Served ServeFault) : Type 0 where
     pub frames : List (List ℕ)
     pub bodies : List Body

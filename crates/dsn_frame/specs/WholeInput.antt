@@ -1,5 +1,5 @@
--- Whole inputs: what a session takes from bytes that are requests in turn and nothing else (this
--- project's profile).
+-- Whole inputs: the frames that a session takes from bytes that are requests in turn and nothing
+-- else (this project's profile).
 use Rattle.std.specs.Prelude.{◌≡◌, ◌≢◌, ℕ, ◌+◌, ◌≤◌, List, [], ◌∷◌, ◌++◌, length, take, Option, Some, None}
 use Rattle.std.specs.List.{flat_map, AllByRecursion}
 use Rattle.dsn_text.specs.FaultCode.{lane_lost_code, no_memory_code, read_failed_code}
@@ -10,8 +10,7 @@ use Rattle.dsn_frame.specs.declared.bodies.spoken.Spoken.{Spoken}
 use Rattle.dsn_frame.specs.declared.bodies.spoken.Spoken.TheVariants.{Reply, Refused}
 use Rattle.dsn_frame.specs.Session.{Medium, Connection, unwritten_code, IsSession}
 
--- these frames encode these bodies, each the one at its place; the first has this number, and each
--- other the next one
+-- each of these frames encodes the body at its place, with numbers from this one on
 abbrev pub EncodeInTurn : ℕ → List (List ℕ) → List Body → Type 0
 EncodeInTurn number [] [] = Unit {0}
 EncodeInTurn number [] (body ∷ later) = ⊥
@@ -19,8 +18,7 @@ EncodeInTurn number (bytes ∷ rest) [] = ⊥
 EncodeInTurn number (bytes ∷ rest) (body ∷ later) =
     Encodes bytes number body × EncodeInTurn (number + 1) rest later
 
--- known bytes that are these frames, which encode these bodies in turn, and no more of them than
--- may still be asked
+-- known bytes that are these frames, which encode these bodies in turn and are within the limit
 pub record IsWholeInput (limit before : ℕ) (known : Option (List ℕ)) (frames : List (List ℕ))
     (bodies : List Body) : Type 0 where
   pub bytes : known ≡ Some (flat_map frame frames)
@@ -28,7 +26,7 @@ pub record IsWholeInput (limit before : ℕ) (known : Option (List ℕ)) (frames
   pub few : before + length frames ≤ limit
   pub in_turn : EncodeInTurn 0 frames bodies
 
--- an answer that is a reply, and one that is a reply or met want of memory
+-- an answer that is a reply, and an answer that is a reply or a refusal for want of memory
 abbrev pub IsReply : Spoken → Type 0
 IsReply (Reply reply) = Unit {0}
 IsReply (Refused number) = ⊥
@@ -37,8 +35,8 @@ abbrev pub IsReplyOrNoMemory : Spoken → Type 0
 IsReplyOrNoMemory (Reply reply) = Unit {0}
 IsReplyOrNoMemory (Refused number) = number ≡ no_memory_code
 
--- no fault, or one that is none of the bytes: want of memory, a read that failed, an answer that
--- was not written, or a daemon that gave up, which happens on a connection alone
+-- no fault, or one from outside the bytes: want of memory, a failed read, an unwritten answer, or,
+-- on a connection alone, a daemon that gave up
 pub data IsOutside (medium : Medium) : Option ℕ → Type 0 where
   none : IsOutside medium None
   no_memory : IsOutside medium (Some no_memory_code)
@@ -46,10 +44,10 @@ pub data IsOutside (medium : Medium) : Option ℕ → Type 0 where
   unwritten : IsOutside medium (Some (unwritten_code medium))
   given_up : medium ≡ Connection → IsOutside medium (Some lane_lost_code)
 
--- what a session that took these frames made of a whole input: no frame is at fault and none is
--- refused but for want of memory, the first frames are taken, and all of them where the session had
--- no fault; and where each answer is a reply, the bodies asked are the first ones of the input, one
--- for each frame that was taken, unless the daemon gave up
+-- What a session makes of a whole input. It has no fault of the bytes, and refuses frames only for
+-- want of memory. It takes the first frames, and all of them if it has no fault. If all answers are
+-- replies and the daemon didn't give up, the bodies asked are the first ones of the input, one for
+-- each frame taken.
 pub record TakesAll (medium : Medium) (frames : List (List ℕ)) (bodies : List Body)
     (taken : List (List ℕ)) (asked : List Body) (answers : List Spoken)
     (end : Option ℕ) : Type 0 where
@@ -60,7 +58,7 @@ pub record TakesAll (medium : Medium) (frames : List (List ℕ)) (bodies : List 
   pub all_asked : end ≢ Some lane_lost_code → AllByRecursion IsReply answers
       → asked ≡ take (length taken) bodies
 
--- nothing of an input that is requests in turn is refused without cause
+-- a session refuses nothing without cause of an input that is requests in turn
 abbrev pub IsTakenWhole : List ℕ → Type 0
 IsTakenWhole bytes =
     (medium : Medium) (limit before : ℕ) (left : Option (List ℕ)) (frames taken : List (List ℕ))

@@ -1,6 +1,5 @@
-//! Requests and answers in bytes: the bodies of frames to requests and back, answers to frames and
-//! back, and why bytes are neither.
-//! Implements docs/FORMATS.md, "Requests", "Which refusal a body gets" and "Answers".
+//! Requests and answers in bytes: how they are encoded and decoded, and why bytes are refused.
+//! Implements noticed-protocol(5).
 mod answer;
 mod answer_fault;
 mod body_fault;
@@ -20,11 +19,12 @@ pub use encode::{encode_lent, encode_request};
 pub use laws::bodies_are_requests_or_refused;
 pub use spoken::Spoken;
 
-/// The first version of the format: the first byte of each answer's body, and of most requests'.
+/// The first version of the format: the first byte of each answer's body, and of most requests.
 const VERSION: u8 = 1;
 
-/// The second version: the first byte of a Forget's body, and of an append's with moments.
+/// The second version: the first byte of a Forget, and of an append with moments.
 const SECOND_VERSION: u8 = 2;
 
-/// The third version: the first byte of the body of a flush that says how many outcomes it expects.
+/// The third version: the first byte of an append with types or extension fields, and of a flush
+/// whose further terms aren't the usual ones.
 const THIRD_VERSION: u8 = 3;

@@ -1,5 +1,5 @@
 //! Frames: a length in four bytes, and a body of that length.
-//! Implements docs/FORMATS.md, "Frames".
+//! Implements noticed-protocol(5).
 ghost use Rattle.std.specs.Prelude.{◌≡◌, ◌≢◌, ℕ, ◌+◌, length, drop, IfOk, IfErr, OnOk, MatchOption};
 ghost use Rattle.std.specs.Int.{w32, from_be_bytes, to_be_bytes};
 ghost use Rattle.std.specs.Io.KnownBytes.{Consumes, IsAtEnd, Keeps};
@@ -56,13 +56,16 @@ impl Frame {
     }
 }
 
-/// Reads the next frame, or none where the input ends before its first byte. A length that is
-/// out of bounds is refused before memory is taken for the body, and want of memory comes before
-/// anything of the body is read. After a fault the source is to be used no further. It makes at
-/// most 65,540 reads.
+/// Reads the next frame. Returns `None` if the input ends before the frame's first byte.
 ///
-/// It takes memory for each frame, and is for embedders and tests that keep frames; the daemon's
-/// [`FrameBuffer`](crate::FrameBuffer) is reused.
+/// Returns `TooLong` if the frame declares more than 65,536 bytes, `Empty` if it declares 0, and
+/// `CutShort` if the input ends within it. Returns `NoMemory` if memory for the frame is refused,
+/// and `Read` if a read fails. The length is checked before memory is allocated, and memory is
+/// allocated before any byte of the body is read. Don't use the source after an error. At most
+/// 65,540 reads are made.
+///
+/// Each frame is allocated. This is for embedders and tests that keep frames; the daemon reuses a
+/// [`FrameBuffer`](crate::FrameBuffer).
 #[tactic(auto, using(crate::proofs::FrameLaws::frame_read, crate::proofs::FrameLaws::length_missed, crate::proofs::FrameLaws::frame_missed))]
 pub fn read_frame<S: Source>(alloc: Global, source: &mut S) -> Result<Option<Frame>, FrameFault>
     ensures next { IfOk result
@@ -82,7 +85,11 @@ pub fn read_frame<S: Source>(alloc: Global, source: &mut S) -> Result<Option<Fra
     Ok(Some(Frame { bytes }))
 }
 
-/// Reads the length of the next frame's body, or none where the input ends before its first byte.
+/// Reads the length of the next frame's body, 1 to 65,536 bytes. Returns `None` if the input ends
+/// before its first byte.
+///
+/// Returns `Read` if a read fails, and `CutShort` if the input ends within the length. Returns
+/// `TooLong` above 65,536, and `Empty` for 0.
 #[tactic(auto, using(crate::proofs::FrameLaws::length_read))]
 pub(crate) fn read_length<S: Source>(source: &mut S) -> Result<Option<usize>, FrameFault>
     ensures next { IfOk result
@@ -106,7 +113,7 @@ pub(crate) fn read_length<S: Source>(source: &mut S) -> Result<Option<usize>, Fr
         return Err(FrameFault::CutShort);
     }
     let size = number_in(bytes) as usize;
-    // After a bad length nothing says where the next frame begins: so it ends the session.
+    // An invalid length ends the session: the start of the next frame is unknown.
     if size > LONGEST_BODY {
         return Err(FrameFault::TooLong);
     }
@@ -116,7 +123,8 @@ pub(crate) fn read_length<S: Source>(source: &mut S) -> Result<Option<usize>, Fr
     Ok(Some(size))
 }
 
-/// Reads the body of a frame, after its length, and gives the whole frame.
+/// Reads the body of a frame whose length was read, and returns the whole frame. Returns `NoMemory`
+/// if memory for it is refused, and otherwise fails as [`fill_frame`] does.
 fn read_after_length<S: Source>(
     alloc: Global,
     source: &mut S,
@@ -143,7 +151,8 @@ fn read_after_length<S: Source>(
     Ok(bytes)
 }
 
-/// Writes a length into the room for a whole frame, and reads the body after it.
+/// Writes a length into the first four bytes of `room`, and reads the body into the rest. Returns
+/// `Read` if a read fails, and `CutShort` if the input ends within the body.
 pub(crate) fn fill_frame<S: Source>(
     source: &mut S,
     size: usize,
@@ -176,7 +185,7 @@ pub(crate) fn fill_frame<S: Source>(
     Ok(())
 }
 
-/// The number that four bytes are, the highest first.
+/// The number in four bytes, highest byte first.
 #[tactic(auto, using(std::proofs::lemmas::Nat::be_bytes_4))]
 pub(crate) fn number_in(bytes: [u8; 4]) -> u32
     ensures value { result ≡ from_be_bytes w32 bytes }

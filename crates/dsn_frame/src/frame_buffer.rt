@@ -1,5 +1,5 @@
 //! A buffer for frames, which is kept from one frame to the next.
-//! Implements docs/FORMATS.md, "Frames".
+//! Implements noticed-protocol(5).
 ghost use Rattle.std.specs.Prelude.{◌≡◌, ◌≢◌, ◌+◌, ◌<◌, ◌≤◌, length, take, drop, IfOk, IfErr, OnOk, OnErr};
 ghost use Rattle.std.specs.Io.KnownBytes.{Consumes, Keeps};
 ghost use Rattle.dsn_device.specs.Failures.{counted};
@@ -17,18 +17,18 @@ use dsn_outcome::Source;
 use std::alloc::{AllocError, Global};
 use std::marker::Model;
 
-/// The bytes of the longest frame.
+/// The length of the longest frame, in bytes.
 const LONGEST_FRAME: usize = LENGTH + LONGEST_BODY;
 
-/// Room for one frame at a time, into which all frames of a session are read. It grows only where a
-/// frame is longer than any before, to twice what it was or more, and to no more than the longest
-/// frame. It keeps what it has until it is dropped: after one frame of the greatest length 65,540
-/// bytes, however short the frames after it.
+/// Room for one frame at a time, into which all frames of a session are read. It grows only for a
+/// frame that is longer than its room, to twice the room or to the length of the frame if that is
+/// longer. It never exceeds the longest frame, 65,540 bytes, and releases its memory only when it
+/// is dropped.
 #[derive(Debug, Drop)]
 pub struct FrameBuffer {
-    /// The frame that was read last is at the front; what follows it is left of longer ones.
+    /// The last frame is at the front. The bytes after it are left over from longer frames.
     bytes: Vec<u8>,
-    /// How many bytes that frame has; none where there is no frame.
+    /// The length of the last frame in bytes, or `None` if there is no frame.
     whole: Option<usize>,
 }
 
@@ -46,7 +46,7 @@ impl Model for FrameBuffer {
 }
 
 impl FrameBuffer {
-    /// A buffer with no frame, and no room so far. It takes no memory.
+    /// A buffer with no frame and no room. Allocates no memory.
     pub fn new(alloc: Global) -> FrameBuffer
         ensures room { result.room ≡ 0 }
         ensures none { result.held ≡ None }
@@ -57,10 +57,10 @@ impl FrameBuffer {
         }
     }
 
-    /// Reads the next frame, as [`read_frame`](crate::read_frame) does, and holds it in place of
-    /// the last one; none where the input ends before its first byte, or after a fault. Memory is
-    /// taken only for a frame that is longer than the room there is, and `NoMemory` is returned
-    /// only if that was refused.
+    /// Reads the next frame as [`read_frame`](crate::read_frame) does, and holds it in place of the
+    /// last one. The buffer holds no frame if the input ends before the frame's first byte, or
+    /// after an error. Memory is allocated only for a frame that is longer than the room, and
+    /// `NoMemory` is returned only if that is refused.
     pub fn read_next<S: Source>(&mut self, source: &mut S) -> Result<(), FrameFault>
         ensures next { IfOk result
             (λ _. ReadsNext (S.remaining source.old) (S.remaining source.new) self.new.held) }
@@ -87,10 +87,11 @@ impl FrameBuffer {
         Ok(())
     }
 
-    /// The frame that was read last, if the last call of [`read_next`](Self::read_next) read one.
+    /// The frame that the last call of [`read_next`](Self::read_next) read, or `None` if it read
+    /// none.
     ///
-    /// It isn't what `read_next` returns: a call that lends a part of the buffer can't say what the
-    /// buffer is afterwards, and so nothing of its room.
+    /// `read_next` doesn't return it: the contract of a call that lends a part of the buffer can't
+    /// say what room the buffer has afterwards.
     pub fn frame(&self) -> Option<FrameRef<'_>>
         ensures { result ≡ self.now.held }
     {
@@ -103,7 +104,7 @@ impl FrameBuffer {
     }
 }
 
-/// Reads the next frame to the front of a buffer, and answers how many bytes it has; none where the
+/// Reads the next frame to the front of a buffer. Returns its length in bytes, or `None` if the
 /// input ends before its first byte.
 #[tactic(auto, using(crate::proofs::FrameLaws::frame_read, crate::proofs::FrameLaws::length_missed, crate::proofs::FrameLaws::frame_missed, crate::proofs::FrameRoom::room_of_none, crate::proofs::FrameRoom::room_refused, crate::proofs::FrameRoom::room_of_part))]
 fn read_into<S: Source>(bytes: &mut Vec<u8>, source: &mut S) -> Result<Option<usize>, FrameFault>
@@ -142,7 +143,8 @@ fn read_into<S: Source>(bytes: &mut Vec<u8>, source: &mut S) -> Result<Option<us
     Ok(Some(whole))
 }
 
-/// Makes a buffer as long as a frame, at least. What it had stays, and zeros follow.
+/// Makes a buffer at least as long as a frame. Its bytes stay, and zeros follow. The buffer is
+/// unchanged if memory is refused.
 fn make_room(bytes: &mut Vec<u8>, whole: usize) -> Result<(), AllocError>
     requires bounded { length bytes.old.items ≤ longest_frame }
     requires legal { whole ≤ longest_frame }
@@ -153,13 +155,13 @@ fn make_room(bytes: &mut Vec<u8>, whole: usize) -> Result<(), AllocError>
     if whole <= bytes.len() {
         return Ok(());
     }
-    // At least twice as much each time, so that a session grows the buffer at most seventeen times.
+    // At least doubled each time, so a session grows the buffer at most seventeen times.
     let room = whole.max(2 * bytes.len()).min(LONGEST_FRAME);
     bytes.try_reserve_exact(room - bytes.len())?;
     bytes.resize(room, 0)
 }
 
-/// Reads a frame to the front of a buffer, after its length. What follows it stays.
+/// Reads a frame whose length was read to the front of a buffer. The bytes after the frame stay.
 fn fill_front<S: Source>(source: &mut S, size: usize, bytes: &mut [u8]) -> Result<(), FrameFault>
     requires legal { IsFrameLength size }
     requires room { length_prefix + size ≤ length bytes.old }

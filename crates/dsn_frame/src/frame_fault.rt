@@ -1,12 +1,12 @@
 //! Why no frame could be read.
-//! Implements docs/FORMATS.md, "Frames".
+//! Implements noticed-protocol(5).
 ghost use Rattle.std.specs.Prelude.{◌≡◌};
 ghost use Rattle.dsn_frame.specs.FrameFault.{frame_fault_code};
 
 use dsn_text::fault_code;
 use thiserror::Error;
 
-/// Why no frame could be read. The source is used no further after it.
+/// Why no frame could be read. The source isn't used after it.
 #[derive(Clone, Copy, Debug, PartialEq, Eq, Error)]
 pub enum FrameFault {
     /// Memory for the body was refused.
@@ -15,7 +15,7 @@ pub enum FrameFault {
     /// The frame declares a body of more than 65,536 bytes.
     #[error("the frame is longer than 65,536 bytes")]
     TooLong,
-    /// The frame declares no byte.
+    /// The frame declares a body of 0 bytes.
     #[error("the frame is empty")]
     Empty,
     /// The input ends within the frame.
@@ -27,7 +27,8 @@ pub enum FrameFault {
 }
 
 impl FrameFault {
-    /// The number of the fault, 9 or 11 to 14, as notes name it.
+    /// The number of the fault, as notes name it: 9 (memory), 11 (too long), 12 (empty), 13 (cut
+    /// short) or 14 (a failed read).
     pub fn code(&self) -> u32
         ensures { result ≡ frame_fault_code self.now }
     {

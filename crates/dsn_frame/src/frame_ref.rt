@@ -1,11 +1,11 @@
-//! A frame that stands in a buffer.
+//! A frame in a buffer.
 ghost use Rattle.std.specs.Prelude.{◌≡◌};
 ghost use Rattle.dsn_frame.specs.bodies.FrameBody.{IsFrameBody, frame};
 
 use crate::frame::LENGTH;
 use std::marker::Model;
 
-/// A frame that was read into a buffer, and stays there until the next one is read.
+/// A frame in a buffer, which stays there until the next one is read.
 #[derive(Debug, Drop)]
 pub struct FrameRef<'a> {
     /// The length, and then the body.

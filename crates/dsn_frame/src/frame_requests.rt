@@ -1,5 +1,4 @@
-//! The result of one frame: a body to be asked, or a refusal. Implements docs/FORMATS.md, "A
-//! session".
+//! The result of one frame: a request, or a refusal. Implements noticed-protocol(5).
 ghost use Rattle.std.specs.Prelude.{◌≢◌, ℕ, [], ◌∷◌, IfOk, IfErr};
 ghost use Rattle.dsn_outcome.specs.Body.{body_of};
 ghost use Rattle.dsn_outcome.specs.Request.{Bye};
@@ -13,9 +12,11 @@ use crate::refusal::Refusal;
 use dsn_outcome::Body;
 use std::alloc::Global;
 
-/// The body that the frame at this place of a session asks. A body that is no request is refused
-/// before its number is looked at, and then one whose number isn't the place. What is refused is
-/// to be answered by [`Refusal::code`].
+/// The request in the frame at this place of a session; it is never a goodbye.
+///
+/// Returns `Body` with the first fault of the body, or with `NoMemory` if the body has no fault and
+/// memory for the request is refused. Returns `OutOfTurn` if the body is a request whose number
+/// isn't the place. [`Refusal::code`] is the number to answer with.
 pub fn next_request(alloc: Global, place: u32, bytes: &[u8]) -> Result<Body, Refusal>
     ensures encoded { IfOk result (λ body. Encodes bytes.now place (body_of body)) }
     ensures no_goodbye { IfOk result (λ body. body_of body ≢ Bye) }

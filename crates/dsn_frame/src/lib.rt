@@ -1,5 +1,5 @@
-//! Requests and answers in bytes, the frames that carry them, what each frame comes to, and the
-//! sessions that they make.
+//! Requests and answers in bytes, the frames that carry them, the result of each frame, and
+//! sessions of frames.
 #![tactic(auto)]
 
 mod bodies;

@@ -1,5 +1,5 @@
-//! Why a frame asks nothing.
-//! Implements docs/FORMATS.md, "A session".
+//! Why a frame is refused.
+//! Implements noticed-protocol(5).
 ghost use Rattle.std.specs.Prelude.{◌≡◌, is_some};
 ghost use Rattle.dsn_frame.specs.Refusal.{refusal_code, refusal_end};
 
@@ -7,19 +7,20 @@ use crate::bodies::BodyFault;
 use dsn_text::fault_code;
 use thiserror::Error;
 
-/// Why a frame asks nothing.
+/// Why a frame is refused.
 #[derive(Clone, Copy, Debug, PartialEq, Eq, Error)]
 pub enum Refusal {
-    /// Its body is no request, or memory for the request was refused.
+    /// The body isn't a request, or memory for the request was refused.
     #[error("the body is refused: {0}")]
     Body(BodyFault),
-    /// Its body is a request, but has another number than the frame's place.
+    /// The body is a request, but its number isn't the frame's place.
     #[error("the number is out of turn")]
     OutOfTurn,
 }
 
 impl Refusal {
-    /// The number that the frame is answered: that of the body's fault, or 46.
+    /// The number of the refusal, as the answer carries it: that of the body's fault, or 46 (out of
+    /// turn).
     pub fn code(&self) -> u32
         ensures { result ≡ refusal_code self.now }
     {
@@ -29,7 +30,7 @@ impl Refusal {
         }
     }
 
-    /// Whether the session is over once that is answered.
+    /// Whether the session ends after the answer: for `OutOfTurn` alone.
     pub fn ends(&self) -> bool
         ensures { result ≡ is_some (refusal_end self.now) }
     {

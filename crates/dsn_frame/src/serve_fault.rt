@@ -1,5 +1,5 @@
-//! Why a session ended before what it reads did.
-//! Implements docs/FORMATS.md, "A session".
+//! Why a session ended before its input did.
+//! Implements noticed-protocol(5).
 ghost use Rattle.std.specs.Prelude.{◌≡◌};
 ghost use Rattle.dsn_frame.specs.ServeFault.{serve_fault_code};
 ghost use Rattle.dsn_frame.specs.Session.{Connection};
@@ -8,7 +8,7 @@ use crate::frame_fault::FrameFault;
 use dsn_text::fault_code;
 use thiserror::Error;
 
-/// Why a session ended before what it reads did.
+/// Why a session ended before its input did.
 #[derive(Clone, Copy, Debug, PartialEq, Eq, Error)]
 pub enum ServeFault {
     /// The next frame could not be read.
@@ -17,10 +17,10 @@ pub enum ServeFault {
     /// An answer could not be written.
     #[error("an answer could not be written")]
     WriteBack,
-    /// A frame's number was out of turn; that was answered.
+    /// The number of a frame's request was out of turn. The frame was answered.
     #[error("a number is out of turn")]
     Number,
-    /// There was one frame more than there may be.
+    /// There was a frame beyond the limit.
     #[error("there are too many frames")]
     Frames,
     /// The collector is gone.
@@ -29,7 +29,8 @@ pub enum ServeFault {
 }
 
 impl ServeFault {
-    /// The number of the fault on a connection: that of the frame's fault, 35, 46, 47 or 41.
+    /// The number of the fault on a connection: that of the frame's fault, 35 (unwritten answer),
+    /// 46 (out of turn), 47 (too many frames) or 41 (collector gone).
     pub fn code(&self) -> u32
         ensures { result ≡ serve_fault_code Connection self.now }
     {

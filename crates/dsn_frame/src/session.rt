@@ -1,5 +1,5 @@
-//! One session: its frames are read, and answered one after another.
-//! Implements docs/FORMATS.md, "A session".
+//! One session: its frames are read and answered one after another.
+//! Implements noticed-protocol(5).
 ghost use Rattle.std.specs.Prelude.{◌≡◌, ◌+◌, ◌<◌, None, [], IfOk, IfErr, OnOk};
 ghost use Rattle.std.specs.Result.{result_err};
 ghost use Rattle.dsn_frame.specs.Frame.{ReadsNext, ReadsNone};
@@ -15,11 +15,11 @@ use std::alloc::Global;
 /// A session that ended well.
 #[derive(Clone, Copy, Debug, PartialEq, Eq)]
 pub struct Served {
-    /// How many frames were read, each of which was answered.
+    /// The number of frames that were read. Each of them was answered.
     pub frames: u32,
 }
 
-/// What a frame is answered, and whether the session is over then.
+/// The answer to a frame, and whether the session ends after it.
 #[derive(Clone, Copy, Debug, PartialEq, Eq)]
 pub struct Turn {
     pub answer: Spoken,
@@ -27,7 +27,8 @@ pub struct Turn {
 }
 
 impl Turn {
-    /// How the session goes on, by whether the answer was written.
+    /// How the session goes on, given whether the answer was written. Returns `WriteBack` if it was
+    /// not, and otherwise `Number` if the session is over.
     pub fn after(self, written: bool) -> Result<(), ServeFault>
         ensures { result_err result ≡ turn_fault written self.over }
     {
@@ -43,7 +44,7 @@ impl Turn {
     }
 }
 
-/// What reads the frames of a session and answers them, each before the next one is read.
+/// A reader of a session's frames that answers each of them before it reads the next.
 pub trait Responder {
     ghost use Rattle.std.specs.Prelude.{ℕ, List, Option, Some, None};
     ghost use Rattle.dsn_outcome.specs.Request.{Body};
@@ -52,14 +53,14 @@ pub trait Responder {
     ghost use Rattle.dsn_frame.specs.declared.serve_fault.ServeFault.{ServeFault};
     ghost use Rattle.dsn_frame.specs.declared.serve_fault.ServeFault.TheVariants.{Frames};
 
-    // Where the session takes place.
+    // The medium of the session: an input that is read alone, or a connection.
     ghost medium: { Medium };
 
-    // The bytes that are still to be read, if they are known.
+    // The bytes that are still unread, if they are known.
     ghost remaining: { Self → Option (List ℕ) };
 
-    // How many frames there may be; and how many requests may be accepted, and were, with those of
-    // earlier sessions.
+    // The most frames of a session, and the most accepted requests. `accepted` is the number of
+    // requests accepted so far, those of earlier sessions among them.
     ghost limit: { Self → ℕ };
 
     ghost accepted: { Self → ℕ };
@@ -67,12 +68,12 @@ pub trait Responder {
     // Whether the frame at this place can be answered.
     ghost ready: { Self → ℕ → Type 0 };
 
-    // What a session leaves, by its frames, the bodies asked among them, the answers, and the fault
-    // that ended it, if one did.
+    // What a session leaves, given its frames, the bodies asked among them, the answers, and the
+    // fault that ended it, if any.
     ghost after: { Self → Self → List (List ℕ) → List Body → List Spoken → Option ServeFault
         → Type 0 };
 
-    /// Reads the next frame into the buffer, or none at the end.
+    /// Reads the next frame into the buffer. The buffer holds no frame if the input has ended.
     fn next(&mut self, buffer: &mut FrameBuffer) -> Result<(), FrameFault>
         ensures next { IfOk result
             (λ _. ReadsNext (remaining self.old) (remaining self.new) buffer.new.held) }
@@ -85,7 +86,7 @@ pub trait Responder {
             → after start self.old frames bodies answers None
             → after start self.new frames bodies answers (read_fault (result_err result)) };
 
-    /// Answers the frame with this body, at this place. After an error the session is over.
+    /// Answers the frame with this body at this place. The session is over after an error.
     fn turn(&mut self, place: u32, bytes: &[u8]) -> Result<(), ServeFault>
         requires ready { ready self.old place }
         requires few { place < limit self.old }
@@ -93,17 +94,18 @@ pub trait Responder {
         ensures turn { IsFrameTurn medium remaining limit accepted after self.old self.new place
             bytes.now (result_err result) };
 
-    // A frame beyond the last one changes nothing.
+    // A frame beyond the limit changes nothing.
     ghost beyond: { (start now : Self) (frames : List (List ℕ)) (bodies : List Body)
         (answers : List Spoken) → after start now frames bodies answers None
         → after start now frames bodies answers (Some Frames) };
 }
 
-/// Runs a session to its end. One buffer serves all its frames, and memory is taken only for a frame
-/// that is longer than any before it.
+/// Runs a session to its end. One buffer serves all its frames, and memory is allocated only for a
+/// frame that is longer than any before it.
 ///
-/// Returns the number of frames if the input ends after a frame, or has none. Returns `Frame` if no
-/// frame can be read, `Frames` if there is one more than `limit`, and the fault of a frame's turn.
+/// Returns the number of frames if the input ends before a frame's first byte. Returns `Frame` if
+/// the next frame can't be read, `Frames` if there are more than `limit` frames, and the error of
+/// [`Responder::turn`] if a turn fails.
 pub fn run_session<P: Responder>(
     alloc: Global,
     limit: u32,

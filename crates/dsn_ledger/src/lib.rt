@@ -3,7 +3,6 @@
 #![tactic(auto)]
 
 mod compacting;
-mod compacting_marked;
 mod file_limits;
 mod forgetting;
 mod header;

@@ -1,5 +1,5 @@
 //! The texts of the lines of the notes.
-//! Implements docs/FORMATS.md, "Notes".
+//! Implements noticed-protocol(5).
 #![tactic(auto, unfolding(crate::specs::Notes::answer_line, crate::specs::Notes::fault_line, crate::specs::Notes::unsent_line, crate::specs::Notes::key_words, crate::specs::Notes::open_line, crate::specs::Notes::reply_words, crate::specs::Notes::spoken_words))]
 
 ghost use Rattle.std.specs.Prelude.{◌≡◌, ◌+◌, ◌≤◌, ◌++◌, length, decimal};

@@ -1,5 +1,5 @@
 //! The daemon's answers to a delivery agent.
-//! Implements docs/FORMATS.md, "What a request does" and "Answers".
+//! Implements noticed-protocol(5).
 ghost use Rattle.std.specs.Prelude.{◌≡◌};
 ghost use Rattle.dsn_outcome.specs.History.{replied_in};
 

@@ -1,5 +1,5 @@
 //! The body of a delivery agent's request.
-//! Implements docs/FORMATS.md, "Requests".
+//! Implements noticed-protocol(5).
 use crate::draft::Draft;
 use crate::letter_cell::DraftTerms;
 use crate::outcome::Outcome;

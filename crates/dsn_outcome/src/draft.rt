@@ -1,5 +1,4 @@
-//! The draft of a notice, which a flush carries. Implements docs/FORMATS.md, "Flush: close the log
-//! and make its notice".
+//! The draft of a notice, which a flush carries. Implements noticed-protocol(5).
 ghost use Rattle.std.specs.Prelude.{◌≡◌, ◌≤◌, ◌↔◌, [], length, IsTrue, IsSome, IfOk, IfErr, OnOk, Some, None, unwrap_or};
 ghost use Rattle.dsn_outcome.specs.Draft.{first_draft_fault, is_count};
 ghost use Rattle.dsn_outcome.specs.DraftParts.{draft_fields_of};

@@ -1,5 +1,5 @@
 //! Why the fields of a draft are refused.
-//! Implements docs/FORMATS.md, "Which refusal a body gets".
+//! Implements noticed-protocol(5).
 ghost use Rattle.std.specs.Prelude.{◌≡◌};
 
 use dsn_text::NoMemory;
@@ -26,7 +26,7 @@ pub enum DraftFault {
     Wording,
     /// The extension fields are neither empty nor 1 to 8 valid lines. A valid line has a name that
     /// begins with `X-` and a value, and ends with LF alone.
-    #[error("the extension fields of the message are none")]
+    #[error("the extension fields of the message are malformed")]
     Extensions,
     /// Memory for the draft was refused.
     #[error("out of memory")]

@@ -1,5 +1,4 @@
-//! The fields of a draft as they are passed. Implements docs/FORMATS.md, "Flush: close the log and
-//! make its notice".
+//! The fields of a draft as they are passed. Implements noticed-protocol(5).
 ghost use Rattle.std.specs.Prelude.{◌≡◌, [], None, Some};
 ghost use Rattle.dsn_outcome.specs.declared.returned.Returned.TheVariants.{Header};
 ghost use Rattle.dsn_outcome.specs.declared.wording.Wording.TheVariants.{ByService};

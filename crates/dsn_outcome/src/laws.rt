@@ -1,5 +1,5 @@
 //! Laws of the history of requests, stated as contracts of functions that do nothing.
-//! Implements docs/FORMATS.md, "What a request does".
+//! Implements noticed-protocol(5).
 ghost use Rattle.std.specs.Prelude.{◌≡◌, ℕ, true, false, List, [], length, map};
 ghost use Rattle.dsn_outcome.specs.Agents.{from_agent};
 ghost use Rattle.dsn_outcome.specs.CloseRule.{StaysClosed, AnswersClosed, TakesNoOutcome, TakesNoOutcomeUntilForgotten, LeavesEveryLog, LeavesHeldKeys, LeavesSealedLetters};

@@ -1,5 +1,5 @@
 //! The outcome of one recipient's delivery (RFC 3464 section 2.3).
-//! Implements docs/FORMATS.md, "Append: log one recipient's outcome".
+//! Implements noticed-protocol(5).
 ghost use Rattle.std.specs.Prelude.{◌≡◌, [], IsTrue, IfOk, IfErr, OnOk, unwrap_or};
 ghost use Rattle.dsn_text.specs.Action.{action_of_byte};
 

@@ -1,5 +1,5 @@
 //! Why an outcome is refused.
-//! Implements docs/FORMATS.md, "Which refusal a body gets".
+//! Implements noticed-protocol(5).
 ghost use Rattle.std.specs.Prelude.{◌≡◌};
 ghost use Rattle.dsn_outcome.specs.OutcomeFault.{outcome_fault_code};
 
@@ -16,7 +16,7 @@ pub enum OutcomeFault {
     #[error("the original recipient is neither empty nor an address")]
     BadOriginal,
     /// The action is unknown, or the service's log doesn't take it.
-    #[error("the action is unknown or none that the service takes")]
+    #[error("the action is unknown, or the service does not take it")]
     BadAction,
     /// The status is not a valid status code.
     #[error("the status is no status code")]
@@ -41,11 +41,11 @@ pub enum OutcomeFault {
     RecipientType,
     /// The type of the original recipient isn't empty, and it isn't a valid type name or there is
     /// no original recipient.
-    #[error("the type of the original recipient is none, or is that of no recipient")]
+    #[error("the type of the original recipient is malformed, or there is no original recipient")]
     OriginalType,
     /// The type of the diagnostic isn't empty, and it isn't a valid type name or there is no
     /// diagnostic.
-    #[error("the type of the diagnostic is none, or is that of no diagnostic")]
+    #[error("the type of the diagnostic is malformed, or there is no diagnostic")]
     DiagnosticType,
     /// The extension fields are neither empty nor valid lines.
     #[error("the extension fields are no lines of a name that begins with X- and a value")]

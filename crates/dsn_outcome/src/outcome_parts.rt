@@ -1,5 +1,5 @@
 //! The fields of an outcome as a delivery agent passes them.
-//! Implements docs/FORMATS.md, "Append: log one recipient's outcome".
+//! Implements noticed-protocol(5).
 ghost use Rattle.std.specs.Prelude.{◌≡◌, []};
 
 use dsn_text::Stamp;

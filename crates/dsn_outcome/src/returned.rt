@@ -1,5 +1,5 @@
 //! Which part of the message a notice returns.
-//! Implements RFC 3461 section 4.3 and docs/FORMATS.md, "Flush: close the log and make its notice".
+//! Implements RFC 3461 section 4.3 and noticed-protocol(5).
 ghost use Rattle.std.specs.Prelude.{◌≡◌};
 ghost use Rattle.dsn_outcome.specs.Returned.{returned_byte, returned_of_byte};
 

@@ -1,5 +1,5 @@
 //! How a notice's words are chosen.
-//! Implements docs/FORMATS.md, "The notice".
+//! Implements noticed-notice(5).
 ghost use Rattle.std.specs.Prelude.{◌≡◌};
 ghost use Rattle.dsn_outcome.specs.Wording.{wording_byte, wording_of_byte};
 

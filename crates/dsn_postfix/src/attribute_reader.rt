@@ -1,5 +1,5 @@
 //! Reads attributes from the front of some bytes, one after another.
-//! Implements docs/FORMATS.md, "What Postfix's programs send".
+//! Implements docs/postfix-internals.md, "What Postfix's programs send".
 ghost use Rattle.std.specs.Prelude.{◌≡◌, true, codes, IfOk, IfErr, OnOk};
 ghost use Rattle.dsn_text.specs.Text.{is_queue_id};
 ghost use Rattle.dsn_postfix.specs.Attribute.{number_limit, offset_limit, zero_ended_at};

@@ -1,5 +1,5 @@
 //! The value of an attribute.
-//! Implements docs/FORMATS.md, "What Postfix's programs send".
+//! Implements docs/postfix-internals.md, "What Postfix's programs send".
 ghost use Rattle.std.specs.Prelude.{◌≡◌, ◌↔◌, ◌+◌, ◌<◌, drop, length, IsSome, IfSome, MatchOption};
 ghost use Rattle.dsn_postfix.specs.Attribute.{zero_ended_at};
 ghost use Rattle.dsn_postfix_files.specs.ZeroFree.{IsZeroFree, is_zero_free};

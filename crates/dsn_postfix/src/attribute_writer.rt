@@ -1,5 +1,5 @@
 //! Writes attributes at the end of a text.
-//! Implements docs/FORMATS.md, "What Postfix's programs send".
+//! Implements docs/postfix-internals.md, "What Postfix's programs send".
 ghost use Rattle.std.specs.Prelude.{◌≡◌, ◌<◌, ◌++◌, [], ◌∷◌, OnOk};
 ghost use Rattle.dsn_postfix.specs.Attribute.{attribute_bytes, number_attribute, offset_limit, text_attribute, zero_ended};
 

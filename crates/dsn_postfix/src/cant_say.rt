@@ -1,5 +1,5 @@
 //! Why no notice can be made of a log. Postfix's own service then makes the notice.
-//! Implements docs/FORMATS.md, "The notice of a Postfix log".
+//! Implements docs/postfix-internals.md, "The notice of a Postfix log".
 use dsn_postfix_files::LogField;
 use thiserror::Error;
 

@@ -1,5 +1,5 @@
 //! The request in some bytes.
-//! Implements docs/FORMATS.md, "What Postfix's programs send".
+//! Implements docs/postfix-internals.md, "What Postfix's programs send".
 ghost use Rattle.std.specs.Prelude.{◌≡◌, Ok, Err, IfOk, IfErr};
 ghost use Rattle.dsn_postfix.specs.PostfixRequest.{IsRequestIn};
 ghost use Rattle.dsn_postfix.specs.RequestReading.{postfix_request_at};

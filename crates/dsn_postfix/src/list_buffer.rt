@@ -1,5 +1,5 @@
 //! A buffer for lists of attributes, which is kept from one list to the next.
-//! Implements docs/FORMATS.md, "What Postfix's programs send".
+//! Implements docs/postfix-internals.md, "What Postfix's programs send".
 ghost use Rattle.std.specs.Prelude.{◌≡◌, ◌<◌, ◌≤◌, length, take, None, IfOk, IfErr, IfSome, OnErr, OnOk};
 ghost use Rattle.std.specs.Option.{option_map};
 ghost use Rattle.std.specs.Io.KnownBytes.{Keeps};

@@ -1,5 +1,5 @@
 //! The state of reading a list of attributes whose bytes come in pieces.
-//! Implements docs/FORMATS.md, "What Postfix's programs send".
+//! Implements docs/postfix-internals.md, "What Postfix's programs send".
 ghost use Rattle.std.specs.Prelude.{◌≡◌};
 ghost use Rattle.dsn_postfix.specs.inner.ListState.{IsStepWithin, state_after, step_over};
 

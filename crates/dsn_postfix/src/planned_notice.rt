@@ -1,5 +1,5 @@
 //! A notice to be made.
-//! Implements docs/FORMATS.md, "The notice of a Postfix log".
+//! Implements docs/postfix-internals.md, "The notice of a Postfix log".
 use crate::returned_part::ReturnedPart;
 use dsn_postfix_files::LogRecord;
 use dsn_text::Service;

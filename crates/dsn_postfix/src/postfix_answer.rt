@@ -1,5 +1,5 @@
 //! What bounce(8) sends: an announcement before a request, and a status after it.
-//! Implements docs/FORMATS.md, "What Postfix's programs send".
+//! Implements docs/postfix-internals.md, "What Postfix's programs send".
 ghost use Rattle.std.specs.Prelude.{◌≡◌, ◌<◌, ℕ, Ok, Err, IfOk, IfErr};
 ghost use Rattle.dsn_postfix.specs.Attribute.{number_limit};
 ghost use Rattle.dsn_postfix.specs.PostfixAnswer.{announcement_bytes, status_at, status_bytes};

@@ -1,5 +1,6 @@
 //! Which addresses a log file can have as they are.
-//! Implements RFC 5321 section 4.1.2 and docs/FORMATS.md, "The record that an append becomes".
+//! Implements RFC 5321 section 4.1.2 and docs/postfix-internals.md, "The record that an append
+//! becomes".
 ghost use Rattle.std.specs.Prelude.{◌≡◌, ◌+◌, length};
 ghost use Rattle.std.specs.List.{list_all, suffix_len};
 ghost use Rattle.dsn_postfix.specs.VerpPath.{domain_part};

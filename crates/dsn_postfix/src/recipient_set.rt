@@ -1,6 +1,6 @@
 //! Sets in which outcomes and recipients are looked up, so that the time for a log doesn't grow
 //! with the square of its records.
-//! Implements docs/FORMATS.md, "The notice of a Postfix log".
+//! Implements docs/postfix-internals.md, "The notice of a Postfix log".
 ghost use Rattle.std.specs.Prelude.{◌≡◌, ◌∷◌, List, map, IfOk, OnOk};
 ghost use Rattle.std.specs.List.{list_any};
 ghost use Rattle.dsn_text.specs.declared.service.Service.TheVariants.{Defer};

@@ -1,5 +1,5 @@
 //! Why bytes are not a valid request of Postfix's programs.
-//! Implements docs/FORMATS.md, "What Postfix's programs send".
+//! Implements docs/postfix-internals.md, "What Postfix's programs send".
 
 use thiserror::Error;
 
@@ -24,10 +24,10 @@ pub enum RequestFault {
     #[error("what is asked is unknown")]
     Command,
     /// The queue's name isn't 1 to 100 letters and digits.
-    #[error("the queue name is none")]
+    #[error("the queue name is malformed")]
     QueueName,
     /// The queue id isn't 1 to 32 letters and digits.
-    #[error("the queue id is none")]
+    #[error("the queue id is malformed")]
     QueueId,
     /// The delimiters aren't two bytes.
     #[error("the delimiters are not two bytes")]

@@ -1,5 +1,5 @@
 //! The attributes of requests, read one after another in the order of their layouts.
-//! Implements docs/FORMATS.md, "What Postfix's programs send".
+//! Implements docs/postfix-internals.md, "What Postfix's programs send".
 //! A request has exactly the attributes of its layout, in its order. bounce(8) skips what it
 //! doesn't want, and accepts signs and spaces in numbers; Postfix's programs send none of these. So
 //! what is read can be written again, byte for byte.

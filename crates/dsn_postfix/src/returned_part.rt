@@ -1,5 +1,5 @@
 //! What a notice returns of its message.
-//! Implements docs/FORMATS.md, "The notice of a Postfix log".
+//! Implements docs/postfix-internals.md, "The notice of a Postfix log".
 
 /// What a notice returns (RFC 3461 section 4.3).
 #[derive(Clone, Copy, Debug, PartialEq, Eq)]

@@ -1,5 +1,5 @@
 //! The delimiters of a recipient in a return path.
-//! Implements docs/FORMATS.md, "What Postfix's programs send".
+//! Implements docs/postfix-internals.md, "What Postfix's programs send".
 ghost use Rattle.std.specs.Prelude.{◌≡◌, ◌↔◌, IsSome, IfSome};
 ghost use Rattle.dsn_postfix.specs.AttributeValues.{AreDelimiters};
 

@@ -1,5 +1,5 @@
 //! The address of a notice that contains its recipient.
-//! Implements docs/FORMATS.md, "What Postfix's programs send".
+//! Implements docs/postfix-internals.md, "What Postfix's programs send".
 ghost use Rattle.std.specs.Prelude.{◌≡◌, ◌++◌, IfOk, OnOk};
 ghost use Rattle.dsn_postfix_files.specs.LogRecord.{logged_fields_in};
 ghost use Rattle.dsn_postfix.specs.VerpPath.{led_by, notice_address, verp_path, verp_recipient};

@@ -1,5 +1,5 @@
 //! Which recipients a request's notices report.
-//! Implements docs/FORMATS.md, "The notice of a Postfix log".
+//! Implements docs/postfix-internals.md, "The notice of a Postfix log".
 ghost use Rattle.std.specs.Prelude.{◌≡◌};
 ghost use Rattle.dsn_postfix.specs.Wanted.{wants, wants_flag};
 

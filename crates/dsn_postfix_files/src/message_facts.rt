@@ -1,5 +1,5 @@
 //! The facts of a message in its queue file, except those of its recipients.
-//! Implements docs/FORMATS.md, "Postfix's queue files".
+//! Implements docs/postfix-internals.md, "Postfix's queue files".
 ghost use Rattle.std.specs.Prelude.{◌≡◌, List};
 ghost use Rattle.std.specs.List.{before_first};
 ghost use Rattle.std.specs.Option.{option_map};

@@ -1,5 +1,5 @@
 //! The header of a message.
-//! Implements RFC 5322 section 2.2 and docs/FORMATS.md, "Postfix's queue files".
+//! Implements RFC 5322 section 2.2 and docs/postfix-internals.md, "Postfix's queue files".
 ghost use Rattle.std.specs.Prelude.{◌≡◌, take};
 ghost use Rattle.dsn_postfix_files.specs.MessageHeader.{after_all, begins_with, is_blank_byte, is_colon, is_header_line, is_name_byte, longest_field_name, message_header, names_field};
 

@@ -1,5 +1,5 @@
 //! The text of a queue file's message: its header, an empty line and its body.
-//! Implements docs/FORMATS.md, "Postfix's queue files".
+//! Implements docs/postfix-internals.md, "Postfix's queue files".
 ghost use Rattle.std.specs.Prelude.{◌≡◌, ◌++◌, ◌-◌, List, IfOk, OnOk, length, take};
 ghost use Rattle.dsn_postfix_files.specs.MessageText.{is_of_text, message_text, text_of_record};
 ghost use Rattle.dsn_postfix_files.specs.QueueListing.{QueueEnding, RecordsFrom};

@@ -1,5 +1,5 @@
 //! Reads a queue file, one record at a time.
-//! Implements docs/FORMATS.md, "Postfix's queue files".
+//! Implements docs/postfix-internals.md, "Postfix's queue files".
 //! It is stricter than Postfix on damaged files only: a pointer needs a digit, and a length has at
 //! most five bytes. It returns records of type `w`, which Postfix skips.
 ghost use Rattle.std.specs.Prelude.{◌≡◌, ◌<◌, ◌≤◌, List, length, IfOk, IfSome, MatchOption, MatchResult};

@@ -1,5 +1,5 @@
 //! One record of a queue file.
-//! Implements docs/FORMATS.md, "Postfix's queue files".
+//! Implements docs/postfix-internals.md, "Postfix's queue files".
 ghost use Rattle.std.specs.Prelude.{◌≡◌, ◌-◌, ◌≤◌};
 ghost use Rattle.std.specs.Option.{option_map};
 ghost use Rattle.dsn_postfix_files.specs.QueueRecord.{length_at, longest_length, queue_record_at, queued_bytes_in};

@@ -1,5 +1,5 @@
 //! The step at a place of a queue file.
-//! Implements docs/FORMATS.md, "Postfix's queue files".
+//! Implements docs/postfix-internals.md, "Postfix's queue files".
 ghost use Rattle.std.specs.Prelude.{◌≡◌, ◌≤◌, drop, length};
 ghost use Rattle.dsn_postfix_files.specs.QueueWalk.{pointer_step, step_at};
 ghost use Rattle.dsn_postfix_files.specs.inner.QueueReading.{step_in};

@@ -1,5 +1,5 @@
 //! The recipients of a queue file.
-//! Implements docs/FORMATS.md, "Postfix's queue files".
+//! Implements docs/postfix-internals.md, "Postfix's queue files".
 ghost use Rattle.std.specs.Prelude.{◌≤◌, List, length};
 ghost use Rattle.dsn_postfix_files.specs.QueueListing.{QueueEnding};
 ghost use Rattle.dsn_postfix_files.specs.inner.QueueReading.{IsLaterPlace, StepsRecipients};

@@ -1,5 +1,5 @@
 //! The state of a recipient in a queue file.
-//! Implements docs/FORMATS.md, "Postfix's queue files".
+//! Implements docs/postfix-internals.md, "Postfix's queue files".
 ghost use Rattle.std.specs.Prelude.{◌≡◌};
 ghost use Rattle.dsn_postfix_files.specs.QueueRecipients.{state_of_kind};
 

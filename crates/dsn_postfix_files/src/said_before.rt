@@ -1,5 +1,5 @@
 //! The facts of a recipient in the records before its own.
-//! Implements docs/FORMATS.md, "Postfix's queue files".
+//! Implements docs/postfix-internals.md, "Postfix's queue files".
 ghost use Rattle.std.specs.Prelude.{◌≡◌};
 ghost use Rattle.dsn_postfix_files.specs.LogRecord.{number_if_said, number_or_0, written_number};
 ghost use Rattle.dsn_postfix_files.specs.QueueRecipients.{after_record, nothing_before, recipient_facts_in, recipient_with, with_attribute};

@@ -24,7 +24,7 @@ use Rattle.dsn_postfix_notices.specs.requests.Deed.{Answer, Appended, Deed, Hand
 use Rattle.dsn_postfix_notices.specs.requests.MailFound.{readings}
 use Rattle.dsn_postfix_notices.specs.requests.NoticeDeeds.{EndsTelling, IsNotified}
 use Rattle.dsn_postfix_notices.specs.requests.RequestLaws.{AreAllTold, AreHandedIn, AreToldFirst, HandsInOnce, IsLeftToPostfix, IsRemovedAfter, IsTellingDone, StandsOrIsPassedOn, hand_ins}
-use Rattle.dsn_postfix_notices.specs.requests.RequestLetters.{AreLettersOf, message_said}
+use Rattle.dsn_postfix_notices.specs.requests.RequestLetters.{AreLettersOf, first_serial, message_said}
 use Rattle.dsn_postfix_notices.specs.requests.RequestStatus.{RequestAnswer, carried_out, is_carried_out, not_carried_out, status_after, status_passed_on}
 use Rattle.dsn_postfix_notices.specs.requests.Task.{Task, Terms}
 use Rattle.dsn_postfix_notices.proofs.RequestLawLemmas.{Block, RemovesNone, hand_ins-append, is_removal}
@@ -284,7 +284,7 @@ none_once task gained asked none (inl is) = is
 none_once task gained asked none (inr once) =
     let letters = once.asked in
     let no_notices : letters.notices ≡ [] = sym (same_notices [] letters.notices _ (no_sender_plan task _ once.found.log asked none) letters.planned) in
-    let no_letters : once.letters ≡ [] = subst (λ (ns : List NoticeFacts). AreLettersOf (message_said task letters.records) task.terms.moment task.terms.serial ns once.letters) no_notices letters.each in
+    let no_letters : once.letters ≡ [] = subst (λ (ns : List NoticeFacts). AreLettersOf (message_said task letters.records) task.terms.moment (first_serial task once.found.log) ns once.letters) no_notices letters.each in
     let no_front : once.front ≡ [] = empty_front once.front once.rest (sym no_letters ∙ once.letters_are) in
     subst (λ (ls : List Letter). AreHandedIn task.terms.settings.host ls (hand_ins gained)) no_front once.each
 

@@ -13,7 +13,7 @@ use Rattle.dsn_postfix.specs.declared.postfix_request.NoticeRequest.{NoticeReque
 use Rattle.dsn_postfix.specs.declared.postfix_request.PostfixRequest.{PostfixRequest}
 use Rattle.dsn_smtp.specs.declared.hand_in_fault.HandInFault.{HandInFault}
 use Rattle.dsn_postfix_notices.specs.declared.requests.deed_fault.DeedFault.{DeedFault}
-use Rattle.dsn_postfix_notices.specs.requests.AnsweredRequest.{bounce_serial, FlushesBounceLog, IsBounceLogTold, IsFlushedInTurn, in_turn, told}
+use Rattle.dsn_postfix_notices.specs.requests.AnsweredRequest.{FlushesBounceLog, IsBounceLogTold, IsFlushedInTurn, in_turn, told}
 use Rattle.dsn_postfix_notices.specs.requests.AppendDeeds.{IsAppended, record_bytes, tried}
 use Rattle.dsn_postfix_notices.specs.requests.CarriedOut.{IsCarriedOut, queue_id_of}
 use Rattle.dsn_postfix_notices.specs.requests.Deed.{Answer, Appended, Deed, HandedIn, LogReleased, LogSought, MessageRead}

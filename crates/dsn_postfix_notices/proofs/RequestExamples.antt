@@ -31,7 +31,7 @@ use Rattle.dsn_postfix_notices.specs.requests.HandingIn.{refusal_of}
 use Rattle.dsn_postfix_notices.specs.requests.MailFound.{log_unread, readings}
 use Rattle.dsn_postfix_notices.specs.requests.NoticeDeeds.{EndsTelling, unread}
 use Rattle.dsn_postfix_notices.specs.requests.RequestLaws.{hand_ins}
-use Rattle.dsn_postfix_notices.specs.requests.RequestLetters.{message_said, next_serial, places_done}
+use Rattle.dsn_postfix_notices.specs.requests.RequestLetters.{first_serial, message_said, next_serial, places_done}
 use Rattle.dsn_postfix_notices.specs.requests.RequestStatus.{RequestAnswer, not_carried_out}
 use Rattle.dsn_postfix_notices.specs.requests.Task.{Task, Terms}
 
@@ -205,7 +205,7 @@ bounce_log_unknown = answered.put_off refl (answered.unsought fault.Failed refl 
 -- the bounce log can't be read: neither log is changed, even with CLEAN
 bounce_log_unread : (bytes : List ℕ) → IsRequestIn bytes (Flush (asked 0)) → IsAnswered (terms_at Defer 0) (Flush (asked 3)) [] (Ok not_carried_out) (LogSought Bounce id (Ok true) ∷ LogRead Bounce id (Err fault.Failed) ∷ LogReleased ∷ [])
 bounce_log_unread bytes are =
-    answered.put_off refl (answered.told (LogRead Bounce id (Err fault.Failed) ∷ LogReleased ∷ []) refl (answered.flushed bytes are (unread_at Bounce bytes 500000)))
+    answered.put_off refl (answered.told (LogRead Bounce id (Err fault.Failed) ∷ LogReleased ∷ []) refl (answered.flushed bytes are (unread_at Bounce bytes 0)))
 
 -- there is a bounce log, and no memory for the bytes of its flush
 bounce_log_without_memory : (refused : NoMemory) → IsAnswered (terms_at Defer 0) (Flush (asked 3)) [] (Err refused) (LogSought Bounce id (Ok true) ∷ [])
@@ -294,3 +294,19 @@ serials_begin_again = refl
 
 serials_follow : next_serial 7 ≡ 8
 serials_follow = refl
+
+-- the serials of a log, and of the same log after it has grown by a byte
+abbrev task_at : Service → Task
+task_at service = task_of (terms_at service 7) (Flush (asked 0)) (asked 0)
+
+serial_of_bounce_log : first_serial (task_at Bounce) (Some (codes "abc")) ≡ 3000000
+serial_of_bounce_log = refl
+
+serial_of_grown_log : first_serial (task_at Bounce) (Some (codes "abcd")) ≡ 4000000
+serial_of_grown_log = refl
+
+serial_of_defer_log : first_serial (task_at Defer) (Some (codes "abc")) ≡ 3500000
+serial_of_defer_log = refl
+
+serial_without_log : first_serial (task_of_one 0) None ≡ 0
+serial_without_log = refl

@@ -7,7 +7,7 @@ mod queue_folder;
 
 pub use event_log::EventLog;
 pub use queue_folder::{
-    FolderHashing, LargeFiles, MOST_DEPTH, OtherDepth, PostfixSetup, PostfixSystem, QueueFault,
-    ascii_text, ask_own_service, asked_text, check_queues, depth_against, path_in_queue,
-    socket_name,
+    FolderHashing, LargeFiles, MOST_DEPTH, OtherDepth, PostfixSetup, PostfixSystem, PreviewSystem,
+    QueueFault, QueueFolder, ascii_text, ask_own_service, asked_text, check_queues, depth_against,
+    path_in_queue, socket_name,
 };

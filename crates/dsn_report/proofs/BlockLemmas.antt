@@ -56,6 +56,16 @@ opening-plain ByOutcome Defer arrived = refl
 opening-plain ByOutcome Trace true = refl
 opening-plain ByOutcome Trace false = refl
 
+-- no consequence begins with a dot
+pub consequence-plain : (wording : Wording) (service : Service) (arrived : Bool) → begins_with_dot (words_by wording service arrived).consequence ≡ false
+consequence-plain ByService Bounce arrived = refl
+consequence-plain ByService Defer arrived = refl
+consequence-plain ByService Trace arrived = refl
+consequence-plain ByOutcome Bounce arrived = refl
+consequence-plain ByOutcome Defer arrived = refl
+consequence-plain ByOutcome Trace true = refl
+consequence-plain ByOutcome Trace false = refl
+
 -- a line that begins with a plain name doesn't begin with a dot
 pub plain-line : (name value : List ℕ) → begins_plainly name ≡ true → begins_with_dot (name ++ value) ≡ false
 plain-line [] value plain = cc

@@ -20,7 +20,8 @@ use Rattle.dsn_report.proofs.BoundaryLaw.{boundary_number-is}
 use Rattle.dsn_report.specs.Boundary.{boundary_of, is_delimiter, is_ruled_out, returned_lines, returns_message}
 use Rattle.dsn_report.specs.DeliveryStatus.{line_if_any, per_message_fields, per_recipient_fields, recipient_group, delivery_status, typed, usual_address_type, usual_diagnostic_type}
 use Rattle.dsn_report.specs.Multipart.{DividesIntoParts, divide, divide_more, message_body, multipart_of, multipart_of_pieces, part_lines, returned_parts, notice_parts, is_last_delimiter}
-use Rattle.dsn_report.specs.Notice.{notice_header, part_header, part_of, outcome_lines, notification, origin_told, recipient_told, returned_description, returned_part, returned_type, words_by, words_of, lines_with_boundary, notice_lines, notice_of}
+use Rattle.dsn_report.specs.PlainWords.{meaning_of}
+use Rattle.dsn_report.specs.Notice.{explanation, guidance, reply_beside, reply_lines, notice_header, part_header, part_of, outcome_lines, notification, origin_told, recipient_told, returned_description, returned_part, returned_type, words_by, words_of, lines_with_boundary, notice_lines, notice_of}
 use Rattle.dsn_report.specs.Lines.{text_of_pieces}
 use Rattle.dsn_report.specs.WellFormed.{IsWellFormed}
 use Rattle.dsn_report.proofs.ExtensionLemmas.{extension_lines-pass, none-delimits}
@@ -63,6 +64,30 @@ unfolding recipient_told
 none-told boundary recipient rest None = refl
 none-told boundary recipient rest (Some original) = refl
 
+none-reply : (boundary : List ℕ) (mta reply : Option (List ℕ)) → NoneDelimits boundary (reply_lines mta reply)
+unfolding reply_lines
+none-reply boundary mta None = refl
+none-reply boundary mta (Some reply) = refl
+
+none-explanation : (boundary : List ℕ) (wording : Wording) (outcome : Outcome) → NoneDelimits boundary (explanation wording outcome)
+unfolding explanation
+none-explanation boundary ByService outcome = none-if-any boundary 32 (codes "   ") outcome.reason refl
+none-explanation boundary ByOutcome outcome =
+    let meaning = (codes "    " ++ meaning_of outcome.action outcome.status) ∷ line_if_any (codes "    ") outcome.reason in
+    let reply = reply_lines outcome.mta (reply_beside outcome.reason outcome.diagnostic) in
+    let until = line_if_any (codes "    It will be tried again until ") (option_map date_text outcome.retry_until) in
+    none-append boundary (meaning ++ reply) until
+    (none-append boundary meaning reply (none-if-any boundary 32 (codes "   ") outcome.reason refl) (none-reply boundary outcome.mta (reply_beside outcome.reason outcome.diagnostic)))
+    (none-if-any boundary 32 (codes "   It will be tried again until ") (option_map date_text outcome.retry_until) refl)
+
+none-guidance : (boundary host : List ℕ) (wording : Wording) (service : Service) (arrived : Bool) → NoneDelimits boundary (guidance wording host (words_by wording service arrived).consequence)
+unfolding guidance
+none-guidance boundary host ByService service arrived = refl
+none-guidance boundary host ByOutcome Bounce arrived = refl
+none-guidance boundary host ByOutcome Defer arrived = refl
+none-guidance boundary host ByOutcome Trace true = refl
+none-guidance boundary host ByOutcome Trace false = refl
+
 none-outcome : (boundary : List ℕ) (wording : Wording) (outcome : Outcome) → NoneDelimits boundary (outcome_lines wording outcome)
 unfolding outcome_lines
 none-outcome boundary wording outcome =
@@ -70,15 +95,19 @@ none-outcome boundary wording outcome =
     let line = told ++ codes ": " ++ action_word outcome.action ++ codes " (" ++ outcome.status ++ codes ")" in
     let rest = codes ": " ++ (action_word outcome.action ++ (codes " (" ++ (outcome.status ++ codes ")"))) in
     let regrouped : line ≡ told ++ rest = simp append_assoc refl in
-    or_from (is_delimiter boundary line) (list_any (is_delimiter boundary) (line_if_any (codes "    ") outcome.reason))
+    or_from (is_delimiter boundary line) (list_any (is_delimiter boundary) (explanation wording outcome))
     (ap (is_delimiter boundary) regrouped ∙ none-told boundary outcome.recipient rest (origin_told wording outcome))
-    (none-if-any boundary 32 (codes "   ") outcome.reason refl)
+    (none-explanation boundary wording outcome)
 
 none-notification : (boundary host : List ℕ) (letter : Letter) → NoneDelimits boundary (notification host letter)
 unfolding notification
 none-notification boundary host letter =
-    or_from (is_delimiter boundary (words_of letter).opening) (list_any (is_delimiter boundary) (flat_map (outcome_lines letter.draft.wording) letter.outcomes))
-    (none-opening boundary letter.draft.wording letter.key.service _)
+    let outcomes = flat_map (outcome_lines letter.draft.wording) letter.outcomes in
+    let guided = guidance letter.draft.wording host (words_of letter).consequence in
+    let front = (codes "This is the mail system at host " ++ host ++ codes ".") ∷ [] ∷ (words_of letter).opening ∷ guided in
+    none-append boundary front ([] ∷ outcomes)
+    (or_from (is_delimiter boundary (words_of letter).opening) (list_any (is_delimiter boundary) guided)
+    (none-opening boundary letter.draft.wording letter.key.service _) (none-guidance boundary host letter.draft.wording letter.key.service _))
     (none-flat_map boundary (outcome_lines letter.draft.wording) letter.outcomes (none-outcome boundary letter.draft.wording))
 
 none-message : (boundary host : List ℕ) (letter : Letter) → is_extension_text letter.draft.extensions ≡ true → NoneDelimits boundary (per_message_fields host letter)

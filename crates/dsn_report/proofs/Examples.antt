@@ -14,7 +14,8 @@ use Rattle.dsn_text.specs.declared.service.Service.TheVariants.{Bounce, Defer, T
 use Rattle.dsn_report.specs.Boundary.{returned_lines, returns_message, stands_whole, header_lines, boundary_text, boundary_number, is_ruled_out, first_failing}
 use Rattle.dsn_report.specs.DeliveryStatus.{line_if_any, per_message_fields, per_recipient_fields, delivery_status}
 use Rattle.dsn_report.specs.Lines.{text_of_lines, dot_stuffed}
-use Rattle.dsn_report.specs.Notice.{notice_header, part_header, part_of, outcome_lines, recipient_told, notification, words_by, returned_part, lines_with_boundary, notice_lines, notice_of}
+use Rattle.dsn_report.specs.Notice.{notice_header, part_header, part_of, outcome_lines, recipient_told, explanation, guidance, notification, words_by, reply_lines, returned_part, lines_with_boundary, notice_lines, notice_of}
+use Rattle.dsn_report.specs.PlainWords.{status_words}
 use Rattle.dsn_report.specs.Outbox.{greeting, goodbye, transaction_lines, mail_transaction, outbox_of}
 
 abbrev host : List ℕ
@@ -194,7 +195,7 @@ one_append_one_flush : outbox_of host (letter_with (to_ann None []) bob_fails �
     ++ codes "--B.A1B2C3.1700000000.0000--" ++ crlf
     ++ codes "." ++ crlf
     ++ codes "QUIT" ++ crlf
-unfolding outbox_of greeting goodbye mail_transaction transaction_lines notice_lines lines_with_boundary notice_header part_header part_of notification recipient_told outcome_lines returned_part delivery_status per_message_fields per_recipient_fields line_if_any lines_ended_by_lf text_of_lines dot_stuffed boundary_text boundary_number is_ruled_out first_failing returned_lines returns_message header_lines digits
+unfolding outbox_of greeting goodbye mail_transaction transaction_lines notice_lines lines_with_boundary notice_header part_header part_of notification recipient_told guidance explanation outcome_lines returned_part delivery_status per_message_fields per_recipient_fields line_if_any lines_ended_by_lf text_of_lines dot_stuffed boundary_text boundary_number is_ruled_out first_failing returned_lines returns_message header_lines digits
 one_append_one_flush = rw (flushed_at, arrived_at) refl
 
 abbrev bob_fails_with_all : Outcome
@@ -254,7 +255,7 @@ all_optional_fields : notice_of host (letter_with (to_ann (Some (codes "QQ314159
     ++ codes "X: y" ++ crlf
     ++ crlf
     ++ codes "--B.A1B2C3.1700000000.0000--" ++ crlf
-unfolding notice_of notice_lines lines_with_boundary notice_header part_header part_of notification recipient_told outcome_lines returned_part delivery_status per_message_fields per_recipient_fields line_if_any lines_ended_by_lf text_of_lines boundary_text boundary_number is_ruled_out first_failing returned_lines returns_message header_lines digits
+unfolding notice_of notice_lines lines_with_boundary notice_header part_header part_of notification recipient_told guidance explanation outcome_lines returned_part delivery_status per_message_fields per_recipient_fields line_if_any lines_ended_by_lf text_of_lines boundary_text boundary_number is_ruled_out first_failing returned_lines returns_message header_lines digits
 all_optional_fields = rw (flushed_at, arrived_at) refl
 
 -- a returned line begins with the delimiter of number 0: the boundary has number 1, and the body isn't returned
@@ -373,14 +374,20 @@ success_by_service : (words_by ByService Trace true).subject ≡ codes "Mail Del
 success_by_service = refl
 
 -- the original recipient is named if it isn't the final one and the wording is by outcome
-origin_by_outcome : outcome_lines ByOutcome (record bob_fails { original = Some (codes "list@example.org") }) ≡ codes "<bob@example.org> (expanded from <list@example.org>): failed (5.1.1)" ∷ []
-unfolding outcome_lines recipient_told line_if_any
+origin_by_outcome : outcome_lines ByOutcome (record bob_fails { original = Some (codes "list@example.org") }) ≡
+    codes "<bob@example.org> (expanded from <list@example.org>): failed (5.1.1)"
+    ∷ codes "    The address does not exist. Check how it is spelled."
+    ∷ []
+unfolding outcome_lines explanation recipient_told line_if_any reply_lines status_words
 origin_by_outcome = refl
 
-same_origin_by_outcome : outcome_lines ByOutcome (record bob_fails { original = Some (codes "bob@example.org") }) ≡ codes "<bob@example.org>: failed (5.1.1)" ∷ []
-unfolding outcome_lines recipient_told line_if_any
+same_origin_by_outcome : outcome_lines ByOutcome (record bob_fails { original = Some (codes "bob@example.org") }) ≡
+    codes "<bob@example.org>: failed (5.1.1)"
+    ∷ codes "    The address does not exist. Check how it is spelled."
+    ∷ []
+unfolding outcome_lines explanation recipient_told line_if_any reply_lines status_words
 same_origin_by_outcome = refl
 
 origin_by_service : outcome_lines ByService (record bob_fails { original = Some (codes "list@example.org") }) ≡ codes "<bob@example.org>: failed (5.1.1)" ∷ []
-unfolding outcome_lines recipient_told line_if_any
+unfolding outcome_lines explanation recipient_told line_if_any
 origin_by_service = refl

@@ -16,6 +16,7 @@ mod LinesLemmas
 pub mod OutgoingLemmas
 mod PieceLemmas
 mod PlainLemmas
+mod PlainWordsExamples
 pub mod NoticeTextLemmas
 pub mod PosterLemmas
 mod ReaderExamples

@@ -1,5 +1,5 @@
 -- Each line of a notice is legal.
-use Rattle.std.proofs.Common.{◌≡◌, ℕ, zero, suc, ◌+◌, ◌-◌, ◌/◌, ◌%◌, ◌^◌, ◌<◌, ◌≤◌, Bool, true, false, ◌||◌, List, [], ◌∷◌, ◌++◌, Option, Some, None, length, take, map, get_or, codes, refl, sym, subst, ◌∙◌, arith, inl, inr, if◌then◌else◌, length-append}
+use Rattle.std.proofs.Common.{◌≡◌, ℕ, zero, suc, ◌+◌, ◌-◌, ◌/◌, ◌%◌, ◌^◌, ◌<◌, ◌≤◌, Bool, true, false, ◌||◌, ◌&&◌, List, [], ◌∷◌, ◌++◌, Option, Some, None, length, take, drop, map, get_or, codes, refl, sym, subst, ◌∙◌, arith, inl, inr, if◌then◌else◌, length-append}
 use Rattle.std.specs.Prelude.{nat_eq, nat_le, ◌==◌, All, decimal, unwrap_or, option_map}
 use Rattle.std.specs.List.{list_all, flat_map}
 use Rattle.std.specs.Str.Lines.{lines}
@@ -30,7 +30,8 @@ use Rattle.dsn_text.specs.Stamp.{date_text, civil_after, weekday_after, day_name
 use Rattle.dsn_text.specs.Text.{is_printable, is_address, is_queue_id, is_mta_name, is_remark, is_type_name, is_envelope_id}
 use Rattle.dsn_report.proofs.DateText.{printable-between, shown-date}
 use Rattle.dsn_report.specs.WellFormed.{IsWellFormed}
-use Rattle.dsn_report.specs.Notice.{notice_header, origin_if_other, origin_told, recipient_told, returned_description, returned_type, words_by, part_header, part_of, outcome_lines, notification, returned_part, lines_with_boundary, notice_lines, notice_of}
+use Rattle.dsn_report.specs.PlainWords.{is_for, meaning_of, other_words, status_table, status_words, words_for}
+use Rattle.dsn_report.specs.Notice.{explanation, guidance, has_text, reply_beside, reply_lines, speaker, notice_header, origin_if_other, origin_told, recipient_told, returned_description, returned_type, words_by, part_header, part_of, outcome_lines, notification, returned_part, lines_with_boundary, notice_lines, notice_of}
 use Rattle.dsn_report.specs.DeliveryStatus.{line_if_any, per_message_fields, per_recipient_fields, recipient_group, delivery_status, typed, usual_address_type, usual_diagnostic_type}
 use Rattle.dsn_report.proofs.ExtensionLemmas.{extension-laid, extension-name_plain, extension-value_plain, extension_lines-pass}
 use Rattle.dsn_report.proofs.BoundaryLaw.{boundary_number-few}
@@ -209,6 +210,51 @@ fit-opening ByOutcome Defer arrived = fit-known 80 (words_by ByOutcome Defer arr
 fit-opening ByOutcome Trace true = fit-known 80 (words_by ByOutcome Trace true).opening refl refl
 fit-opening ByOutcome Trace false = fit-known 80 (words_by ByOutcome Trace false).opening refl refl
 
+fit-consequence : (wording : Wording) (service : Service) (arrived : Bool) → IsFit 80 (words_by wording service arrived).consequence
+fit-consequence ByService Bounce arrived = fit-known 80 (words_by ByService Bounce arrived).consequence refl refl
+fit-consequence ByService Defer arrived = fit-known 80 (words_by ByService Defer arrived).consequence refl refl
+fit-consequence ByService Trace arrived = fit-known 80 (words_by ByService Trace arrived).consequence refl refl
+fit-consequence ByOutcome Bounce arrived = fit-known 80 (words_by ByOutcome Bounce arrived).consequence refl refl
+fit-consequence ByOutcome Defer arrived = fit-known 80 (words_by ByOutcome Defer arrived).consequence refl refl
+fit-consequence ByOutcome Trace true = fit-known 80 (words_by ByOutcome Trace true).consequence refl refl
+fit-consequence ByOutcome Trace false = fit-known 80 (words_by ByOutcome Trace false).consequence refl refl
+
+-- each sentence of a table fits if the test of all of them passes
+words-fit : (table : List (List ℕ × List ℕ)) (code : List ℕ) → list_all (λ entry. list_all is_line_byte entry.1 && nat_le (length entry.1) 80) table ≡ true → IsFit 80 (words_for table code)
+words-fit [] code e = fit-known 80 other_words refl refl
+words-fit ((key, words) ∷ rest) code e =
+    let parts = and-parts (list_all is_line_byte words && nat_le (length words) 80) _ e in
+    let first = and-parts (list_all is_line_byte words) (nat_le (length words) 80) parts.0 in
+    here (is_for key code) (fit-known 80 words first.0 first.1) (words-fit rest code parts.1)
+  where
+    here : (found : Bool) → IsFit 80 words → IsFit 80 (words_for rest code) → IsFit 80 (if found then words else words_for rest code)
+    here true first later = first
+    here false first later = later
+
+fit-status-words : (status : List ℕ) → IsFit 80 (status_words status)
+unfolding status_words
+fit-status-words status = words-fit status_table (drop 2 status) refl
+
+fit-meaning : (action : Action) (status : List ℕ) → IsFit 80 (meaning_of action status)
+fit-meaning Failed status = fit-status-words status
+fit-meaning Delayed status = fit-status-words status
+fit-meaning Delivered status = fit-known 80 (meaning_of Delivered status) refl refl
+fit-meaning Relayed status = fit-known 80 (meaning_of Relayed status) refl refl
+fit-meaning Expanded status = fit-known 80 (meaning_of Expanded status) refl refl
+
+fit-speaker : (mta : Option (List ℕ)) → is_none_or is_mta_name mta ≡ true → IsFit 255 (speaker mta)
+fit-speaker None e = fit-known 255 (speaker None) refl refl
+fit-speaker (Some mta) e = fit-plain (mta-plain mta e)
+
+beside-clean : (reason reply : Option (List ℕ)) → is_none_or is_remark reply ≡ true → is_none_or is_remark (reply_beside reason reply) ≡ true
+beside-clean reason None clean = refl
+beside-clean None (Some reply) clean = clean
+beside-clean (Some reason) (Some reply) clean = here (has_text reply reason)
+  where
+    here : (said : Bool) → is_none_or is_remark (if said then None else Some reply) ≡ true
+    here true = refl
+    here false = clean
+
 fit-description : (wording : Wording) (service : Service) (arrived whole : Bool) → IsFit 50 (returned_description (words_by wording service arrived) whole)
 fit-description ByService Bounce arrived true = fit-known 50 (returned_description (words_by ByService Bounce arrived) true) refl refl
 fit-description ByService Bounce arrived false = fit-known 50 (returned_description (words_by ByService Bounce arrived) false) refl refl
@@ -364,18 +410,48 @@ module _ (ok : List ℕ → Bool) (sure : (line : List ℕ) → is_legal_line li
       (legal-cons (fit-append (fit-known 30 (codes "Content-Type: ") refl refl) t) (omega arith) (legal-empty legal))))
       (legal-empty legal-none)
 
+  reason-legal : (outcome : Outcome) → IsLegalOutcome outcome → AreLegal ok (line_if_any (codes "    ") outcome.reason)
+  reason-legal outcome legal =
+      legal-if-any (codes "    ") 4 800 is_remark outcome.reason (fit-known 4 (codes "    ") refl refl) (λ text e. fit-plain (remark-plain text e)) (omega arith) legal.reason_clean
+
+  reply-legal : (mta reply : Option (List ℕ)) → is_none_or is_mta_name mta ≡ true → is_none_or is_remark reply ≡ true → AreLegal ok (reply_lines mta reply)
+  unfolding reply_lines
+  reply-legal mta None named clean = legal-none
+  reply-legal mta (Some reply) named clean =
+      legal-cons (fit-append (fit-append (fit-known 4 (codes "    ") refl refl) (fit-speaker mta named)) (fit-known 6 (codes " said:") refl refl)) (omega arith)
+      (legal-cons (fit-append (fit-known 6 (codes "      ") refl refl) (fit-plain (remark-plain reply clean))) (omega arith) legal-none)
+
+  explanation-legal : (wording : Wording) (outcome : Outcome) → IsLegalOutcome outcome → AreLegal ok (explanation wording outcome)
+  unfolding explanation
+  explanation-legal ByService outcome legal = reason-legal outcome legal
+  explanation-legal ByOutcome outcome legal =
+      legal-append
+      (legal-append
+      (legal-cons (fit-append (fit-known 4 (codes "    ") refl refl) (fit-meaning outcome.action outcome.status)) (omega arith) (reason-legal outcome legal))
+      (reply-legal outcome.mta (reply_beside outcome.reason outcome.diagnostic) legal.mta_legal (beside-clean outcome.reason outcome.diagnostic legal.diagnostic_clean)))
+      (legal-date-if-any (codes "    It will be tried again until ") outcome.retry_until (fit-known 40 (codes "    It will be tried again until ") refl refl) legal.retry_until_dated)
+
   outcome-legal : (outcome : Outcome) → IsLegalOutcome outcome → AreLegal ok (outcome_lines letter.draft.wording outcome)
   unfolding outcome_lines
   outcome-legal outcome legal =
       let told = fit-told outcome.recipient (origin_told letter.draft.wording outcome) legal.recipient_legal (origin-legal letter.draft.wording outcome legal.original_legal) in
       legal-cons (fit-append (fit-append (fit-append (fit-append (fit-append told (fit-known 2 (codes ": ") refl refl)) (fit-word outcome.action)) (fit-known 2 (codes " (") refl refl)) (fit-plain (status-plain outcome.status legal.status_legal))) (fit-known 1 (codes ")") refl refl)) (omega arith)
-      (legal-if-any (codes "    ") 4 800 is_remark outcome.reason (fit-known 4 (codes "    ") refl refl) (λ text e. fit-plain (remark-plain text e)) (omega arith) legal.reason_clean)
+      (explanation-legal letter.draft.wording outcome legal)
+
+  guidance-legal : (wording : Wording) (arrived : Bool) → AreLegal ok (guidance wording host (words_by wording letter.key.service arrived).consequence)
+  unfolding guidance
+  guidance-legal ByService arrived = legal-none
+  guidance-legal ByOutcome arrived =
+      legal-cons (fit-consequence ByOutcome letter.key.service arrived) (omega arith)
+      (legal-cons (fit-append (fit-append (fit-known 40 (codes "For help, write to <postmaster@") refl refl) fit-host) (fit-known 40 (codes "> and include this notice.") refl refl)) (omega arith) legal-none)
 
   notification-legal : AreLegal ok (notification host letter)
   unfolding notification
   notification-legal =
-      legal-cons (fit-append (fit-append (fit-known 40 (codes "This is the mail system at host ") refl refl) fit-host) (fit-known 1 (codes ".") refl refl)) (omega arith)
-      (legal-empty (legal-cons (fit-opening letter.draft.wording letter.key.service _) (omega arith) (legal-empty (legal-flat_map (outcome_lines letter.draft.wording) letter.outcomes formed.outcomes_legal outcome-legal))))
+      legal-append
+      (legal-cons (fit-append (fit-append (fit-known 40 (codes "This is the mail system at host ") refl refl) fit-host) (fit-known 1 (codes ".") refl refl)) (omega arith)
+      (legal-empty (legal-cons (fit-opening letter.draft.wording letter.key.service _) (omega arith) (guidance-legal letter.draft.wording _))))
+      (legal-empty (legal-flat_map (outcome_lines letter.draft.wording) letter.outcomes formed.outcomes_legal outcome-legal))
 
   group-legal : (outcome : Outcome) → IsLegalOutcome outcome → AreLegal ok (recipient_group outcome)
   unfolding per_recipient_fields

@@ -8,6 +8,7 @@ pub mod Multipart
 pub mod Notice
 pub mod Outbox
 pub mod Outgoing
+pub mod PlainWords
 pub mod Poster
 pub mod Site
 pub mod WellFormed

@@ -1,7 +1,7 @@
 -- A notice: a multipart/report on the delivery to a message's recipients, as a list of lines (RFC
 -- 6522, RFC 3464, RFC 3834).
-use Rattle.std.specs.Prelude.{ℕ, Bool, true, false, List, [], ◌∷◌, ◌++◌, Option, Some, None, codes, decimal, nat_eq, unwrap_or, if◌then◌else◌}
-use Rattle.std.specs.List.{list_all, flat_map}
+use Rattle.std.specs.Prelude.{ℕ, Bool, true, false, List, [], ◌∷◌, ◌++◌, ◌||◌, Option, Some, None, option_map, codes, decimal, nat_eq, unwrap_or, if◌then◌else◌}
+use Rattle.std.specs.List.{list_all, flat_map, starts_with}
 use lib.Pointwise.{pointwise}
 use Rattle.dsn_text.specs.Action.{action_word}
 use Rattle.dsn_text.specs.declared.action.Action.{Action}
@@ -16,12 +16,15 @@ use Rattle.dsn_outcome.specs.declared.wording.Wording.TheVariants.{ByService, By
 use Rattle.dsn_report.specs.Boundary.{letter_name, boundary_of, returned_lines, returns_message}
 use Rattle.dsn_report.specs.DeliveryStatus.{line_if_any, delivery_status}
 use Rattle.dsn_report.specs.Lines.{text_of_lines}
+use Rattle.dsn_report.specs.PlainWords.{meaning_of}
 
 -- the words of a notice that depend on its letter: its subject, its first sentence to the reader,
--- and the descriptions of a returned header and of a returned message
+-- what follows from it for the reader, and the descriptions of a returned header and of a returned
+-- message
 pub record Words : Type 0 where
   pub subject : List ℕ
   pub opening : List ℕ
+  pub consequence : List ℕ
   pub header : List ℕ
   pub message : List ℕ
 
@@ -38,6 +41,7 @@ abbrev pub bounce_words : Words
 bounce_words = record {
   subject = codes "Undelivered Mail Returned to Sender";
   opening = codes "Your message could not be delivered to the recipients below.";
+  consequence = codes "No further attempt will be made.";
   header = codes "Undelivered Message Headers";
   message = codes "Undelivered Message";
 }
@@ -46,6 +50,7 @@ abbrev pub defer_words : Words
 defer_words = record {
   subject = codes "Delayed Mail (still being retried)";
   opening = codes "Your message has not yet been delivered to the recipients below.";
+  consequence = codes "You do not need to send it again.";
   header = codes "Delayed Message Headers";
   message = codes "Delayed Message";
 }
@@ -54,6 +59,7 @@ abbrev pub trace_words : Words
 trace_words = record {
   subject = codes "Mail Delivery Status Report";
   opening = codes "This is the delivery report for your message.";
+  consequence = codes "You or your mail program requested this report.";
   header = codes "Message Headers";
   message = codes "Message";
 }
@@ -62,6 +68,7 @@ abbrev pub success_words : Words
 success_words = record {
   subject = codes "Successful Mail Delivery Report";
   opening = codes "Your message was delivered to the recipients below.";
+  consequence = codes "You or your mail program requested this report.";
   header = codes "Message Headers";
   message = codes "Message";
 }
@@ -150,12 +157,54 @@ recipient_told recipient None = codes "<" ++ recipient ++ codes ">"
 recipient_told recipient (Some original) =
     codes "<" ++ recipient ++ codes "> (expanded from <" ++ original ++ codes ">)"
 
+-- whether a text has another one in it
+abbrev pub has_text : List ℕ → List ℕ → Bool
+has_text part [] = starts_with nat_eq [] part
+has_text part (byte ∷ rest) = starts_with nat_eq (byte ∷ rest) part || has_text part rest
+
+-- the reply of the remote system, if the reason doesn't have it already
+abbrev pub reply_beside : Option (List ℕ) → Option (List ℕ) → Option (List ℕ)
+reply_beside reason None = None
+reply_beside None (Some reply) = Some reply
+reply_beside (Some reason) (Some reply) = if has_text reply reason then None else Some reply
+
+-- the name of the remote system in front of its reply
+abbrev pub speaker : Option (List ℕ) → List ℕ
+speaker None = codes "The recipient's mail system"
+speaker (Some mta) = mta
+
+-- a reply, word for word, after the remote system's name; on two lines, so that each is short
+-- enough for a mail
+unfoldable pub reply_lines : Option (List ℕ) → Option (List ℕ) → List (List ℕ)
+reply_lines mta None = []
+reply_lines mta (Some reply) =
+    (codes "    " ++ speaker mta ++ codes " said:") ∷ (codes "      " ++ reply) ∷ []
+
+-- the lines on what happened to a recipient: the mail system's own reason, and by outcome the
+-- meaning before it, and after it the remote system's reply and the end of the attempts
+unfoldable pub explanation : Wording → Outcome → List (List ℕ)
+explanation ByService outcome = line_if_any (codes "    ") outcome.reason
+explanation ByOutcome outcome =
+    (codes "    " ++ meaning_of outcome.action outcome.status)
+    ∷ line_if_any (codes "    ") outcome.reason
+    ++ reply_lines outcome.mta (reply_beside outcome.reason outcome.diagnostic)
+    ++ line_if_any (codes "    It will be tried again until ")
+    (option_map date_text outcome.retry_until)
+
 -- the lines for people of one outcome
 unfoldable pub outcome_lines : Wording → Outcome → List (List ℕ)
 outcome_lines wording outcome =
     (recipient_told outcome.recipient (origin_told wording outcome) ++ codes ": "
     ++ action_word outcome.action ++ codes " (" ++ outcome.status ++ codes ")")
-    ∷ line_if_any (codes "    ") outcome.reason
+    ∷ explanation wording outcome
+
+-- what follows for the reader, and whom to ask; only by outcome
+unfoldable pub guidance : Wording → List ℕ → List ℕ → List (List ℕ)
+guidance ByService host consequence = []
+guidance ByOutcome host consequence =
+    consequence
+    ∷ (codes "For help, write to <postmaster@" ++ host ++ codes "> and include this notice.")
+    ∷ []
 
 -- the part for people (RFC 6522 section 3, first part)
 unfoldable pub notification : List ℕ → Letter → List (List ℕ)
@@ -163,8 +212,8 @@ notification host letter =
     (codes "This is the mail system at host " ++ host ++ codes ".")
     ∷ []
     ∷ (words_of letter).opening
-    ∷ []
-    ∷ flat_map (outcome_lines letter.draft.wording) letter.outcomes
+    ∷ guidance letter.draft.wording host (words_of letter).consequence
+    ++ [] ∷ flat_map (outcome_lines letter.draft.wording) letter.outcomes
 
 -- the part with the returned lines, if there are any (RFC 6522 sections 3 and 4)
 unfoldable pub returned_part : List ℕ → List ℕ → List ℕ → List (List ℕ) → List (List ℕ)

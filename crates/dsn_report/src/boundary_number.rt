@@ -1,5 +1,5 @@
 //! The number of a notice's boundary.
-//! Implements RFC 2046 section 5.1.1 and docs/FORMATS.md, "The boundary".
+//! Implements RFC 2046 section 5.1.1 and noticed-notice(5).
 ghost use Rattle.std.specs.Prelude.{◌≡◌, ◌<◌};
 ghost use Rattle.std.specs.List.{list_any};
 ghost use Rattle.dsn_report.specs.Boundary.{IsBoundaryNumber, boundary_number, boundary_numbers, returned_lines};

@@ -1,5 +1,5 @@
 //! The name and the serial of a letter, and the boundaries that begin with its name.
-//! Implements docs/FORMATS.md, "The boundary".
+//! Implements noticed-notice(5).
 ghost use Rattle.std.specs.Prelude.{◌≡◌, ◌+◌, ◌<◌, ◌≤◌, decimal, length};
 ghost use Rattle.dsn_report.specs.Boundary.{letter_name, boundary_front, boundary_numbers, boundary_text};
 ghost use Rattle.dsn_report.specs.inner.Boundary.{longest_letter_name};

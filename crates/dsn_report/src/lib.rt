@@ -14,6 +14,7 @@ mod notice_wording;
 mod outbox_end;
 mod outgoing;
 mod pending_bytes;
+mod plain_words;
 mod post_fault;
 mod poster;
 mod returned_lines;

@@ -1,5 +1,5 @@
 //! The client's side of an SMTP session.
-//! Implements RFC 5321 section 3.3 and docs/FORMATS.md, "The outbox".
+//! Implements RFC 5321 section 3.3 and noticed-notice(5).
 ghost use Rattle.std.specs.Prelude.{◌≡◌, true, [], ◌++◌, if◌then◌else◌};
 ghost use Rattle.dsn_device.specs.QuietWriter.{Writes};
 ghost use Rattle.dsn_report.specs.inner.LineWriter.{Took};

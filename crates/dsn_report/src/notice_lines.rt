@@ -1,8 +1,8 @@
 //! The text of a notice, line by line.
-//! Implements RFC 6522 sections 3 and 4, RFC 3464 section 2, and docs/FORMATS.md, "The notice".
+//! Implements RFC 6522 sections 3 and 4, RFC 3464 section 2, and noticed-notice(5).
 //! The order of header fields, the subjects and the words for people are this project's own. All
 //! that RFC 6522, RFC 3464 and RFC 3834 require is present.
-ghost use Rattle.std.specs.Prelude.{◌≡◌, ℕ, List, [], ◌∷◌, ◌++◌, None, codes, IsTrue};
+ghost use Rattle.std.specs.Prelude.{◌≡◌, ℕ, List, [], ◌∷◌, ◌++◌, None, codes, IsFalse, IsTrue};
 ghost use Rattle.std.specs.List.{flat_map};
 ghost use Rattle.std.specs.Option.{option_copied, option_map};
 ghost use Rattle.dsn_text.specs.Action.{action_word};
@@ -11,7 +11,9 @@ ghost use Rattle.dsn_text.specs.Stamp.{date_text};
 ghost use Rattle.dsn_report.specs.Boundary.{boundary_front};
 ghost use Rattle.dsn_report.specs.DeliveryStatus.{delivery_status, line_if_any, per_message_fields, per_recipient_fields, recipient_group, typed, usual_address_type, usual_diagnostic_type};
 ghost use Rattle.dsn_report.specs.inner.LineWriter.{Wrote, begins_plainly};
-ghost use Rattle.dsn_report.specs.Notice.{notice_header, notice_lines, notification, outcome_lines, part_header, recipient_told, returned_description, returned_part, returned_type, words_of};
+ghost use Rattle.dsn_report.specs.Lines.{begins_with_dot};
+ghost use Rattle.dsn_outcome.specs.declared.wording.Wording.TheVariants.{ByOutcome};
+ghost use Rattle.dsn_report.specs.Notice.{explanation, guidance, notice_header, notice_lines, notification, outcome_lines, part_header, recipient_told, reply_lines, returned_description, returned_part, returned_type, words_of};
 ghost use Rattle.dsn_report.specs.inner.NoticeLines.{words_in};
 ghost use Rattle.dsn_report.specs.inner.NoticeLines.{lines_shown};
 
@@ -19,7 +21,8 @@ use crate::boundary_number::boundary_beside;
 use crate::extension_lines::ExtensionLines;
 use crate::letter_boundary::{NUMBER_LEN, boundary_text, serial_text};
 use crate::line_writer::LineWriter;
-use crate::notice_wording::{Words, origin_told, returned_type};
+use crate::notice_wording::{Words, origin_told, reply_beside, returned_type, speaker};
+use crate::plain_words::meaning_of;
 use crate::returned_lines::{LINE_ROOM, show_dotted_line};
 use crate::returned_text::ReturnedText;
 use crate::site::Site;
@@ -71,9 +74,11 @@ fn write_notification<'a, W: Drain>(
     site: &'a Site,
     letter: &'a Letter,
     opening: &'a [u8],
+    consequence: &'a [u8],
     boundary: &'a [u8],
 )
-    requires { opening.now ≡ (words_of letter.now).opening }
+    requires opening { opening.now ≡ (words_of letter.now).opening }
+    requires consequence { consequence.now ≡ (words_of letter.now).consequence }
     ensures { Wrote W.Drain lines.old lines.new
         ([] ∷ part_header boundary.now (codes "Notification")
         (codes "text/plain; charset=us-ascii") ++ notification site.now letter.now) }
@@ -89,9 +94,33 @@ fn write_notification<'a, W: Drain>(
         site.bytes(),
         b".\r\n\r\n",
         opening,
-        b"\r\n\r\n",
+        b"\r\n",
     ]);
+    write_guidance(lines, site, letter.terms().wording(), consequence);
+    lines.block(&[b"\r\n"]);
     write_outcomes(lines, letter);
+}
+
+/// Writes what follows for the reader, and whom to ask, if the wording is by outcome. Requires that
+/// the consequence doesn't begin with a dot.
+fn write_guidance<'a, W: Drain>(
+    lines: &mut LineWriter<W>,
+    site: &'a Site,
+    wording: Wording,
+    consequence: &'a [u8],
+)
+    requires { IsFalse (begins_with_dot consequence.now) }
+    ensures { Wrote W.Drain lines.old lines.new (guidance wording site.now consequence.now) }
+{
+    match wording {
+        Wording::ByService => {}
+        Wording::ByOutcome => lines.block(&[
+            consequence,
+            b"\r\nFor help, write to <postmaster@",
+            site.bytes(),
+            b"> and include this notice.\r\n",
+        ]),
+    }
 }
 
 /// Writes the lines for people of each outcome, oldest first.
@@ -110,7 +139,40 @@ fn write_outcome<W: Drain>(lines: &mut LineWriter<W>, wording: Wording, outcome:
     ensures { Wrote W.Drain lines.old lines.new (outcome_lines wording outcome.now) }
 {
     write_action(lines, outcome, origin_told(wording, outcome));
-    write_if_any(lines, b"    ", outcome.reason());
+    match wording {
+        Wording::ByService => write_if_any(lines, b"    ", outcome.reason()),
+        Wording::ByOutcome => write_explanation(lines, outcome),
+    }
+}
+
+/// Writes what happened to a recipient: its meaning, the mail system's own reason, the remote
+/// system's reply and the end of the attempts.
+fn write_explanation<W: Drain>(lines: &mut LineWriter<W>, outcome: &Outcome)
+    ensures { Wrote W.Drain lines.old lines.new (explanation ByOutcome outcome.now) }
+{
+    lines.block(&[b"    ", meaning_of(outcome), b"\r\n"]);
+    let reason = outcome.reason();
+    write_if_any(lines, b"    ", reason);
+    write_reply(
+        lines,
+        outcome.mta(),
+        reply_beside(reason, outcome.diagnostic()),
+    );
+    write_date_if_any(
+        lines,
+        b"    It will be tried again until ",
+        outcome.retry_until(),
+    );
+}
+
+/// Writes a reply after the remote system's name, if there is one.
+fn write_reply<W: Drain>(lines: &mut LineWriter<W>, mta: Option<&[u8]>, reply: Option<&[u8]>)
+    ensures { Wrote W.Drain lines.old lines.new
+        (reply_lines (option_copied mta.entry) (option_copied reply.entry)) }
+{
+    if let Some(reply) = reply {
+        lines.block(&[b"    ", speaker(mta), b" said:\r\n      ", reply, b"\r\n"]);
+    }
 }
 
 /// Writes a recipient and its action. If `origin` is an address, the line says that the recipient
@@ -392,7 +454,14 @@ pub(crate) fn write_notice<W: Drain>(lines: &mut LineWriter<W>, site: &Site, let
     let boundary = name.bytes();
     let front = &boundary[..boundary.len() - NUMBER_LEN];
     write_header(lines, site, letter, words.subject, front, boundary);
-    write_notification(lines, site, letter, words.opening, boundary);
+    write_notification(
+        lines,
+        site,
+        letter,
+        words.opening,
+        words.consequence,
+        boundary,
+    );
     write_delivery_status(lines, site, letter, boundary);
     write_returned_part(lines, words, returned, boundary);
     lines.block(&[b"--", boundary, b"--\r\n"]);

@@ -1,5 +1,5 @@
 //! A notice in memory.
-//! Implements docs/FORMATS.md, "The notice".
+//! Implements noticed-notice(5).
 ghost use Rattle.std.specs.Prelude.{◌≡◌, ◌++◌, [], codes, IfOk, if◌then◌else◌};
 ghost use Rattle.dsn_report.specs.inner.LineWriter.{lines_sent};
 ghost use Rattle.dsn_report.specs.Lines.{text_of_lines};

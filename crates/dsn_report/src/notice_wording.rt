@@ -1,11 +1,11 @@
 //! The words of a notice that depend on its letter.
-//! Implements docs/FORMATS.md, "The notice".
+//! Implements noticed-notice(5).
 ghost use Rattle.std.specs.Prelude.{◌≡◌};
 ghost use Rattle.std.specs.List.{list_all};
 ghost use Rattle.std.specs.Option.{option_copied};
 ghost use Rattle.dsn_outcome.specs.declared.wording.Wording.TheVariants.{ByOutcome};
 ghost use Rattle.dsn_text.specs.declared.service.Service.TheVariants.{Trace};
-ghost use Rattle.dsn_report.specs.Notice.{has_arrived, origin_told, returned_description, returned_type, with_bounce_names, words_by, words_of};
+ghost use Rattle.dsn_report.specs.Notice.{has_arrived, has_text, origin_told, reply_beside, returned_description, returned_type, speaker, with_bounce_names, words_by, words_of};
 ghost use Rattle.dsn_report.specs.inner.NoticeLines.{words_in};
 
 use dsn_outcome::{Action, Letter, Outcome, Service, Wording};
@@ -17,6 +17,8 @@ pub(crate) struct Words {
     pub(crate) subject: &'static [u8],
     /// Its first sentence to the reader.
     pub(crate) opening: &'static [u8],
+    /// What follows from it for the reader.
+    pub(crate) consequence: &'static [u8],
     /// The description of a returned header.
     pub(crate) header: &'static [u8],
     /// The description of a returned message.
@@ -61,6 +63,7 @@ fn with_bounce_names(words: Words) -> Words
     Words {
         subject: words.subject,
         opening: words.opening,
+        consequence: words.consequence,
         header: BOUNCE.header,
         message: BOUNCE.message,
     }
@@ -70,6 +73,7 @@ fn with_bounce_names(words: Words) -> Words
 const BOUNCE: Words = Words {
     subject: b"Undelivered Mail Returned to Sender",
     opening: b"Your message could not be delivered to the recipients below.",
+    consequence: b"No further attempt will be made.",
     header: b"Undelivered Message Headers",
     message: b"Undelivered Message",
 };
@@ -78,6 +82,7 @@ const BOUNCE: Words = Words {
 const DEFER: Words = Words {
     subject: b"Delayed Mail (still being retried)",
     opening: b"Your message has not yet been delivered to the recipients below.",
+    consequence: b"You do not need to send it again.",
     header: b"Delayed Message Headers",
     message: b"Delayed Message",
 };
@@ -86,6 +91,7 @@ const DEFER: Words = Words {
 const TRACE: Words = Words {
     subject: b"Mail Delivery Status Report",
     opening: b"This is the delivery report for your message.",
+    consequence: b"You or your mail program requested this report.",
     header: b"Message Headers",
     message: b"Message",
 };
@@ -94,6 +100,7 @@ const TRACE: Words = Words {
 const SUCCESS: Words = Words {
     subject: b"Successful Mail Delivery Report",
     opening: b"Your message was delivered to the recipients below.",
+    consequence: b"You or your mail program requested this report.",
     header: b"Message Headers",
     message: b"Message",
 };
@@ -134,6 +141,47 @@ pub(crate) fn origin_told(wording: Wording, outcome: &Outcome) -> Option<&[u8]>
             }
         }
         _ => None,
+    }
+}
+
+/// The reply of the remote system, if the reason doesn't have it already.
+pub(crate) fn reply_beside<'a>(reason: Option<&[u8]>, reply: Option<&'a [u8]>) -> Option<&'a [u8]>
+    ensures { option_copied result
+        ≡ reply_beside (option_copied reason.entry) (option_copied reply.entry) }
+{
+    match (reason, reply) {
+        (Some(reason), Some(reply)) => {
+            if has_text(reply, reason) {
+                None
+            } else {
+                Some(reply)
+            }
+        }
+        _ => reply,
+    }
+}
+
+/// Whether a text has another one in it.
+fn has_text(part: &[u8], text: &[u8]) -> bool
+    ensures { result ≡ has_text part.now text.now }
+{
+    let mut rest = text;
+    while let [_, others @ ..] = rest {
+        if rest.starts_with(part) {
+            return true;
+        }
+        rest = others;
+    }
+    rest.starts_with(part)
+}
+
+/// The name of the remote system in front of its reply.
+pub(crate) fn speaker(mta: Option<&[u8]>) -> &[u8]
+    ensures { result.now ≡ speaker (option_copied mta.entry) }
+{
+    match mta {
+        Some(mta) => mta,
+        None => b"The recipient's mail system",
     }
 }
 

@@ -1,5 +1,5 @@
 //! Letters that are written to the outbox.
-//! Implements docs/FORMATS.md, "The outbox".
+//! Implements noticed-notice(5).
 ghost use Rattle.std.specs.Prelude.{◌≡◌, ◌+◌, ◌≤◌, ℕ, List, [], ◌∷◌, ◌++◌, length};
 ghost use Rattle.std.specs.Option.{option_to_list};
 ghost use Rattle.dsn_report.specs.Outgoing.{Delivered, IsOutbox, begun};

@@ -1,5 +1,5 @@
 //! Posts notices to an outbox, as one mail transaction after another.
-//! Implements docs/FORMATS.md, "The outbox".
+//! Implements noticed-notice(5).
 ghost use Rattle.std.specs.Prelude.{◌≡◌, true, false, not, IsTrue, IsFalse, Err, OnOk, OnErr, IfErr, is_err};
 ghost use Rattle.std.specs.Io.KnownBytes.{Appends};
 ghost use Rattle.dsn_device.specs.Transfer.{AppendsFront};

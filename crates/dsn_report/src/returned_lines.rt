@@ -1,5 +1,5 @@
 //! The lines of a message, or of its header, that a notice returns.
-//! Implements RFC 5322 section 2.1.1 and docs/FORMATS.md, "Returned lines".
+//! Implements RFC 5322 section 2.1.1 and noticed-notice(5).
 ghost use Rattle.std.specs.Prelude.{◌≡◌, ◌+◌, ◌≤◌, ◌==◌, [], ◌∷◌, ◌++◌, codes, length, take, if◌then◌else◌};
 ghost use Rattle.std.specs.Iterator.{YieldsFirstRef, item_count};
 ghost use Rattle.std.specs.Str.Lines.{lines, strip_carriage_return};

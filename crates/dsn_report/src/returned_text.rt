@@ -1,5 +1,5 @@
 //! The text that a notice returns of a message.
-//! Implements RFC 2045 section 2.7, RFC 3461 section 4.3, and docs/FORMATS.md, "Returned lines".
+//! Implements RFC 2045 section 2.7, RFC 3461 section 4.3, and noticed-notice(5).
 ghost use Rattle.std.specs.Prelude.{◌≡◌, ◌==◌, length};
 ghost use Rattle.std.specs.List.{list_all};
 ghost use Rattle.dsn_report.specs.Boundary.{is_message, returned_lines, returns_message, stands_whole};

@@ -1,5 +1,5 @@
 //! The numbers that returned lines rule out for a notice's boundary.
-//! Implements docs/FORMATS.md, "The boundary".
+//! Implements noticed-notice(5).
 ghost use Rattle.std.specs.Prelude.{◌≡◌, ◌≢◌, ◌+◌, ◌*◌, ◌<◌, ℕ, ◌++◌, IsTrue, IsFalse, IfNone, IfSome, slice_index_or, nat_eq, false, not, position};
 ghost use Rattle.std.specs.List.{starts_with};
 ghost use Rattle.dsn_report.specs.Boundary.{boundary_numbers, four_digits, is_delimiter};

@@ -1,5 +1,5 @@
 //! The host name of the mail system.
-//! Implements docs/FORMATS.md, "Command line and exit status".
+//! Implements noticed(8).
 ghost use Rattle.std.specs.Prelude.{◌≡◌, ◌↔◌, IsTrue, IfOk, IsOk, IsErrOf};
 ghost use Rattle.std.specs.List.{list_all};
 ghost use Rattle.dsn_report.specs.Site.{IsHost, is_host_byte, site_fault_code};

@@ -1,5 +1,5 @@
 //! Submission over a kept session, or over a new one.
-//! Implements docs/FORMATS.md, "A connection".
+//! Implements docs/postfix-internals.md, "A connection".
 ghost use Rattle.std.specs.Prelude.{IfSome};
 ghost use Rattle.dsn_smtp.specs.Session.{AsksAnew, AsksOver, IsBegun};
 

@@ -1,5 +1,5 @@
 //! The sessions with the mail server that are kept from one notice to the next.
-//! Implements docs/FORMATS.md, "A connection".
+//! Implements docs/postfix-internals.md, "A connection".
 ghost use Rattle.std.specs.Prelude.{◌≡◌};
 ghost use Rattle.dsn_smtp.specs.HandIn.{fault_said};
 ghost use Rattle.dsn_smtp.specs.Session.{AsksOverSome};

@@ -1,9 +1,9 @@
 //! Connections to the mail server to which notices are submitted.
-//! Implements RFC 5321 section 4.5.3.2 and docs/FORMATS.md, "A connection".
+//! Implements RFC 5321 section 4.5.3.2 and docs/postfix-internals.md, "A connection".
 use crate::connect::Connect;
 use crate::hand_in_fault::HandInFault;
 use crate::hand_in_step::HandInStep;
-use crate::mail_stream::MailStream;
+use crate::mail_stream::{MailSocket, MailStream};
 use crate::reply_fault::ReplyFault;
 use crate::server_address::ServerAddress;
 use dsn_device::{Connection, Plain};
@@ -14,10 +14,6 @@ use std::time::Duration;
 
 /// The time limit for making a TCP connection, in seconds.
 const SECONDS_TO_CONNECT: u64 = 30;
-
-/// The time limit for receiving a piece of a reply and for sending a piece, in seconds. RFC 5321
-/// section 4.5.3.2 sets it for the reply to a message's end, the longest limit there.
-const SECONDS_FOR_PIECE: u64 = 600;
 
 /// A connection to a mail server.
 pub type MailConnection = Plain<Connection<MailStream>>;
@@ -57,7 +53,7 @@ impl Connect<MailConnection> for MailServer<'_> {
     }
 }
 
-/// Connects to an address, with time limits on the connection.
+/// Connects to an address. The connection has the time limits of [`MailStream`].
 fn connect_with_limits(rt: &HostRuntime, address: &ServerAddress) -> io::Result<MailStream> {
     match address {
         ServerAddress::Tcp(address) => connect_by_tcp(rt, address),
@@ -67,20 +63,14 @@ fn connect_with_limits(rt: &HostRuntime, address: &ServerAddress) -> io::Result<
 
 fn connect_by_tcp(rt: &HostRuntime, address: &SocketAddr) -> io::Result<MailStream> {
     let to_connect = Duration::from_secs(SECONDS_TO_CONNECT);
-    let for_piece = Duration::from_secs(SECONDS_FOR_PIECE);
     let stream = TcpStream::connect_timeout(rt, address, to_connect)?;
-    stream.set_read_timeout(Some(for_piece))?;
-    stream.set_write_timeout(Some(for_piece))?;
     stream.set_nodelay(true)?;
-    Ok(MailStream::Tcp(stream))
+    MailStream::new(MailSocket::Tcp(stream))
 }
 
 /// Connects to a Unix socket. The kit has no time limit for that: it waits while as many
 /// connections as the server's backlog takes wait to be accepted.
 fn connect_to_path(rt: &HostRuntime, path: &str) -> io::Result<MailStream> {
-    let for_piece = Duration::from_secs(SECONDS_FOR_PIECE);
     let stream = UnixStream::connect(rt, path)?;
-    stream.set_read_timeout(Some(for_piece))?;
-    stream.set_write_timeout(Some(for_piece))?;
-    Ok(MailStream::Unix(stream))
+    MailStream::new(MailSocket::Unix(stream))
 }

@@ -1,5 +1,5 @@
 //! The queue id that a mail server reports when it accepts a message.
-//! Implements docs/FORMATS.md, "Lines on standard error".
+//! Implements docs/postfix-internals.md, "Lines on standard error".
 ghost use Rattle.std.specs.Prelude.{◌≡◌, ◌==◌, ℕ, List, Some, IfSome};
 ghost use Rattle.std.specs.List.{after_last};
 ghost use Rattle.dsn_smtp.specs.QueueIdIn.{TellsQueueId};

@@ -1,5 +1,5 @@
 //! A session with a mail server. It may be kept as long as nothing goes wrong in it.
-//! Implements docs/FORMATS.md, "A connection".
+//! Implements docs/postfix-internals.md, "A connection".
 //! A connection, a greeting and EHLO for each notice would take more processor time than bounce(8),
 //! which writes straight to cleanup(8).
 ghost use Rattle.std.specs.Prelude.{◌≡◌};

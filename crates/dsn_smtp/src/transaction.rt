@@ -1,5 +1,5 @@
 //! A session with a mail server: it begins, submits notices one after another, and ends.
-//! Implements RFC 5321 sections 3.1 to 3.3 and docs/FORMATS.md, "A connection".
+//! Implements RFC 5321 sections 3.1 to 3.3 and docs/postfix-internals.md, "A connection".
 //! Nothing is pipelined here (pipelining.rt does that), so bytes behind a reply answer nothing that
 //! was sent. If a server sends bytes between two notices, they are read as the reply to MAIL, also
 //! to that of a group. Each reply is then one step late, and DATA gets 2yz instead of 3yz. So no

@@ -25,18 +25,18 @@ item_in_hand hand item letter gives here =
 
 -- the states of one submission: with the letter in hand, after the server was asked, after the verdict, and at the end
 pub handled_by : {T S C K M : Type 0} (source : Source.Ghosts S) (drain : Drain.Ghosts S) (gives : C → C → Result S HandInFault → Type 0)
-    (keeps : K → T → List ℕ → Bool → K → Type 0) (tells : M → ℕ → Bool → M → Type 0)
+    (keeps : K → List ℕ → List ℕ → List ℕ → Bool → K → Type 0) (tells : M → ℕ → Bool → M → Type 0)
     (start asked ended final : Submitter T S) (server_old server_new : C) (refused_old refused_new : K) (marks_old marks_new : M)
-    (path message : List ℕ) (item : T) (now before : ℕ) (fault : Option HandInFault) (verdict : Verdict)
+    (path message : List ℕ) (now before : ℕ) (fault : Option HandInFault) (verdict : Verdict)
     → asked ≡ record start { session = asked.session; reply = asked.reply }
     → ended ≡ record asked { waiting = concluded asked.waiting now verdict }
     → final ≡ record ended { stopped = final.stopped }
     → before ≡ start.waiting.mark
     → AsksOnce source drain gives server_old server_new start.session asked.session start.host path message start.reply asked.reply fault
-    → KeepsRefused keeps refused_old refused_new item asked.reply (verdict_in asked.waiting now asked.give_up fault) verdict
+    → KeepsRefused keeps refused_old refused_new path message asked.reply (verdict_in asked.waiting now asked.give_up fault) verdict
     → TellsMark tells marks_old marks_new before ended.waiting.mark final.stopped
-    → Handles source drain gives keeps tells start final server_old server_new refused_old refused_new marks_old marks_new path message item now fault verdict
-handled_by {T} {S} {C} {K} {M} source drain gives keeps tells start asked ended final server_old server_new refused_old refused_new marks_old marks_new path message item now before fault verdict first second third mark asks keeps_one tells_one =
+    → Handles source drain gives keeps tells start final server_old server_new refused_old refused_new marks_old marks_new path message now fault verdict
+handled_by {T} {S} {C} {K} {M} source drain gives keeps tells start asked ended final server_old server_new refused_old refused_new marks_old marks_new path message now before fault verdict first second third mark asks keeps_one tells_one =
     let session : asked.session ≡ final.session = sym (ap (λ (s : Submitter T S). s.session) third ∙ ap (λ (s : Submitter T S). s.session) second) in
     let reply : asked.reply ≡ final.reply = sym (ap (λ (s : Submitter T S). s.reply) third ∙ ap (λ (s : Submitter T S). s.reply) second) in
     let waiting : asked.waiting ≡ start.waiting = ap (λ (s : Submitter T S). s.waiting) first in
@@ -46,9 +46,9 @@ handled_by {T} {S} {C} {K} {M} source drain gives keeps tells start asked ended 
           subst (λ (r : List ℕ). AsksOnce source drain gives server_old server_new start.session final.session start.host path message start.reply r fault) reply
           (subst (λ (s : Option (OpenSession S)). AsksOnce source drain gives server_old server_new start.session s start.host path message start.reply asked.reply fault) session asks);
       refusal =
-          subst (λ (r : List ℕ). KeepsRefused keeps refused_old refused_new item r (verdict_in start.waiting now start.give_up fault) verdict) reply
-          (subst (λ (l : ℕ). KeepsRefused keeps refused_old refused_new item asked.reply (verdict_in start.waiting now l fault) verdict) limit
-          (subst (λ (q : Queue T). KeepsRefused keeps refused_old refused_new item asked.reply (verdict_in q now asked.give_up fault) verdict) waiting keeps_one));
+          subst (λ (r : List ℕ). KeepsRefused keeps refused_old refused_new path message r (verdict_in start.waiting now start.give_up fault) verdict) reply
+          (subst (λ (l : ℕ). KeepsRefused keeps refused_old refused_new path message asked.reply (verdict_in start.waiting now l fault) verdict) limit
+          (subst (λ (q : Queue T). KeepsRefused keeps refused_old refused_new path message asked.reply (verdict_in q now asked.give_up fault) verdict) waiting keeps_one));
       concluded_is =
           ap (λ (s : Submitter T S). s.waiting) third
           ∙ (ap (λ (s : Submitter T S). s.waiting) second ∙ ap (λ (q : Queue T). concluded q now verdict) waiting);

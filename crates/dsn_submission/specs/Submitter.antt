@@ -55,10 +55,10 @@ abbrev pub verdict_in : {T : Type 0} → Queue T → ℕ → ℕ → Option Hand
 verdict_in queue now limit fault = given_up_verdict (is_given_up queue now limit) (verdict_of fault)
 
 -- a letter that is refused for good was kept with the reply, or else it is put off; no other letter is kept
-pub data KeepsRefused {T K : Type 0} (keeps : K → T → List ℕ → Bool → K → Type 0) (old new : K) (item : T) (reply : List ℕ) : Verdict → Verdict → Type 0 where
-  kept : keeps old item reply true new → KeepsRefused keeps old new item reply RefusedForGood RefusedForGood
-  not_kept : keeps old item reply false new → KeepsRefused keeps old new item reply RefusedForGood PutOff
-  not_refused : (verdict : Verdict) → (verdict ≡ RefusedForGood → ⊥) → new ≡ old → KeepsRefused keeps old new item reply verdict verdict
+pub data KeepsRefused {K : Type 0} (keeps : K → List ℕ → List ℕ → List ℕ → Bool → K → Type 0) (old new : K) (path message reply : List ℕ) : Verdict → Verdict → Type 0 where
+  kept : keeps old path message reply true new → KeepsRefused keeps old new path message reply RefusedForGood RefusedForGood
+  not_kept : keeps old path message reply false new → KeepsRefused keeps old new path message reply RefusedForGood PutOff
+  not_refused : (verdict : Verdict) → (verdict ≡ RefusedForGood → ⊥) → new ≡ old → KeepsRefused keeps old new path message reply verdict verdict
 
 -- the queue after a verdict on the letter in hand
 abbrev pub concluded : {T : Type 0} → Queue T → ℕ → Verdict → Queue T
@@ -76,11 +76,11 @@ pub data TellsMark {M : Type 0} (tells : M → ℕ → Bool → M → Type 0) (o
 -- A letter was submitted: asked of the server once, kept if it is refused for good, and concluded as the verdict says;
 -- the mark was kept if it rose. `taken` is the submitter once the letter was in hand.
 pub record Handles {T S C K M : Type 0} (source : Source.Ghosts S) (drain : Drain.Ghosts S) (gives : C → C → Result S HandInFault → Type 0)
-    (keeps : K → T → List ℕ → Bool → K → Type 0) (tells : M → ℕ → Bool → M → Type 0)
+    (keeps : K → List ℕ → List ℕ → List ℕ → Bool → K → Type 0) (tells : M → ℕ → Bool → M → Type 0)
     (taken new : Submitter T S) (server_old server_new : C) (refused_old refused_new : K) (marks_old marks_new : M)
-    (path message : List ℕ) (item : T) (now : ℕ) (fault : Option HandInFault) (verdict : Verdict) : Type 0 where
+    (path message : List ℕ) (now : ℕ) (fault : Option HandInFault) (verdict : Verdict) : Type 0 where
   pub asked : AsksOnce source drain gives server_old server_new taken.session new.session taken.host path message taken.reply new.reply fault
-  pub refusal : KeepsRefused keeps refused_old refused_new item new.reply (verdict_in taken.waiting now taken.give_up fault) verdict
+  pub refusal : KeepsRefused keeps refused_old refused_new path message new.reply (verdict_in taken.waiting now taken.give_up fault) verdict
   pub concluded_is : new.waiting ≡ concluded taken.waiting now verdict
   pub mark : TellsMark tells marks_old marks_new taken.waiting.mark new.waiting.mark new.stopped
   pub same_host : new.host ≡ taken.host

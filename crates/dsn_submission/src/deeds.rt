@@ -1,20 +1,24 @@
 //! What lies behind a submitter: where refused letters are kept, and where the mark is.
 ghost use Rattle.std.specs.Prelude.{is_ok};
 
+use crate::mail::Mail;
 use dsn_device::Broken;
 
 /// A place where letters that are refused for good are kept.
-pub trait RefusedLetters<T> {
+pub trait RefusedLetters {
     ghost use Rattle.std.specs.Prelude.{ℕ, Bool, List};
 
-    // What the place becomes when a letter with a reply is to be kept, and whether that succeeds.
-    // Each implementation defines it, since no contract can describe a file.
-    ghost keeps: { Self → T → List ℕ → Bool → Self → Type 0 };
+    // What the place becomes when a letter, with its path and its message, and a reply are to be kept,
+    // and whether that succeeds. Each implementation defines it, since no contract can describe a
+    // file.
+    ghost keeps: { Self → List ℕ → List ℕ → List ℕ → Bool → Self → Type 0 };
 
     /// Keeps a letter and the reply by which it was refused, so that no crash loses them. Returns
     /// `Broken` if one may.
-    fn keep(&mut self, letter: &T, reply: &[u8]) -> Result<(), Broken>
-        ensures { keeps self.old letter.now reply.now (is_ok result) self.new };
+    // A type parameter of the trait would be one that no thread could rely on.
+    fn keep<T: Mail>(&mut self, letter: &T, reply: &[u8]) -> Result<(), Broken>
+        ensures { keeps self.old (T.path_of letter.now) (T.message_of letter.now) reply.now
+            (is_ok result) self.new };
 }
 
 /// A place where the mark is kept.

@@ -1,8 +1,9 @@
 //! Submits the letters that wait, one at a time, and does with each what the server's reply says.
 //! Implements RFC 5321 sections 3.3 and 4.5.4.1.
 ghost use Rattle.std.specs.Prelude.{◌≡◌, false, true, Some, None, [], is_some, IfErr, IfNone, IfOk, IfSome, OnErr};
+ghost use Rattle.std.specs.Option.{option_copied, option_map};
 ghost use Rattle.dsn_submission.specs.Submitter.{AsksOnce, Handles, KeepsRefused, LeavesSession, TellsMark, concluded, next_place, with_next_taken, verdict_in};
-ghost use Rattle.dsn_submission.specs.Waiting.{empty_queue, letter_at, letter_in_hand, pushed, serial_in_hand, taken};
+ghost use Rattle.dsn_submission.specs.Waiting.{empty_queue, item_of, letter_at, letter_in_hand, pushed, serial_in_hand, taken};
 ghost use Rattle.dsn_submission.specs.declared.verdict.Verdict.TheVariants.{RefusedForGood};
 ghost use Rattle.dsn_submission.specs.declared.waiting.Waits.{Waits};
 
@@ -111,6 +112,17 @@ impl<T: Mail + Drop, S: Stream + Drop> Submitter<T, S> {
         self.reply.bytes()
     }
 
+    /// The letter that [`Submitter::step`] submits next at `now`, if there is one.
+    pub fn next_letter(&self, now: u64) -> Option<&T>
+        ensures { option_copied result
+            ≡ option_map item_of (letter_at self.now.waiting.letters (next_place self.now now)) }
+    {
+        if self.is_stopped {
+            return None;
+        }
+        self.waiting.next_due(now)
+    }
+
     /// Adds a letter, as [`Waiting::push`] does.
     pub fn push(&mut self, letter: T, now: u64) -> Result<(), T>
         ensures ok { IfOk result
@@ -186,10 +198,11 @@ impl<T: Mail + Drop, S: Stream + Drop> Submitter<T, S> {
     }
 
     /// Keeps the letter in hand if it is refused for good. If that fails, the letter is put off.
-    fn keep_if_refused<K: RefusedLetters<T>>(&self, verdict: Verdict, refused: &mut K) -> Verdict
+    fn keep_if_refused<K: RefusedLetters>(&self, verdict: Verdict, refused: &mut K) -> Verdict
         requires { is_some (letter_in_hand self.now.waiting) ≡ true }
         ensures { (letter : Waits T) → letter_in_hand self.now.waiting ≡ Some letter
-            → KeepsRefused K.keeps refused.old refused.new letter.item self.now.reply verdict result }
+            → KeepsRefused K.keeps refused.old refused.new (T.path_of letter.item)
+            (T.message_of letter.item) self.now.reply verdict result }
     {
         match verdict {
             Verdict::RefusedForGood => self.keep(refused),
@@ -198,10 +211,11 @@ impl<T: Mail + Drop, S: Stream + Drop> Submitter<T, S> {
     }
 
     /// Keeps the letter in hand with the last reply. If that fails, the letter is put off.
-    fn keep<K: RefusedLetters<T>>(&self, refused: &mut K) -> Verdict
+    fn keep<K: RefusedLetters>(&self, refused: &mut K) -> Verdict
         requires { is_some (letter_in_hand self.now.waiting) ≡ true }
         ensures { (letter : Waits T) → letter_in_hand self.now.waiting ≡ Some letter
-            → KeepsRefused K.keeps refused.old refused.new letter.item self.now.reply RefusedForGood
+            → KeepsRefused K.keeps refused.old refused.new (T.path_of letter.item)
+            (T.message_of letter.item) self.now.reply RefusedForGood
             result }
     {
         let Some(letter) = self.waiting.in_hand() else {
@@ -214,7 +228,7 @@ impl<T: Mail + Drop, S: Stream + Drop> Submitter<T, S> {
     }
 
     /// Does with the letter in hand what its outcome says, and returns the verdict.
-    fn conclude<K: RefusedLetters<T>>(
+    fn conclude<K: RefusedLetters>(
         &mut self,
         fault: &Option<HandInFault>,
         refused: &mut K,
@@ -222,7 +236,8 @@ impl<T: Mail + Drop, S: Stream + Drop> Submitter<T, S> {
     ) -> Verdict
         requires { is_some (letter_in_hand self.old.waiting) ≡ true }
         ensures kept { (letter : Waits T) → letter_in_hand self.old.waiting ≡ Some letter
-            → KeepsRefused K.keeps refused.old refused.new letter.item self.old.reply
+            → KeepsRefused K.keeps refused.old refused.new (T.path_of letter.item)
+            (T.message_of letter.item) self.old.reply
             (verdict_in self.old.waiting now self.old.give_up fault.now) result }
         ensures concluded { self.new
             ≡ record self.old { waiting = concluded self.old.waiting now result } }
@@ -246,7 +261,7 @@ impl<T: Mail + Drop, S: Stream + Drop> Submitter<T, S> {
     }
 
     /// Submits the letter in hand, and does with it what the outcome says.
-    fn handle<C: Connect<S>, K: RefusedLetters<T>, M: Marks>(
+    fn handle<C: Connect<S>, K: RefusedLetters, M: Marks>(
         &mut self,
         server: &mut C,
         refused: &mut K,
@@ -259,7 +274,7 @@ impl<T: Mail + Drop, S: Stream + Drop> Submitter<T, S> {
             → letter_in_hand self.old.waiting ≡ Some letter
             → Handles S.Source S.Drain C.gives K.keeps M.tells self.old self.new server.old
             server.new refused.old refused.new marks.old marks.new
-            (T.path_of letter.item) (T.message_of letter.item) letter.item now
+            (T.path_of letter.item) (T.message_of letter.item) now
             handled.fault handled.verdict) }
         ensures serial { IfOk result
             (λ handled. Some handled.serial ≡ serial_in_hand self.old.waiting) }
@@ -292,7 +307,7 @@ impl<T: Mail + Drop, S: Stream + Drop> Submitter<T, S> {
     /// up, is settled once `refused` kept it, and is put off if that fails. If the mark rises,
     /// `marks` keeps it; if that fails, nothing is submitted any more. Returns `NoMemory` if the
     /// message couldn't be written; then nothing was asked and nothing changes.
-    pub fn step<C: Connect<S>, K: RefusedLetters<T>, M: Marks>(
+    pub fn step<C: Connect<S>, K: RefusedLetters, M: Marks>(
         &mut self,
         server: &mut C,
         refused: &mut K,
@@ -305,7 +320,7 @@ impl<T: Mail + Drop, S: Stream + Drop> Submitter<T, S> {
             → Handles S.Source S.Drain C.gives K.keeps M.tells
             (with_next_taken self.old (next_place self.old now)) self.new server.old server.new refused.old
             refused.new marks.old marks.new
-            (T.path_of letter.item) (T.message_of letter.item) letter.item now
+            (T.path_of letter.item) (T.message_of letter.item) now
             handled.fault handled.verdict)) }
         ensures serial { IfOk result (λ done. IfSome done (λ handled. Some handled.serial
             ≡ serial_in_hand (taken self.old.waiting (next_place self.old now)))) }

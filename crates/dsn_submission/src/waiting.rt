@@ -1,7 +1,7 @@
 //! Letters that wait for a mail server: which one is submitted next, when it is tried again, and
 //! up to which one all are settled.
 //! Implements RFC 5321 section 4.5.4.1, with this project's intervals.
-ghost use Rattle.std.specs.Prelude.{◌≡◌, ℕ, ◌<◌, ◌≤◌, Some, [], ◌∷◌, ◌++◌, length, drop, is_some, slice_set, IfErr, OnOk};
+ghost use Rattle.std.specs.Prelude.{◌≡◌, ℕ, ◌<◌, ◌≤◌, Some, [], ◌∷◌, ◌++◌, ◌==◌, length, drop, is_some, slice_set, IfErr, OnOk};
 ghost use Rattle.std.specs.List.{position};
 ghost use Rattle.std.specs.Option.{option_copied, option_map};
 ghost use Rattle.dsn_submission.specs.inner.Waiting.{earlier_due, least_due};
@@ -81,6 +81,13 @@ impl<T: Drop> Waiting<T> {
         self.mark
     }
 
+    /// Whether no letter waits.
+    pub fn is_empty(&self) -> bool
+        ensures { result ≡ (length self.now.letters == 0) }
+    {
+        self.letters.is_empty()
+    }
+
     /// Adds a letter that came at `now`. Returns it if memory for it was refused, or if its serial
     /// would be above 18,446,744,073,709,551,614; then nothing changes.
     pub fn push(&mut self, item: T, now: u64) -> Result<(), T>
@@ -106,6 +113,18 @@ impl<T: Drop> Waiting<T> {
                 true
             }
             None => false,
+        }
+    }
+
+    /// The first letter that is due at `now`, unless another is in hand or the server isn't to be
+    /// asked.
+    pub fn next_due(&self, now: u64) -> Option<&T>
+        ensures { option_copied result
+            ≡ option_map item_of (letter_at self.now.letters (due_place self.now now)) }
+    {
+        match self.letters.get(self.due_place(now)?) {
+            Some(Some(letter)) => Some(&letter.item),
+            _ => None,
         }
     }
 

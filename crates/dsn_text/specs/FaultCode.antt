@@ -1,4 +1,4 @@
--- The numbers of all faults, each once (docs/FORMATS.md, "All numbers"). The module fault_code has
+-- The numbers of all faults, each once (noticed-protocol(5)). The module fault_code has
 -- the same numbers.
 use Rattle.std.specs.Prelude.{ℕ}
 

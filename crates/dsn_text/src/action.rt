@@ -1,5 +1,5 @@
 //! The action that a delivery agent took for a recipient (RFC 3464 section 2.3.3).
-//! Implements docs/FORMATS.md, "Append: log one recipient's outcome".
+//! Implements noticed-protocol(5).
 ghost use Rattle.std.specs.Prelude.{◌≡◌};
 ghost use Rattle.dsn_text.specs.Action.{action_byte, action_of_byte, action_of_word, action_word};
 ghost use Rattle.dsn_text.specs.Action.{fits_class, fits_retry};

@@ -1,5 +1,5 @@
 //! Envelope addresses.
-//! Implements RFC 5321 section 4.1.2 and docs/FORMATS.md, "Append: log one recipient's outcome".
+//! Implements RFC 5321 section 4.1.2 and noticed-protocol(5).
 ghost use Rattle.std.specs.Prelude.{◌≡◌, ◌↔◌, IsTrue, IfOk, IsOk, IsErrOf};
 ghost use Rattle.dsn_text.specs.Text.{IsAddress};
 

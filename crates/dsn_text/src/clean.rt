@@ -1,5 +1,5 @@
 //! Diagnostics and reasons.
-//! Implements docs/FORMATS.md, "Append: log one recipient's outcome".
+//! Implements noticed-protocol(5).
 ghost use Rattle.std.specs.Prelude.{◌≡◌, ◌↔◌, ◌<◌, ◌≤◌, length, IsTrue, IfOk, IsOk, IsErr, IsErrOf};
 ghost use Rattle.dsn_text.specs.Text.{IsClean, clean_byte, clean_text};
 

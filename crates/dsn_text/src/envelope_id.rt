@@ -1,5 +1,5 @@
 //! Envelope ids.
-//! Implements RFC 3461 section 4.4 and docs/FORMATS.md, "Flush: close the log and make its notice".
+//! Implements RFC 3461 section 4.4 and noticed-protocol(5).
 ghost use Rattle.std.specs.Prelude.{◌≡◌, ◌↔◌, IsTrue, IfOk, IsOk, IsErrOf};
 ghost use Rattle.dsn_text.specs.Text.{IsEnvelopeId};
 

@@ -1,6 +1,6 @@
 //! Extension fields, in which a mail system reports more on a message or a recipient than the
 //! fields of RFC 3464 do (RFC 3464 section 2.4).
-//! Implements docs/FORMATS.md, "Append: log one recipient's outcome".
+//! Implements noticed-protocol(5).
 ghost use Rattle.std.specs.Prelude.{◌≡◌, ◌<◌, ◌≤◌, ◌==◌, [], ◌∷◌, length, IsTrue, IfSome, MatchOption};
 ghost use Rattle.std.specs.List.{after_first, before_first, position_or_len};
 ghost use Rattle.dsn_text.specs.Extension.{IsExtensionText, are_extension_lines, lines_ended_by_lf, is_extension_line, is_extension_name, is_extension_rest, is_extension_text, is_feed, most_extensions};

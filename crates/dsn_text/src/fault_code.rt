@@ -1,4 +1,4 @@
-//! The numbers of all faults, each once (docs/FORMATS.md, "All numbers"). The function `code()` of
+//! The numbers of all faults, each once (noticed-protocol(5)). The function `code()` of
 //! an error type returns them.
 //!
 //! - 1 to 10 and 15 to 30 refuse a request's body.

@@ -1,5 +1,5 @@
 //! The key of a log: a service and a message.
-//! Implements docs/FORMATS.md, "Requests".
+//! Implements noticed-protocol(5).
 use crate::queue_id::QueueId;
 use crate::service::Service;
 

@@ -1,5 +1,5 @@
 //! The names of remote mail systems.
-//! Implements RFC 3464 section 2.3.5 and docs/FORMATS.md, "Append: log one recipient's outcome".
+//! Implements RFC 3464 section 2.3.5 and noticed-protocol(5).
 ghost use Rattle.std.specs.Prelude.{◌≡◌, ◌↔◌, IsTrue, IfOk, IsOk, IsErrOf};
 ghost use Rattle.dsn_text.specs.Text.{IsMtaName};
 

@@ -1,5 +1,5 @@
 //! The name of a message's queue file, which also identifies its log.
-//! Implements docs/FORMATS.md, "Requests".
+//! Implements noticed-protocol(5).
 ghost use Rattle.std.specs.Prelude.{◌≡◌, ◌↔◌, ◌==◌, IsTrue, IsSome, IfSome};
 ghost use Rattle.std.proofs.Common.{rules};
 ghost use Rattle.std.specs.Cmp.{partial_order_from_own_ties};

@@ -1,5 +1,5 @@
 //! The headers of messages, or whole messages, that a notice returns.
-//! Implements RFC 3461 section 4.3 and docs/FORMATS.md, "Flush: close the log and make its notice".
+//! Implements RFC 3461 section 4.3 and noticed-protocol(5).
 ghost use Rattle.std.specs.Prelude.{◌≡◌, ◌↔◌, ◌<◌, ◌≤◌, length, IsTrue, IfOk, IsOk, IsErrOf};
 
 use crate::no_memory::NoMemory;

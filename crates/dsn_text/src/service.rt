@@ -1,5 +1,5 @@
 //! The three services of the daemon, which are those of Postfix's bounce(8).
-//! Implements docs/FORMATS.md, "Requests".
+//! Implements noticed-protocol(5).
 ghost use Rattle.std.specs.Prelude.{◌≡◌};
 ghost use Rattle.dsn_text.specs.Service.{takes};
 ghost use Rattle.dsn_text.specs.Service.{service_byte, service_letter, service_of_byte};

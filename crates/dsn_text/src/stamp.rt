@@ -1,5 +1,5 @@
 //! Moments, in whole seconds since 1 January 1970 UTC, and their text (RFC 5322 section 3.3).
-//! Implements docs/FORMATS.md, "Dates".
+//! Implements noticed-notice(5).
 ghost use Rattle.std.specs.Prelude.{◌≡◌, ◌/◌, ◌%◌, ◌<◌, ◌≤◌, ◌↔◌, IsSome, IfSome};
 ghost use Rattle.std.specs.Int.{IsInRange};
 ghost use Rattle.jiff.specs.Words.{monday_zero, weekday_of};

@@ -1,5 +1,5 @@
 //! The names of types: the kind of an address or of a diagnostic.
-//! Implements RFC 3464 section 2.1.2 and docs/FORMATS.md, "Append: log one recipient's outcome".
+//! Implements RFC 3464 section 2.1.2 and noticed-protocol(5).
 ghost use Rattle.std.specs.Prelude.{◌↔◌, IsTrue};
 ghost use Rattle.dsn_text.specs.Text.{IsTypeName};
 

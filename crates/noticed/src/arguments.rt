@@ -1,15 +1,17 @@
 //! The arguments: which command they name, and what it is given.
 use crate::command_line::command_line;
 use crate::fault_list::fault_list;
-use crate::hand_in_command::HandInArguments;
+use crate::hand_in_command::{HandInArguments, HandInTerms};
 use crate::log_command::{LogArguments, LogRequest};
 use crate::postfix_serving::PostfixServing;
 use crate::postfix_values::postfix_serving;
+use crate::preview_command::PreviewArguments;
 use crate::serve_values::serve_arguments;
 use crate::start_error::StartError;
 use crate::status_command::StatusView;
 use clap::ArgMatches;
 use dsn_report::{Site, SiteFault};
+use dsn_text::QueueId;
 use noticed_lib::{Serving, WatchOptions};
 use std::alloc::Global;
 use std::env;
@@ -66,6 +68,8 @@ pub(crate) enum Command {
     HandIn(HandInArguments),
     /// `postfix [OPTION].. QUEUE-FOLDER HOST HAND-IN`.
     Postfix(PostfixServing),
+    /// `preview [OPTION].. QUEUE-FOLDER HOST ID`.
+    Preview(PreviewArguments),
     /// `faults`.
     Faults,
 }
@@ -87,12 +91,29 @@ pub(crate) struct ServeArguments {
 /// What the options of `serve` ask for.
 #[derive(Drop)]
 pub(crate) struct ServeOptions {
-    /// The folder of the journal, if there is to be one.
-    pub(crate) journal: Option<String>,
-    /// The path of the outbox, if it isn't standard output.
-    pub(crate) outbox: Option<String>,
+    /// Where the notices go, and the folder of the journal.
+    pub(crate) destination: Destination,
     /// What the run's watch is asked to do.
     pub(crate) watch: WatchOptions,
+}
+
+/// Where the notices of `serve` go, and the folder of the journal.
+#[derive(Drop)]
+pub(crate) enum Destination {
+    /// An outbox.
+    Outbox {
+        /// Its path, if it isn't standard output.
+        path: Option<String>,
+        /// The folder of the journal, if there is to be one.
+        journal: Option<String>,
+    },
+    /// A mail server.
+    Server {
+        /// The mail server, and for how long it is tried.
+        terms: HandInTerms,
+        /// The folder of the journal.
+        journal: String,
+    },
 }
 
 /// The command that the arguments name, with what it is given.
@@ -148,6 +169,7 @@ fn command_given(
         }),
         "hand-in" => Ok(Command::HandIn(HandInArguments::of(alloc, given)?)),
         "faults" => Ok(Command::Faults),
+        "preview" => Ok(Command::Preview(PreviewArguments::of(alloc, given)?)),
         _ => Ok(Command::Postfix(postfix_serving(alloc, given)?)),
     }
 }
@@ -210,6 +232,15 @@ pub(crate) fn site_of(alloc: Global, host: &str) -> Result<Site, StartError> {
             host,
         )),
         Err(SiteFault::NoMemory) => Err(StartError::NoMemory),
+    }
+}
+
+/// The queue id that the argument ID says.
+pub(crate) fn queue_id_of(alloc: Global, given: &ArgMatches<'_>) -> Result<QueueId, StartError> {
+    let id = text_of(given, "ID");
+    match QueueId::new(id.as_bytes()) {
+        Some(id) => Ok(id),
+        None => Err(StartError::wrong(alloc, "ID", "1 to 32 letters and digits", id)),
     }
 }
 

@@ -1,11 +1,11 @@
 //! The command line: its commands with their options and arguments, and the help of each.
-//! docs/FORMATS.md, "Command line and exit status", has the bounds.
+//! noticed(8) and noticed-serve(8) have the bounds.
 use clap::builder::ValueParser;
 use clap::{Arg, ArgAction, Command};
 use std::alloc::{AllocError, Global};
 
 /// The version of the program.
-pub(crate) const VERSION: &str = "0.9.0";
+pub(crate) const VERSION: &str = "1.0.0";
 
 /// The command line of the program, with this list of faults.
 pub(crate) fn command_line<'a>(alloc: Global, faults: &'a str) -> Result<Command<'a>, AllocError> {
@@ -23,6 +23,7 @@ pub(crate) fn command_line<'a>(alloc: Global, faults: &'a str) -> Result<Command
         .subcommand(journal(alloc)?)?
         .subcommand(hand_in(alloc)?)?
         .subcommand(postfix(alloc)?)?
+        .subcommand(preview(alloc)?)?
         .subcommand(
             Command::new(alloc, "faults")
                 .about("Lists the numbers of faults and refusals")
@@ -40,7 +41,7 @@ fn batch<'a>(alloc: Global) -> Result<Command<'a>, AllocError> {
 
 fn serve<'a>(alloc: Global) -> Result<Command<'a>, AllocError> {
     Command::new(alloc, "serve")
-        .about("Answers clients that connect to a Unix socket, and writes the outbox")
+        .about("Answers clients that connect to a Unix socket, and writes or submits the notices")
         .arg(option(alloc, "config", "FILE").help(
             "Takes what is not given here from FILE, whose lines are 'key = value'",
         ))?
@@ -56,6 +57,12 @@ fn serve<'a>(alloc: Global) -> Result<Command<'a>, AllocError> {
         ))?
         .arg(option(alloc, "entries", "N").help(
             "How many outcomes a log takes, 1 to 1000 [default: 1000]",
+        ))?
+        .arg(option(alloc, "hand-in", "HAND-IN").help(
+            "Submits the notices to this mail server, in place of an outbox",
+        ))?
+        .arg(option(alloc, "give-up", "SECONDS").help(
+            "How long a notice is tried, 1 to 8640000 [default: 432000]",
         ))?
         .arg(option(alloc, "outbox", "PATH").help("Writes the outbox to PATH, synced"))?
         .arg(option(alloc, "idle", "SECONDS").help(
@@ -145,8 +152,27 @@ fn hand_in<'a>(alloc: Global) -> Result<Command<'a>, AllocError> {
 }
 
 fn postfix<'a>(alloc: Global) -> Result<Command<'a>, AllocError> {
-    Command::new(alloc, "postfix")
-        .about("Serves a Postfix in place of bounce(8)")
+    let command = Command::new(alloc, "postfix").about("Serves a Postfix in place of bounce(8)");
+    with_settings(alloc, command)?
+        .arg(flag(alloc, "inherited").help("Takes over the sockets that the caller listens on"))?
+        .arg(queue_folder(alloc))?
+        .arg(host(alloc))?
+        .arg(mail_server(alloc))
+}
+
+fn preview<'a>(alloc: Global) -> Result<Command<'a>, AllocError> {
+    let command = Command::new(alloc, "preview").about(
+        "Prints the notices that 'postfix' would make of a message's logs, and changes nothing",
+    );
+    with_settings(alloc, command)?
+        .arg(queue_folder(alloc))?
+        .arg(host(alloc))?
+        .arg(queue_id(alloc))
+}
+
+/// Adds the options that give the settings of a Postfix.
+fn with_settings<'a>(alloc: Global, command: Command<'a>) -> Result<Command<'a>, AllocError> {
+    command
         .arg(
             option(alloc, "lifetime", "SECONDS")
                 .default_value("432000")
@@ -170,17 +196,18 @@ fn postfix<'a>(alloc: Global) -> Result<Command<'a>, AllocError> {
             option(alloc, "hash-queue-depth", "DEPTH")
                 .default_value("1")
                 .help("How many levels they are hashed by, 1 to 16"),
-        )?
-        .arg(flag(alloc, "inherited").help("Takes over the sockets that the caller listens on"))?
-        .arg(argument(alloc, "QUEUE-FOLDER").help("Postfix's queue folder"))?
-        .arg(host(alloc))?
-        .arg(mail_server(alloc))
+        )
+}
+
+/// The argument QUEUE-FOLDER.
+fn queue_folder<'a>(alloc: Global) -> Arg<'a> {
+    argument(alloc, "QUEUE-FOLDER").help("Postfix's queue folder")
 }
 
 /// The argument HAND-IN.
 fn mail_server<'a>(alloc: Global) -> Arg<'a> {
     argument(alloc, "HAND-IN").help(
-        "The mail server that takes the notices: an IP address with a port, or a socket's path",
+        "The mail server: an IP address or localhost with a port, or a socket's path",
     )
 }
 

@@ -6,13 +6,15 @@ use std::fs;
 use std::io::ErrorKind;
 
 /// The keys: the long names of the options and arguments of `serve`.
-const KEYS: [&str; 13] = [
+const KEYS: [&str; 15] = [
     "socket",
     "host",
     "agents",
     "max-use",
     "journal",
     "outbox",
+    "hand-in",
+    "give-up",
     "release-closed",
     "logs",
     "entries",

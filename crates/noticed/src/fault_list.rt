@@ -1,5 +1,5 @@
 //! The list of the numbers of faults and refusals, as `noticed help faults` prints it.
-//! docs/FORMATS.md, "All numbers", says where each shows.
+//! noticed-protocol(5), says where each shows.
 use dsn_text::FAULT_WORDS;
 use std::alloc::{AllocError, Global};
 

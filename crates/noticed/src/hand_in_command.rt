@@ -5,11 +5,10 @@ use crate::outbox_text::{OutboxPart, greeting_of, part_of};
 use crate::postfix_values::server_of;
 use crate::start_error::StartError;
 use clap::ArgMatches;
-use dsn_smtp::{MailConnection, MailServer, ServerAddress};
+use dsn_smtp::{HandInFault, MailConnection, MailServer, ServerAddress};
 use dsn_submission::{Handled, Submitter, Transaction, Verdict};
 use dsn_text::{Address, Clean, MtaName};
 use std::alloc::Global;
-use std::fs::File;
 use std::io::Read;
 use std::time::{Duration, Instant};
 use std::{io, thread};
@@ -27,20 +26,36 @@ const LONGEST_WAIT: u64 = 60_000;
 const LONGEST_IDLE: u64 = 10_000;
 
 /// The longest time after which a notice is given up, in seconds: a hundred days.
-const MOST_GIVE_UP: u32 = 8_640_000;
+pub(crate) const MOST_GIVE_UP: u32 = 8_640_000;
 
 /// The longest text of a reply that is printed, in bytes.
 const LONGEST_REPLY_TEXT: usize = 500;
 
+/// After how many seconds a notice is given up, unless it is said: five days (RFC 5321 section 4.5.4.1).
+pub(crate) const GIVE_UP: u32 = 432_000;
+
+/// To which mail server notices are submitted, and for how long.
+#[derive(Drop)]
+pub(crate) struct HandInTerms {
+    /// The mail server.
+    pub(crate) server: ServerAddress,
+    /// After how many seconds a notice is given up.
+    pub(crate) give_up: u32,
+}
+
+impl HandInTerms {
+    /// After how many milliseconds a notice is given up.
+    pub(crate) fn milliseconds(&self) -> u64 {
+        u64::from(self.give_up) * 1_000
+    }
+}
+
 /// What `hand-in` is given.
 #[derive(Drop)]
 pub(crate) struct HandInArguments {
-    /// The mail server.
-    server: ServerAddress,
+    terms: HandInTerms,
     /// The file that keeps the mark, if there is one.
     done: Option<String>,
-    /// After how many seconds a notice is given up.
-    give_up: u32,
 }
 
 impl HandInArguments {
@@ -51,9 +66,11 @@ impl HandInArguments {
             None => None,
         };
         Ok(HandInArguments {
-            server: server_of(alloc, text_of(given, "HAND-IN"))?,
+            terms: HandInTerms {
+                server: server_of(alloc, text_of(given, "HAND-IN"))?,
+                give_up: number_of(alloc, given, "give-up", MOST_GIVE_UP)?,
+            },
             done,
-            give_up: number_of(alloc, given, "give-up", MOST_GIVE_UP)?,
         })
     }
 }
@@ -115,12 +132,12 @@ fn hand_in_outbox(
     let Ok(began) = Instant::now(rt) else {
         return Err(StartError::NoMemory);
     };
-    let give_up = u64::from(arguments.give_up) * 1_000;
+    let terms = &arguments.terms;
     let mut run = HandIn {
         rt,
         began,
-        submitter: Submitter::new(rt.alloc(), host, first, give_up),
-        server: MailServer::new(rt, &arguments.server),
+        submitter: Submitter::new(rt.alloc(), host, first, terms.milliseconds()),
+        server: MailServer::new(rt, &terms.server),
         refused,
         done,
         first,
@@ -131,17 +148,15 @@ fn hand_in_outbox(
     Ok(if is_whole { status } else { FAULT })
 }
 
-/// Where refused notices go.
+/// Where refused notices go: beside the file of the mark, or to standard output.
 fn refused_place(rt: &HostRuntime, done: Option<&str>) -> io::Result<RefusedPlace> {
-    let Some(path) = done else {
-        return Ok(RefusedPlace::Standard(rt.stdout()));
-    };
-    let path = format!(in rt.alloc(); "{path}.refused")?;
-    let file = File::options()
-        .append(true)
-        .create(true)
-        .open(rt, path.as_str())?;
-    Ok(RefusedPlace::Synced(file))
+    match done {
+        Some(path) => {
+            let path = format!(in rt.alloc(); "{path}.refused")?;
+            RefusedPlace::open(rt, path.as_str())
+        }
+        None => Ok(RefusedPlace::standard(rt)),
+    }
 }
 
 /// Prints an error of the system. Returns the status.
@@ -277,7 +292,12 @@ impl<'a> HandIn<'a> {
         };
         let path = self.cleaned(path);
         let number = handled.serial.saturating_add(1);
-        let reply = self.cleaned(reply_text(self.submitter.reply()));
+        // A reply of an earlier command says nothing of a server that didn't answer.
+        let reply = match handled.fault {
+            None | Some(HandInFault::Refused(_, _)) => self.submitter.reply(),
+            Some(_) => b"",
+        };
+        let reply = self.cleaned(reply_text(reply));
         let _ = eprintln!(self.rt; "{words} {number} {path}: {reply}");
     }
 

@@ -1,9 +1,10 @@
 //! What `hand-in` keeps: the mark, and the letters that were refused for good.
 use dsn_journal::sync_folder;
 use dsn_outcome::Broken;
-use dsn_submission::{Marks, RefusedLetters, Transaction};
+use dsn_submission::{Mail, Marks, RefusedLetters};
 use std::fs::File;
 use std::io::Write;
+use std::os::unix::fs::OpenOptionsExt;
 use std::rt::Stdout;
 use std::{fs, io};
 
@@ -58,40 +59,79 @@ impl Marks for DoneFile<'_> {
     }
 }
 
-/// Where refused letters go: a file, which is synced, or standard output.
+/// Where refused letters are written: standard output, or a file, which is synced.
 #[derive(Drop)]
-pub(crate) enum RefusedPlace {
+enum RefusedOutput {
     Standard(Stdout),
     Synced(File),
 }
 
+/// Where refused letters go, with the memory for their texts.
+#[derive(Drop)]
+pub(crate) struct RefusedPlace {
+    output: RefusedOutput,
+    text: Vec<u8>,
+}
+
 impl RefusedPlace {
-    /// Writes a whole letter and its reply.
-    fn write_letter(&mut self, letter: &Transaction, reply: &[u8]) -> io::Result<()> {
-        match self {
-            RefusedPlace::Standard(stdout) => {
-                write_refusal(stdout, letter, reply)?;
+    /// Standard output.
+    pub(crate) fn standard(rt: &HostRuntime) -> RefusedPlace {
+        RefusedPlace {
+            output: RefusedOutput::Standard(rt.stdout()),
+            text: Vec::new(rt.alloc()),
+        }
+    }
+
+    /// A file, to which is appended. Makes it if it doesn't exist, for its owner alone. Syncs its name.
+    pub(crate) fn open(rt: &HostRuntime, path: &str) -> io::Result<RefusedPlace> {
+        let file = File::options()
+            .append(true)
+            .create(true)
+            .mode(0o600)
+            .open(rt, path)?;
+        sync_folder(rt, path)?;
+        Ok(RefusedPlace {
+            output: RefusedOutput::Synced(file),
+            text: Vec::new(rt.alloc()),
+        })
+    }
+
+    /// Writes the letter to this path whose message is the text, with its reply.
+    fn write_letter(&mut self, path: &[u8], reply: &[u8]) -> io::Result<()> {
+        match &mut self.output {
+            RefusedOutput::Standard(stdout) => {
+                write_refusal(stdout, path, &self.text, reply)?;
                 stdout.flush()
             }
-            RefusedPlace::Synced(file) => {
-                write_refusal(file, letter, reply)?;
+            RefusedOutput::Synced(file) => {
+                write_refusal(file, path, &self.text, reply)?;
                 file.sync_data()
             }
         }
     }
 }
 
-impl RefusedLetters<Transaction> for RefusedPlace {
-    ghost keeps = { λ _ _ _ _ _. Unit {0} };
+impl RefusedLetters for RefusedPlace {
+    ghost keeps = { λ _ _ _ _ _ _. Unit {0} };
 
-    fn keep(&mut self, letter: &Transaction, reply: &[u8]) -> Result<(), Broken> {
-        self.write_letter(letter, reply).map_err(|_| Broken)
+    fn keep<T: Mail>(&mut self, letter: &T, reply: &[u8]) -> Result<(), Broken> {
+        self.text.clear();
+        if letter.write_message(&mut self.text).is_err() {
+            return Err(Broken);
+        }
+        self.write_letter(letter.path().bytes(), reply)
+            .map_err(|_| Broken)
     }
 }
 
 /// Writes a letter as the outbox has it. The reply is before it, each line behind `NOOP`, which a
 /// mail server passes over (RFC 5321 section 4.1.1.9).
-fn write_refusal<W: Write>(out: &mut W, letter: &Transaction, reply: &[u8]) -> io::Result<()> {
+fn write_refusal<W: Write>(
+    out: &mut W,
+    path: &[u8],
+    message: &[u8],
+    reply: &[u8],
+) -> io::Result<()> {
     for line in reply.split(|&byte| byte == b'\n') {
         if !line.is_empty() {
             out.write_all(b"NOOP ")?;
@@ -100,7 +140,7 @@ fn write_refusal<W: Write>(out: &mut W, letter: &Transaction, reply: &[u8]) -> i
         }
     }
     out.write_all(b"MAIL FROM:<>\r\nRCPT TO:<")?;
-    out.write_all(letter.path.bytes())?;
+    out.write_all(path)?;
     out.write_all(b">\r\nDATA\r\n")?;
-    out.write_all(&letter.message)
+    out.write_all(message)
 }

@@ -9,7 +9,7 @@ use std::os::unix::fs::OpenOptionsExt;
 use std::{fs, io};
 
 /// The size of the file of a new journal, in bytes.
-// Room for some 460,000 outcomes.
+// Room for some 450,000 requests.
 const JOURNAL_SIZE: usize = 67_108_864;
 
 /// The size of the file of new marks, in bytes.

@@ -1,10 +1,10 @@
 //! The commands `discard` and `forget`: each sends one request about one log to a daemon.
-use crate::arguments::{socket_of, text_of};
+use crate::arguments::{queue_id_of, socket_of, text_of};
 use crate::fault_note::print_fault_line;
 use crate::socket_fault::print_socket_fault;
 use crate::start_error::StartError;
 use clap::ArgMatches;
-use dsn_outcome::{BodyRef, Key, Plain, QueueId, Reply, Service};
+use dsn_outcome::{BodyRef, Key, Plain, Reply, Service};
 use dsn_text::fault_words;
 use noticed_lib::{Spoken, send_request};
 use std::alloc::Global;
@@ -39,13 +39,11 @@ impl LogArguments {
         request: LogRequest,
         given: &ArgMatches<'_>,
     ) -> Result<LogArguments, StartError> {
-        let (service, id) = (text_of(given, "SERVICE"), text_of(given, "ID"));
+        let service = text_of(given, "SERVICE");
         let Some(service) = service_named(service) else {
             return Err(StartError::wrong(alloc, "SERVICE", "bounce, defer or trace", service));
         };
-        let Some(id) = QueueId::new(id.as_bytes()) else {
-            return Err(StartError::wrong(alloc, "ID", "1 to 32 letters and digits", id));
-        };
+        let id = queue_id_of(alloc, given)?;
         Ok(LogArguments {
             socket: socket_of(alloc, given)?,
             request,
@@ -130,6 +128,6 @@ fn undone(reply: Reply) -> &'static str {
         Reply::Closed => "closed: the log was flushed or discarded before",
         Reply::NotClosed => "not closed: the log is open, or there is none",
         Reply::TableFull => "table full: no key can be added",
-        _ => "the answer is none to this request",
+        _ => "the answer is not one to this request",
     }
 }

@@ -20,6 +20,7 @@ mod outbox_writer;
 mod postfix_command;
 mod postfix_serving;
 mod postfix_values;
+mod preview_command;
 mod run_file;
 mod send_command;
 mod serve_command;
@@ -42,6 +43,7 @@ use hand_in_command::run_hand_in;
 use journal_command::run_journal;
 use log_command::run_log_request;
 use postfix_command::run_postfix;
+use preview_command::run_preview;
 use send_command::run_send;
 use serve_command::run_serve;
 use standard_streams::take_closed_streams;
@@ -52,7 +54,7 @@ use stop_command::run_stop;
 
 /// The line that wrong arguments print on standard error.
 const USAGE: &str =
-    "usage: noticed batch HOST | serve [--config FILE] [--inherited] [[--journal FOLDER] --outbox PATH] [--release-closed] [--logs N] [--entries N] [--idle SECONDS] [--end-on-fault] [--log] SOCKET HOST AGENTS MAX-USE | stop SOCKET | send SOCKET | status [--open|--prometheus] SOCKET | discard SOCKET SERVICE ID | forget SOCKET SERVICE ID | journal FOLDER | hand-in [--done FILE] [--give-up SECONDS] HAND-IN | postfix [--lifetime SECONDS] [--bounce-size-limit BYTES] [--double-bounce ADDRESS] [--hash-queue-names NAMES] [--hash-queue-depth DEPTH] [--inherited] QUEUE-FOLDER HOST HAND-IN";
+    "usage: noticed batch HOST | serve [--config FILE] [--inherited] [[--journal FOLDER] --outbox PATH | --journal FOLDER --hand-in HAND-IN [--give-up SECONDS]] [--release-closed] [--logs N] [--entries N] [--idle SECONDS] [--end-on-fault] [--log] SOCKET HOST AGENTS MAX-USE | stop SOCKET | send SOCKET | status [--open|--prometheus] SOCKET | discard SOCKET SERVICE ID | forget SOCKET SERVICE ID | journal FOLDER | hand-in [--done FILE] [--give-up SECONDS] HAND-IN | postfix [--lifetime SECONDS] [--bounce-size-limit BYTES] [--double-bounce ADDRESS] [--hash-queue-names NAMES] [--hash-queue-depth DEPTH] [--inherited] QUEUE-FOLDER HOST HAND-IN | preview [OPTIONS] QUEUE-FOLDER HOST ID";
 
 fn main(rt: HostRuntime) -> ExitCode {
     let done = match begin(&rt) {
@@ -65,6 +67,7 @@ fn main(rt: HostRuntime) -> ExitCode {
         Ok(Command::Journal { folder }) => run_journal(&rt, &folder),
         Ok(Command::HandIn(arguments)) => run_hand_in(&rt, arguments),
         Ok(Command::Postfix(serving)) => run_postfix(&rt, &rt, serving),
+        Ok(Command::Preview(arguments)) => run_preview(&rt, arguments),
         Ok(Command::Faults) => print_faults(&rt),
         Err(start_error) => Err(start_error),
     };

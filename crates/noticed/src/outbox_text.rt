@@ -1,5 +1,5 @@
 //! An outbox, taken apart into its mail transactions.
-//! Implements docs/FORMATS.md, "The outbox".
+//! Implements noticed-notice(5).
 use bstr::ByteSlice;
 
 /// A mail transaction in an outbox.
@@ -32,8 +32,10 @@ pub(crate) fn greeting_of(text: &[u8]) -> Option<(&[u8], &[u8])> {
     Some((host, rest))
 }
 
-/// What a text begins with, behind the greeting.
+/// What a text begins with, behind the greeting. Lines of NOOP, as a refused notice has them, are
+/// passed over.
 pub(crate) fn part_of(text: &[u8]) -> OutboxPart<'_> {
+    let text = without_noops(text);
     if text == b"QUIT\r\n".as_slice() {
         return OutboxPart::End;
     }
@@ -41,6 +43,27 @@ pub(crate) fn part_of(text: &[u8]) -> OutboxPart<'_> {
         Some(transaction) => OutboxPart::Transaction(transaction),
         None => OutboxPart::CutShort,
     }
+}
+
+/// A text without the lines of NOOP that it begins with.
+fn without_noops(text: &[u8]) -> &[u8] {
+    let mut rest = text;
+    for _ in 0..text.len() {
+        match noop_line(rest) {
+            Some(behind) => rest = behind,
+            None => return rest,
+        }
+    }
+    rest
+}
+
+/// What is behind the line of NOOP that a text begins with, if it begins with one.
+fn noop_line(text: &[u8]) -> Option<&[u8]> {
+    if !text.starts_with(b"NOOP ") {
+        return None;
+    }
+    let (_, behind) = text.split_once_str(b"\n")?;
+    Some(behind)
 }
 
 /// The transaction that a text begins with, if it is whole.

@@ -24,9 +24,9 @@ pub(crate) fn run_postfix<R: Threads + Wait + Clock + Copy + Send + Sync + Drop 
 ) -> Result<u8, StartError> {
     let hashed = serving.values.hashed_queues(rt.alloc())?;
     let place = serving.place(hashed.as_slice());
-    let listeners = match listen(rt, &place, serving.values.inherits) {
+    let listeners = match listen(rt, &place, serving.inherits) {
         Ok(listeners) => listeners,
-        Err(fault) => return Ok(print_fault(rt, place.root, &fault)),
+        Err(fault) => return Ok(print_fault(rt, place.queues.root, &fault)),
     };
     let served = serve_postfix(rt, waiting, &listeners, place, serving.settings());
     if served.is_err() {

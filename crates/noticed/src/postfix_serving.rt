@@ -2,7 +2,7 @@
 use crate::postfix_values::PostfixValues;
 use dsn_postfix::QueueName;
 use dsn_postfix_notices::ServiceSettings;
-use dsn_postfix_queue::{FolderHashing, PostfixSetup};
+use dsn_postfix_queue::PostfixSetup;
 use dsn_report::Site;
 use dsn_smtp::ServerAddress;
 use dsn_text::MtaName;
@@ -20,6 +20,8 @@ pub(crate) struct PostfixServing {
     pub(crate) hand_in: ServerAddress,
     /// The values that options change.
     pub(crate) values: PostfixValues,
+    /// Whether the sockets are inherited.
+    pub(crate) inherits: bool,
 }
 
 impl PostfixServing {
@@ -27,11 +29,7 @@ impl PostfixServing {
     /// notices.
     pub(crate) fn place<'a>(&'a self, hashed: &'a [QueueName<'a>]) -> PostfixSetup<'a> {
         PostfixSetup {
-            root: self.folder.as_str(),
-            hashing: FolderHashing {
-                queues: hashed,
-                depth: self.values.depth,
-            },
+            queues: self.values.queue_folder(&self.folder, hashed),
             hand_in: &self.hand_in,
             host: &self.client,
         }
@@ -39,11 +37,6 @@ impl PostfixServing {
 
     /// The settings that notices depend on.
     pub(crate) fn settings(&self) -> ServiceSettings<'_> {
-        ServiceSettings {
-            site: &self.site,
-            double_bounce: self.values.double_bounce.as_bytes(),
-            lifetime: self.values.lifetime,
-            size_limit: self.values.size_limit,
-        }
+        self.values.settings(&self.site)
     }
 }

@@ -6,7 +6,9 @@ use crate::postfix_serving::PostfixServing;
 use crate::start_error::StartError;
 use clap::ArgMatches;
 use dsn_postfix::QueueName;
-use dsn_postfix_queue::MOST_DEPTH;
+use dsn_postfix_notices::ServiceSettings;
+use dsn_postfix_queue::{FolderHashing, MOST_DEPTH, QueueFolder};
+use dsn_report::Site;
 use dsn_smtp::ServerAddress;
 use dsn_text::{MtaName, TextFault};
 use std::alloc::Global;
@@ -19,7 +21,7 @@ const MOST_LIFETIME: u32 = 8_640_000;
 const MOST_SIZE_LIMIT: u32 = 2_147_483_647;
 
 /// What HAND-IN may be.
-const HAND_IN: &str = "an IP address with a port, or a path of at most 107 bytes";
+const HAND_IN: &str = "an IP address or localhost with a port, or a path of at most 107 bytes";
 
 /// The values of the options of `postfix`.
 #[derive(Drop)]
@@ -34,8 +36,6 @@ pub(crate) struct PostfixValues {
     hashed: String,
     /// By how many levels of folders they are hashed.
     pub(crate) depth: u32,
-    /// Whether the sockets are inherited.
-    pub(crate) inherits: bool,
 }
 
 impl PostfixValues {
@@ -53,6 +53,31 @@ impl PostfixValues {
         }
         Ok(names)
     }
+
+    /// The queue folder at this path, whose hashed queues have these names.
+    pub(crate) fn queue_folder<'a>(
+        &self,
+        root: &'a str,
+        hashed: &'a [QueueName<'a>],
+    ) -> QueueFolder<'a> {
+        QueueFolder {
+            root,
+            hashing: FolderHashing {
+                queues: hashed,
+                depth: self.depth,
+            },
+        }
+    }
+
+    /// The settings that notices depend on, which come from this site.
+    pub(crate) fn settings<'a>(&'a self, site: &'a Site) -> ServiceSettings<'a> {
+        ServiceSettings {
+            site,
+            double_bounce: self.double_bounce.as_bytes(),
+            lifetime: self.lifetime,
+            size_limit: self.size_limit,
+        }
+    }
 }
 
 /// What `postfix` is given.
@@ -67,11 +92,12 @@ pub(crate) fn postfix_serving(
         hand_in: server_of(alloc, text_of(given, "HAND-IN"))?,
         values: values_of(alloc, given, host)?,
         folder: owned(alloc, text_of(given, "QUEUE-FOLDER"))?,
+        inherits: given.get_flag("inherited"),
     })
 }
 
 /// The values of the options.
-fn values_of(
+pub(crate) fn values_of(
     alloc: Global,
     given: &ArgMatches<'_>,
     host: &str,
@@ -82,7 +108,6 @@ fn values_of(
         double_bounce: double_bounce_of(alloc, given, host)?,
         hashed: owned(alloc, text_of(given, "hash-queue-names"))?,
         depth: number_of(alloc, given, "hash-queue-depth", MOST_DEPTH)?,
-        inherits: given.get_flag("inherited"),
     })
 }
 
@@ -105,7 +130,12 @@ pub(crate) fn server_of(alloc: Global, word: &str) -> Result<ServerAddress, Star
     if word.starts_with('/') && word.len() <= LONGEST_PATH {
         return Ok(ServerAddress::Unix(owned(alloc, word)?));
     }
-    match word.parse::<SocketAddr>() {
+    // The name of this machine, which needs no resolver (RFC 6761 section 6.3).
+    let loopback = match word.strip_prefix("localhost:") {
+        Some(port) => format!(in alloc; "127.0.0.1:{port}")?,
+        None => owned(alloc, word)?,
+    };
+    match loopback.parse::<SocketAddr>() {
         Ok(address) if address.port() > 0 => Ok(ServerAddress::Tcp(address)),
         _ => Err(StartError::wrong(alloc, "HAND-IN", HAND_IN, word)),
     }

@@ -1,7 +1,12 @@
 //! The command `serve`.
-use crate::arguments::{ServeArguments, ServeOptions};
+use crate::arguments::{Destination, ServeArguments, ServeOptions};
 use crate::buffer::{ROOM, let_go};
-use crate::journal_files::{open_folder, open_outbox, print_journal_fault, print_outbox_fault};
+use crate::fault_note::print_fault_line;
+use crate::hand_in_command::HandInTerms;
+use crate::hand_in_files::RefusedPlace;
+use crate::journal_files::{
+    open_folder, open_outbox, path_in, print_journal_fault, print_outbox_fault,
+};
 use crate::listening::{check_place, inherit_socket, make_socket};
 use crate::outbox_writer::OutboxWriter;
 use crate::run_file::RunFile;
@@ -11,16 +16,21 @@ use crate::start_error::StartError;
 use crate::status_socket::{StatusSocket, StatusSource, status_path};
 use dsn_journal::FileDisk;
 use dsn_outcome::Plain;
+use dsn_smtp::MailServer;
+use dsn_text::{MtaName, fault_code};
 use noticed_lib::{
-    JournalFolder, JournaledEnd, ServeEnd, ServiceManager, Serving, SocketWatch, Watch,
-    WatchOptions, WatchedOutbox, WatchedPaths, serve_journaled, serve_watched,
+    JournalFolder, MailTerms, ServeEnd, ServiceManager, Serving, SocketWatch, Watch, WatchOptions,
+    WatchedOutbox, WatchedPaths, serve_journaled, serve_submitting, serve_watched,
 };
 use std::io::{BufWriter, Eprint, ErrorKind};
 use std::os::unix::net::UnixListener;
 use std::sync::Wait;
 use std::thread::{JoinHandle, Scope, Threads};
-use std::time::Clock;
+use std::time::{Clock, Instant};
 use std::{io, thread};
+
+/// The exit status of a run that didn't begin.
+const FAULT: u8 = 1;
 
 /// Runs `serve` over a socket that it makes or inherits, and returns its status. Only in `main` may
 /// the runtime start threads and wait, so `waiting` passes it again with these rights.
@@ -36,8 +46,7 @@ pub(crate) fn run_serve<R: Threads + Wait + Clock + Sync>(
         options,
     } = arguments;
     let ServeOptions {
-        journal,
-        outbox,
+        destination,
         watch: options,
     } = options;
     // First of all: a file that is opened here could get the descriptor of one that isn't inherited.
@@ -45,15 +54,8 @@ pub(crate) fn run_serve<R: Threads + Wait + Clock + Sync>(
         Ok(inherited) => inherited,
         Err(error) => return no_socket(rt, &socket, &error),
     };
-    let outbox = match outbox_at(rt, outbox) {
-        Ok(outbox) => outbox,
-        Err(status) => return Ok(status),
-    };
-    let writer = BufWriter::with_capacity(rt.alloc(), ROOM, outbox).map_err(
-        |_| StartError::NoMemory,
-    )?;
-    let folder = match folder_at(rt, journal) {
-        Ok(folder) => folder,
+    let files = match RunFiles::open(rt, destination) {
+        Ok(files) => files,
         Err(status) => return Ok(status),
     };
     // The journal is locked before the socket is made: so a second daemon on the same folder takes
@@ -72,17 +74,14 @@ pub(crate) fn run_serve<R: Threads + Wait + Clock + Sync>(
         Err(error) => return no_socket(rt, &socket, &error),
     };
     print_start(rt, &watch, &socket, &host, &serving);
-    let outbox = WatchedOutbox::new(writer, &watch);
-    let status = serve_clients(
-        rt, waiting, &socket, &listener, &watch, serving, outbox, folder,
-    )?;
+    let status = serve_clients(rt, waiting, &socket, &listener, &watch, serving, files)?;
     if let Some(error) = watch.accept_error() {
         print_socket_error(rt, &socket, &error);
     }
     Ok(status)
 }
 
-/// Serves the clients of a socket, over the disks of a journal if there are some. Returns the status.
+/// Serves the clients of a socket, and answers for its status meanwhile. Returns the status.
 fn serve_clients<R: Threads + Wait + Clock + Sync>(
     rt: &HostRuntime,
     waiting: &R,
@@ -90,35 +89,94 @@ fn serve_clients<R: Threads + Wait + Clock + Sync>(
     listener: &UnixListener,
     watch: &SocketWatch<'_, HostRuntime>,
     serving: Serving,
-    outbox: WatchedOutbox<'_, BufWriter<OutboxWriter>, SocketWatch<'_, HostRuntime>>,
-    folder: Option<JournalFolder<FileDisk<'_>, FileDisk<'_>>>,
+    files: RunFiles<'_>,
 ) -> Result<u8, StartError> {
-    let outbox = Plain::new(outbox);
-    let notes = &mut Plain::new(rt.stderr());
-    let alloc = rt.alloc();
-    let path = status_path(alloc, socket)?;
+    let path = status_path(rt.alloc(), socket)?;
     let status = status_at(rt, watch, socket, &path);
     let end = thread::scope(thread::scope_env(), waiting, |scope| {
         let answering = start_answering(rt, scope, status.as_ref(), watch);
-        let end = match folder {
-            None => serve_watched(waiting, alloc, listener, watch, serving, outbox, notes),
-            Some(folder) => {
-                let JournaledEnd {
-                    end,
-                    journal: _,
-                    marks: _,
-                } = serve_journaled(
-                    waiting, alloc, listener, watch, serving, outbox, folder, notes,
-                );
-                end
+        let end = match files {
+            RunFiles::Outbox(outbox, folder) => {
+                serve_to_outbox(rt, waiting, listener, watch, serving, outbox, folder)
             }
+            RunFiles::Server(terms, refused, folder) => serve_to_server(
+                rt, waiting, listener, watch, serving, &terms, refused, folder,
+            ),
         };
         end_answering(rt, waiting, status.as_ref(), answering);
         end
     });
-    let ServeEnd { outbox, status } = end;
+    Ok(end)
+}
+
+/// Serves clients, over the disks of a journal if there are some, and writes the notices to an outbox.
+/// Returns the status.
+fn serve_to_outbox<R: Threads + Wait + Clock + Sync>(
+    rt: &HostRuntime,
+    waiting: &R,
+    listener: &UnixListener,
+    watch: &SocketWatch<'_, HostRuntime>,
+    serving: Serving,
+    writer: BufWriter<OutboxWriter>,
+    folder: Option<Folder<'_>>,
+) -> u8 {
+    let (alloc, notes) = (rt.alloc(), &mut Plain::new(rt.stderr()));
+    let outbox = Plain::new(WatchedOutbox::new(writer, watch));
+    let ServeEnd { outbox, status } = match folder {
+        None => serve_watched(waiting, alloc, listener, watch, serving, outbox, notes),
+        Some(folder) => {
+            serve_journaled(
+                waiting, alloc, listener, watch, serving, outbox, folder, notes,
+            )
+            .end
+        }
+    };
     let_go(outbox.into_inner().into_inner());
-    Ok(status)
+    status
+}
+
+/// Serves clients over the disks of a journal, and submits the notices to a mail server. Returns the
+/// status.
+fn serve_to_server<R: Threads + Wait + Clock + Sync>(
+    rt: &HostRuntime,
+    waiting: &R,
+    listener: &UnixListener,
+    watch: &SocketWatch<'_, HostRuntime>,
+    serving: Serving,
+    terms: &HandInTerms,
+    refused: RefusedPlace,
+    folder: Folder<'_>,
+) -> u8 {
+    let notes = &mut Plain::new(rt.stderr());
+    let (Ok(name), Ok(began)) = (
+        MtaName::new(rt.alloc(), serving.site.bytes()),
+        Instant::now(rt),
+    ) else {
+        print_fault_line(rt, fault_code::NO_MEMORY);
+        return FAULT;
+    };
+    let terms = MailTerms {
+        server: MailServer::new(rt, &terms.server),
+        refused,
+        name,
+        give_up: terms.milliseconds(),
+        began,
+    };
+    let submitted = serve_submitting(
+        waiting,
+        rt.alloc(),
+        listener,
+        watch,
+        &serving,
+        terms,
+        folder,
+        notes,
+    );
+    watch.log_waiting();
+    match submitted {
+        Ok(submitted) => submitted.status,
+        Err(not) => not.end.status,
+    }
 }
 
 /// Prints why a socket isn't available, and returns the status; an error if memory was refused.
@@ -139,31 +197,73 @@ fn inherited_at(path: &str, inherits: bool) -> io::Result<Option<UnixListener>> 
     Ok(Some(unsafe { inherit_socket(path) }?))
 }
 
-/// The outbox at this path, or standard output without a path. If it can't be opened, prints why
-/// and returns the status.
-fn outbox_at(rt: &HostRuntime, path: Option<String>) -> Result<OutboxWriter, u8> {
-    let Some(path) = path else {
-        return Ok(OutboxWriter::Standard(rt.stdout()));
-    };
-    match open_outbox(rt, &path) {
-        Ok(file) => Ok(OutboxWriter::Synced(file)),
-        Err(error) => Err(print_outbox_fault(rt, &path, &error)),
+/// The disks of a journal.
+type Folder<'a> = JournalFolder<FileDisk<'a>, FileDisk<'a>>;
+
+/// What a run keeps its requests in, and where its notices go.
+#[derive(Drop)]
+enum RunFiles<'a> {
+    /// An outbox, and the disks of a journal if there is to be one.
+    Outbox(BufWriter<OutboxWriter>, Option<Folder<'a>>),
+    /// A mail server, the place of notices that it refuses for good, and the disks of a journal.
+    Server(HandInTerms, RefusedPlace, Folder<'a>),
+}
+
+impl<'a> RunFiles<'a> {
+    /// Opens all files of a run. If one can't be opened, prints why and returns the status.
+    fn open(rt: &'a HostRuntime, destination: Destination) -> Result<RunFiles<'a>, u8> {
+        match destination {
+            Destination::Outbox { path, journal } => {
+                let outbox = outbox_at(rt, path)?;
+                match journal {
+                    None => Ok(RunFiles::Outbox(outbox, None)),
+                    Some(journal) => Ok(RunFiles::Outbox(outbox, Some(folder_at(rt, &journal)?))),
+                }
+            }
+            Destination::Server { terms, journal } => {
+                let folder = folder_at(rt, &journal)?;
+                Ok(RunFiles::Server(terms, refused_in(rt, &journal)?, folder))
+            }
+        }
     }
 }
 
-/// The disks of the journal in this folder, if there is a folder. If they can't be opened, prints
-/// why and returns the status.
-fn folder_at<'a>(
-    rt: &'a HostRuntime,
-    folder: Option<String>,
-) -> Result<Option<JournalFolder<FileDisk<'a>, FileDisk<'a>>>, u8> {
-    let Some(folder) = folder else {
-        return Ok(None);
+/// The outbox at this path, or standard output without a path. If it can't be opened, prints why
+/// and returns the status.
+fn outbox_at(rt: &HostRuntime, path: Option<String>) -> Result<BufWriter<OutboxWriter>, u8> {
+    let writer = match path {
+        None => OutboxWriter::Standard(rt.stdout()),
+        Some(path) => match open_outbox(rt, &path) {
+            Ok(file) => OutboxWriter::Synced(file),
+            Err(error) => return Err(print_outbox_fault(rt, &path, &error)),
+        },
     };
-    match open_folder(rt, &folder) {
-        Ok(disks) => Ok(Some(disks)),
-        Err(error) => Err(print_journal_fault(rt, &folder, &error)),
+    match BufWriter::with_capacity(rt.alloc(), ROOM, writer) {
+        Ok(writer) => Ok(writer),
+        Err(_) => {
+            print_fault_line(rt, fault_code::NO_MEMORY);
+            Err(FAULT)
+        }
     }
+}
+
+/// The disks of the journal in this folder. If they can't be opened, prints why and returns the
+/// status.
+fn folder_at<'a>(rt: &'a HostRuntime, folder: &str) -> Result<Folder<'a>, u8> {
+    match open_folder(rt, folder) {
+        Ok(disks) => Ok(disks),
+        Err(error) => Err(print_journal_fault(rt, folder, &error)),
+    }
+}
+
+/// The place of refused notices in a journal's folder. If it can't be opened, prints why and returns
+/// the status.
+fn refused_in(rt: &HostRuntime, folder: &str) -> Result<RefusedPlace, u8> {
+    let opened = match path_in(rt, folder, "refused") {
+        Ok(path) => RefusedPlace::open(rt, path.as_str()),
+        Err(error) => Err(error),
+    };
+    opened.map_err(|error| print_journal_fault(rt, folder, &error))
 }
 
 /// The locked file of a run at this socket. Nothing is made beside a file that is no socket.

@@ -1,9 +1,11 @@
 //! The values of `serve`, of its command line and its configuration file. The command line wins.
 use crate::arguments::{
-    MOST_AGENTS, MOST_IDLE, MOST_USE, ServeArguments, ServeOptions, number_in, owned, site_of,
-    socket_in,
+    Destination, MOST_AGENTS, MOST_IDLE, MOST_USE, ServeArguments, ServeOptions, number_in, owned,
+    site_of, socket_in,
 };
 use crate::config_file::ConfigFile;
+use crate::hand_in_command::{GIVE_UP, HandInTerms, MOST_GIVE_UP};
+use crate::postfix_values::server_of;
 use crate::start_error::StartError;
 use clap::ArgMatches;
 use dsn_book::{Limits, MOST_ENTRIES, MOST_LOGS};
@@ -63,17 +65,8 @@ impl ServeValues<'_, '_> {
 
     /// The values of the options.
     fn options(&self, agents: u32) -> Result<ServeOptions, StartError> {
-        let (journal, outbox) = (self.text("journal")?, self.text("outbox")?);
-        if journal.is_some() && outbox.is_none() {
-            // A mark in a journal says that a notice is on the disk, and standard output isn't synced.
-            return Err(StartError::reason(
-                self.alloc,
-                "a journal requires an outbox: --outbox PATH",
-            ));
-        }
         Ok(ServeOptions {
-            journal,
-            outbox,
+            destination: self.destination()?,
             watch: WatchOptions {
                 idle_limit: self.number_if("idle", MOST_IDLE)?,
                 ends_on_fault: self.flag("end-on-fault")?,
@@ -82,6 +75,39 @@ impl ServeValues<'_, '_> {
                 inherits: self.flag("inherited")?,
             },
         })
+    }
+
+    /// Where the notices go, and the folder of the journal.
+    fn destination(&self) -> Result<Destination, StartError> {
+        let (journal, path) = (self.text("journal")?, self.text("outbox")?);
+        let give_up = self.number_if("give-up", MOST_GIVE_UP)?;
+        match (self.value("hand-in"), journal) {
+            (None, _) if give_up.is_some() => {
+                self.refused("--give-up requires a mail server: --hand-in HAND-IN")
+            }
+            // A mark in a journal says that a notice is on the disk, and standard output isn't synced.
+            (None, Some(_)) if path.is_none() => self.refused(
+                "a journal requires an outbox or a mail server: --outbox PATH or --hand-in HAND-IN",
+            ),
+            (None, journal) => Ok(Destination::Outbox { path, journal }),
+            (Some(_), _) if path.is_some() => {
+                self.refused("--hand-in takes the place of --outbox")
+            }
+            // What waits for the server is nowhere else.
+            (Some(_), None) => self.refused("--hand-in requires a journal: --journal FOLDER"),
+            (Some(hand_in), Some(journal)) => Ok(Destination::Server {
+                terms: HandInTerms {
+                    server: self.placed(hand_in, server_of(self.alloc, hand_in.text))?,
+                    give_up: give_up.unwrap_or(GIVE_UP),
+                },
+                journal,
+            }),
+        }
+    }
+
+    /// The error for this reason.
+    fn refused<T>(&self, reason: &str) -> Result<T, StartError> {
+        Err(StartError::reason(self.alloc, reason))
     }
 
     /// The value of an option or an argument, if there is one.

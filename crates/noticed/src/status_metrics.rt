@@ -3,7 +3,7 @@ use std::alloc::{AllocError, Global};
 use std::fmt::Write;
 
 /// What may go up and down: the name of its line in a status, its name as a metric, and its help.
-const GAUGES: [(&str, &str, &str); 9] = [
+const GAUGES: [(&str, &str, &str); 12] = [
     (
         "started_seconds",
         "noticed_start_time_seconds",
@@ -45,10 +45,25 @@ const GAUGES: [(&str, &str, &str); 9] = [
         "noticed_keys_closed",
         "Held keys with a closed log.",
     ),
+    (
+        "journal_used",
+        "noticed_journal_used_bytes",
+        "Bytes of the journal that have records.",
+    ),
+    (
+        "journal_size",
+        "noticed_journal_size_bytes",
+        "Bytes that the journal has.",
+    ),
+    (
+        "notices_waiting",
+        "noticed_notices_waiting",
+        "Notices that wait for the mail server.",
+    ),
 ];
 
 /// What only goes up, in the same form.
-const COUNTERS: [(&str, &str, &str); 5] = [
+const COUNTERS: [(&str, &str, &str); 7] = [
     (
         "keys_released",
         "noticed_keys_released_total",
@@ -74,13 +89,33 @@ const COUNTERS: [(&str, &str, &str); 5] = [
         "noticed_notices_written_total",
         "Notices written.",
     ),
+    (
+        "notices_accepted",
+        "noticed_notices_accepted_total",
+        "Notices that the mail server accepted.",
+    ),
+    (
+        "notices_refused",
+        "noticed_notices_refused_total",
+        "Notices that the mail server refused for good.",
+    ),
 ];
 
-/// The metric that counts requests by their answers.
-const ANSWERS: &str = "noticed_answers_total";
-
-/// The beginning of the name of each answer's line.
-const ANSWERED: &str = "answered_";
+/// Counts by a label: the beginning of the names of their lines, the metric, its label, and its help.
+const LABELLED: [(&str, &str, &str, &str); 2] = [
+    (
+        "requests_",
+        "noticed_requests_total",
+        "kind",
+        "Requests about logs, by what they ask.",
+    ),
+    (
+        "answered_",
+        "noticed_answers_total",
+        "reply",
+        "Requests by their answers.",
+    ),
+];
 
 /// The metrics of a status. A count that it doesn't have is left out.
 pub(crate) fn metrics_of(alloc: Global, text: &str) -> Result<String, AllocError> {
@@ -91,8 +126,10 @@ pub(crate) fn metrics_of(alloc: Global, text: &str) -> Result<String, AllocError
     for (line, name, help) in COUNTERS.iter() {
         add_metric(&mut shown, name, "counter", help, value_in(text, line))?;
     }
-    add_head(&mut shown, ANSWERS, "counter", "Requests by their answers.")?;
-    add_answers(&mut shown, text)?;
+    for (beginning, name, label, help) in LABELLED.iter() {
+        add_head(&mut shown, name, "counter", help)?;
+        add_labelled(&mut shown, text, beginning, name, label)?;
+    }
     Ok(shown)
 }
 
@@ -117,12 +154,18 @@ fn add_head(shown: &mut String, name: &str, kind: &str, help: &str) -> Result<()
     writeln!(shown, "# TYPE {name} {kind}")
 }
 
-/// Adds the count of each answer.
-fn add_answers(shown: &mut String, text: &str) -> Result<(), AllocError> {
+/// Adds the count of each line whose name has this beginning. The rest of the name is its label.
+fn add_labelled(
+    shown: &mut String,
+    text: &str,
+    beginning: &str,
+    name: &str,
+    label: &str,
+) -> Result<(), AllocError> {
     for line in text.lines() {
-        if let Some(answer) = line.strip_prefix(ANSWERED) {
-            if let Some((reply, count)) = answer.split_once(' ') {
-                writeln!(shown, "{ANSWERS}{{reply=\"{reply}\"}} {count}")?;
+        if let Some(named) = line.strip_prefix(beginning) {
+            if let Some((value, count)) = named.split_once(' ') {
+                writeln!(shown, "{name}{{{label}=\"{value}\"}} {count}")?;
             }
         }
     }

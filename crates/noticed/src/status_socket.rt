@@ -1,6 +1,6 @@
 //! The socket at which a daemon answers for its status.
 //! It has a thread and a socket of its own: so it answers also while all agents are held, and no
-//! request waits for it. Its text is docs/FORMATS.md, "The status of a daemon".
+//! request waits for it. Its text is noticed-serve(8).
 use crate::command_line::VERSION;
 use crate::status_metrics::value_in;
 use noticed_lib::{SocketWatch, Watch};
@@ -202,7 +202,7 @@ fn identity(file: &Metadata) -> (u64, u64) {
 }
 
 /// The seconds since 1970 began, by the system's clock; 0 if it has none.
-fn seconds_of_clock(rt: &HostRuntime) -> u64 {
+pub(crate) fn seconds_of_clock(rt: &HostRuntime) -> u64 {
     let Ok(now) = SystemTime::now(rt) else {
         return 0;
     };

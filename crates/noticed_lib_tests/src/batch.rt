@@ -72,7 +72,7 @@ pub(crate) fn run_over<R: Read + Drop, W: Write + Drop, N: Write + Drop>(
     Ok((outbox.into_inner(), notes.into_inner(), end))
 }
 
-/// A writer that takes whole texts, until it has taken so many bytes.
+/// A writer that takes whole texts, until it has taken `room` bytes.
 pub(crate) fn writer(alloc: Global, room: usize) -> PieceWriter {
     PieceWriter {
         held: Vec::new(alloc),
@@ -81,8 +81,8 @@ pub(crate) fn writer(alloc: Global, room: usize) -> PieceWriter {
     }
 }
 
-/// What comes of [`ONE_MESSAGE`] if its reader, which gives a byte a call, fails once after so many
-/// calls, and its outbox once it has so many bytes.
+/// Checks the result of [`ONE_MESSAGE`]. Its reader gives a byte a call, and fails once after
+/// `good` calls. Its outbox fails once it has `room` bytes.
 fn expect(
     rt: &impl Abort,
     alloc: Global,

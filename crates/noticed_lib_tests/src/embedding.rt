@@ -1,4 +1,4 @@
-//! The whole example of docs/EMBEDDING.md, word for word (tests/examples.py), as a test.
+//! The whole example of docs/embedding.md, word for word (tests/examples.py), as a test.
 use crate::assert_same::same;
 use dsn_frame::encode_request;
 use dsn_outcome::{
@@ -55,7 +55,7 @@ fn flush(alloc: Global) -> Result<Vec<u8>, Fail> {
     Ok(encode_request(alloc, 1, &Body::Flush(message()?, draft))?)
 }
 
-/// The outbox and the notes of a run over both frames; where it isn't whole, why.
+/// The outbox and the notes of a run over both frames; an error if the run isn't whole.
 fn notice_for_ann(alloc: Global) -> Result<(Vec<u8>, Vec<u8>), Fail> {
     let mut frames = append(alloc)?;
     frames.extend_from_slice(&flush(alloc)?)?;

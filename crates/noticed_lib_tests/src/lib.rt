@@ -1,5 +1,5 @@
-//! Tests of runs over what `noticed_lib` makes public. They stand in a crate of their own, so that
-//! they are proved beside the wrong edits of this, and without its proofs.
+//! Tests of runs over what `noticed_lib` makes public. They are in a crate of their own, so that
+//! they are proved beside the wrong edits of `noticed_lib`, and without its proofs.
 #![tactic(auto)]
 
 #[cfg(test)]

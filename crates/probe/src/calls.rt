@@ -14,8 +14,8 @@ mod texts;
 use std::alloc::Global;
 use std::sync::Wait;
 
-/// Makes the call of this name, and shows what it came to. There is none where no such call is
-/// known, a value before it could not be made, or a line can't be written.
+/// Makes the call of this name, and shows its result. Returns `None` if no such call is known, if a
+/// value before it could not be made, or if a line can't be written.
 pub(crate) fn show_call(
     rt: &(impl Print + Wait),
     alloc: Global,
@@ -32,8 +32,8 @@ pub(crate) fn show_call(
     }
 }
 
-/// What a call comes to: 0, or the number of its refusal; none where no such call is known, or a
-/// value before it could not be made.
+/// The result of a call: 0, or the number of its refusal. Returns `None` if no such call is known,
+/// or if a value before it could not be made.
 fn come_to(rt: &(impl Print + Wait), alloc: Global, name: &str) -> Option<u32> {
     match name {
         "address" => texts::address(rt, alloc),

@@ -1,5 +1,5 @@
-//! A crew over connections in memory. Standard output gets how the run ended, what came of each
-//! agent, and the outbox.
+//! A crew over connections in memory. Standard output gets how the run ended, what each agent did,
+//! and the outbox.
 ghost use Rattle.std.specs.Prelude.{All};
 
 mod failing;
@@ -27,7 +27,7 @@ use std::thread::Threads;
 /// The room for the outbox, in bytes: the notice of a few outcomes takes no memory beyond it.
 const ROOM: usize = 65_536;
 
-/// Runs a crew of so many agents over connections that ask.
+/// Runs a crew of the given number of agents over connections that ask.
 pub(crate) fn run_peers<R: Threads + Wait + Print + Sync>(
     rt: &R,
     alloc: Global,
@@ -60,8 +60,8 @@ pub(crate) fn run_given<R: Threads + Wait + Print + Sync>(
     run(rt, alloc, ports, failing)
 }
 
-/// Runs a crew over these ports, and shows what came of it. There is none where the memory to begin
-/// was refused, or a line can't be written.
+/// Runs a crew over these ports, and shows the result. Returns `None` if the memory to begin was
+/// refused, or if a line can't be written.
 fn run<R: Threads + Wait + Print + Sync, P: Port + Drop + Send>(
     rt: &R,
     alloc: Global,

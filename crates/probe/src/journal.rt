@@ -1,6 +1,7 @@
-//! A ledger over a file: what standard input asks is kept in groups, and then answered. Its letters
-//! count as posted; where there is no room, the journal is put away for a shorter one. It keeps no
-//! marks: who runs it says the mark, which is the base of a file that was put away.
+//! A ledger over a file: the requests of standard input are kept in groups, and then answered. Its
+//! letters count as posted. If there is no room, the journal is replaced by a shorter one. The
+//! ledger keeps no marks: the caller gives the mark, which is the base of a file with a shorter
+//! journal.
 mod asking;
 mod taking;
 
@@ -14,12 +15,12 @@ use std::io::Write;
 use std::{fs, io};
 use taking::{Came, Taking};
 
-/// Where a ledger is, and how it is asked.
+/// The file of a ledger, and how the ledger is run.
 #[derive(Drop)]
 pub(crate) struct Keeping {
     /// The file.
     pub(crate) path: String,
-    /// How many bytes it gets, where it is to be made; 0 where it is there.
+    /// How many bytes the file gets if it is to be made; 0 if it exists.
     pub(crate) size: u32,
     /// The limits.
     pub(crate) limits: Limits,
@@ -29,9 +30,10 @@ pub(crate) struct Keeping {
     pub(crate) mark: u64,
 }
 
-/// Opens a ledger, and has what is given, frame by frame, kept and answered. Standard output gets a
-/// line once it is open, then the answers' frames, each group in one write after it is kept, and a
-/// line where a group found no room, or for the error that ended it.
+/// Opens a ledger, and has the given requests kept and answered, frame by frame. Standard output
+/// gets a line once the ledger is open, and then the answers' frames, each group in one write after
+/// it is kept. It gets a line too if a group found no room, and for the error that ended the
+/// ledger.
 pub(crate) fn keep(rt: &HostRuntime, keeping: &Keeping, given: &[u8]) -> Option<()> {
     let disk = match open_file(rt, keeping) {
         Ok(disk) => disk,

@@ -1,30 +1,33 @@
 //! What the scripts of tests/ and bench/ run to refuse memory, threads, reads and writes, and to
 //! measure.
 //!
-//! `probe call NAME` makes one public call that takes memory, on values that are made before it; of
-//! a diagnostic `probe call clean TEXT`.
+//! `probe call NAME` makes one public call that takes memory, on values that are made before it.
+//! For a diagnostic it is `probe call clean TEXT`.
 //!
-//! `probe crew AGENTS REQUESTS` runs a crew over connections in memory: each agent serves one, which
-//! asks for so many appends, and of agent 0 also for a flush.
+//! `probe crew AGENTS REQUESTS` runs a crew over connections in memory. Each agent serves one,
+//! which asks for `REQUESTS` appends, and for agent 0 also for a flush.
 //!
-//! `probe given MOST CALL NUMBER FAILURE`: one agent serves the connections that standard input
-//! gives, each a length in four bytes and what the peer sends. A read gives at most `MOST` bytes;
-//! the call of this kind and number (`read`, `write`, `post`, `flush`; from 1, 0 for none) fails so
+//! `probe given MOST CALL NUMBER FAILURE`: one agent serves the connections of standard input, each
+//! a length in four bytes and what the peer sends. A read gives at most `MOST` bytes. The call of
+//! this kind (`read`, `write`, `post`, `flush`) and number (from 1; 0 for none) fails in this way
 //! (`error`, `interruption`, `nothing`). Standard output has `conn` for each connection and the
 //! bytes of its answers before the rest.
 //!
-//! `probe journal FILE SIZE LOGS ENTRIES REQUESTS GROUP MARK` opens the ledger of a file under these
-//! limits and a mark, and keeps and answers the frames that standard input gives, so many at once. The
-//! file is made, of `SIZE` bytes, where it isn't there; with 0 it has to be. Standard output has
-//! `opened` and where the next record goes, then the answers' frames, and a line where a group found no
-//! room.
+//! `probe journal FILE SIZE LOGS ENTRIES REQUESTS GROUP MARK` opens the ledger of a file under
+//! these limits and a mark. It keeps and answers the frames of standard input, `GROUP` at once. If
+//! there is no file, it makes one of `SIZE` bytes; with 0 the file has to exist. Standard output
+//! has `opened` and where the next record goes, and then the answers' frames. It has a line for a
+//! group that found no room.
 //!
-//! `probe postfix KIND` reads a file that Postfix keeps from standard input: with `bounce`, `defer`
-//! or `trace` a log file of bounce(8), whose records it writes to standard output again; with
-//! `queue` a queue file, of which it writes each record that counts as a line. `probe postfix plan SERVICE`
-//! reads a request, the log of that service and the queue file, a length in four bytes before each, and
-//! writes the notices that the request has. `probe postfix many KIND` reads many files of a kind likewise,
-//! and writes a line of numbers for each.
+//! `probe postfix KIND` reads a file of Postfix from standard input. With `bounce`, `defer` or
+//! `trace` that is a log file of bounce(8), whose records it writes to standard output again. With
+//! `queue` it is a queue file, of which it writes each record that counts as a line.
+//!
+//! `probe postfix plan SERVICE` reads a request, the log of that service and the queue file, with a
+//! length in four bytes before each. It writes the notices that the request has.
+//!
+//! `probe postfix many KIND` reads many files of a kind likewise, and writes a line of numbers for
+//! each.
 //!
 //! A test can't refuse a growth or the start of a thread within its process. Over memory a run
 //! takes milliseconds, and its ends are known to the byte.

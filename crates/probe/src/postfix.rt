@@ -47,7 +47,7 @@ fn copied(rt: &HostRuntime, service: Service, file: &[u8]) -> Option<Vec<u8>> {
     Some(copy)
 }
 
-/// A line that tells where lines begin that aren't what Postfix writes.
+/// A line that names the place where lines begin that Postfix doesn't write.
 fn damage(rt: &HostRuntime, place: u64) -> Option<Vec<u8>> {
     let mut line = Vec::new(rt.alloc());
     line.extend_from_slice(b"damaged at ").ok()?;

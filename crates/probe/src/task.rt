@@ -12,9 +12,9 @@ use std::env::Args;
 pub(crate) enum Task {
     /// Makes the public call of this name, of a diagnostic with its text.
     Call(String, Option<String>),
-    /// Runs a crew of so many agents, of which each serves so many appends.
+    /// Runs a crew of the given number of agents, each of which serves the given number of appends.
     Crew(u32, u32),
-    /// Runs a crew of one agent over given connections, each read giving at most so many bytes.
+    /// Runs a crew of one agent over given connections; each read gives at most the given bytes.
     Given(usize, Failing),
     /// Keeps requests in a journal.
     Journal(Keeping),

@@ -1,4 +1,4 @@
-//! Memory as a device.
+//! A device that writes to memory.
 use super::{flush, write};
 use crate::assert_same::same;
 use dsn_device::MemoryDrain;

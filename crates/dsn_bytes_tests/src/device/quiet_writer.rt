@@ -3,7 +3,7 @@ use super::{held, writer};
 use crate::assert_same::same;
 use dsn_device::{Drain, QuietWriter};
 
-/// Writes three texts, and flushes after each: the device, and whether it has failed.
+/// Writes three texts, and flushes after each. Returns the device, and whether it has failed.
 fn written<D: Drain>(drain: D) -> (D, bool) {
     let mut writer = QuietWriter::new(drain);
     for text in [b"EHLO\n".as_slice(), b"", b"QUIT\n"] {

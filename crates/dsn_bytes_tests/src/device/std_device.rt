@@ -1,5 +1,5 @@
-//! Readers and writers of std's as devices. An interrupted call is a failure: the device doesn't try it
-//! again, and makes the next one.
+//! Readers and writers of std as devices. An interrupted call is a failure: the device doesn't
+//! repeat it, and makes the next one.
 use super::{flush, held, reader, write, writer};
 use crate::assert_same::same;
 use dsn_device::{Broken, Source};

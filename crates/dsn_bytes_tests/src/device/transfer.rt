@@ -1,4 +1,4 @@
-//! Whole texts over devices that take and give them in pieces, and that fail at each byte.
+//! Whole texts over devices that transfer them in pieces, and that fail at each byte.
 use super::{ALWAYS, held, reader, writer};
 use crate::assert_same::same;
 use dsn_device::{Broken, Drain, Plain, Source, Stream, fill, send};
@@ -20,7 +20,7 @@ fn filled<S: Source>(source: &mut S, buffer: &mut [u8]) -> Result<usize, Broken>
     fill(source, buffer)
 }
 
-/// The text is sent, or isn't, to a writer that fails once and takes this.
+/// The text is sent, or isn't, to a writer that fails once and takes these bytes.
 fn expect_sent(
     rt: &(impl AllocGlobal + Abort),
     (most, room): (usize, usize),
@@ -51,7 +51,7 @@ fn empty_text_makes_no_write(rt: HostRuntime) {
     same(&rt, sent(&mut drain, b"."), Err(Broken));
 }
 
-/// Eight bytes are filled so from a reader that is interrupted once, after `good` calls.
+/// Filling eight bytes from a reader that is interrupted once, after `good` calls, has this result.
 fn expect_filled(
     rt: &impl Abort,
     input: &[u8],

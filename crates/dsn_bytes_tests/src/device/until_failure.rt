@@ -3,7 +3,7 @@ use super::{held, writer};
 use crate::assert_same::same;
 use dsn_device::{Drain, UntilFailure};
 
-/// Writes QUIT and flushes: whether the device has failed so far.
+/// Writes QUIT and flushes. Returns whether the device has failed so far.
 fn quit<D: Drain>(writing: &mut UntilFailure, drain: &mut D) -> bool {
     writing.write(drain, b"QUIT");
     writing.flush(drain);

@@ -4,8 +4,7 @@ use dsn_frame::{Spoken, decode_answer, encode_answer};
 use dsn_outcome::{Replied, Reply};
 use std::process::Abort;
 
-/// Each reply, the serial that it reports, if there is one, and the frame of the answer to the request
-/// 0x01020304.
+/// Each reply, its serial, if it has one, and the frame of the answer to the request 0x01020304.
 const REPLIES: [(Reply, Option<u64>, &[u8]); 14] = [
     (
         Reply::Logged(0),
@@ -79,7 +78,7 @@ const REPLIES: [(Reply, Option<u64>, &[u8]); 14] = [
     ),
 ];
 
-/// The answer to the request 0x01020304 has this frame, and its body is read back.
+/// The answer to the request 0x01020304 has this frame, and its body is decoded as the answer.
 fn expect_frame(rt: &impl Abort, answer: Spoken, frame: &[u8]) {
     same(rt, encode_answer(0x0102_0304, &answer).bytes(), frame);
     let read = match frame.split_first_chunk::<4>() {

@@ -1,6 +1,8 @@
-//! Bodies from outside are read, and written again. (Bodies that are refused, and those at the bounds of
-//! each field, are passed to the built program by tests/refused_bodies.py; tests/fuzz_batch.py compares
-//! what each says with a plain reading of docs/FORMATS.md.)
+//! Bodies are decoded, and their requests are encoded again.
+//!
+//! tests/refused_bodies.py passes refused bodies, and bodies at the bounds of each field, to the
+//! built program. tests/fuzz_batch.py compares decoded bodies with a plain reading of
+//! noticed-protocol(5).
 use crate::assert_same::same;
 use crate::texts::text_of_size;
 use dsn_frame::{decode_request, encode_request, next_request};
@@ -8,7 +10,7 @@ use std::alloc::{AllocGlobal, Global};
 use std::process::Abort;
 use std::test::Fail;
 
-/// Bodies, each with what is written of it.
+/// Bodies, each with the body that its request is encoded as.
 const BODIES: [(&[u8], &[u8]); 19] = [
     // an append without optional texts, one with all of them, and one with a tab and a line's end
     (BOB, BOB),
@@ -19,12 +21,12 @@ const BODIES: [(&[u8], &[u8]); 19] = [
     ),
     // two moments
     (DATED, DATED),
-    // no moments are of version 1
+    // an append without moments is encoded in version 1
     (
         b"\x02\x01\0\0\0\0\x02\0\x02X1\0\0\0\x0fbob@example.org\x02\0\x054.4.1\0\0\0\0\0\0\xff\xff\xff\xff\xff\xff\xff\xff\xff\xff\xff\xff\xff\xff\xff\xff",
         b"\x01\x01\0\0\0\0\x02\0\x02X1\0\0\0\x0fbob@example.org\x02\0\x054.4.1\0\0\0\0\0\0",
     ),
-    // a recipient of the type fax, whose original address is of the type x400, with a diagnostic of
+    // a recipient of the type fax, with an original address of the type x400 and a diagnostic of
     // the mail system's own; and two extension fields
     (TYPED, TYPED),
     (EXTENDED, EXTENDED),
@@ -32,17 +34,17 @@ const BODIES: [(&[u8], &[u8]); 19] = [
     (ANN, ANN),
     (NOBODY, NOBODY),
     (ALL_OF_A_FLUSH, ALL_OF_A_FLUSH),
-    // what is usual is said by version 1
+    // a flush with the usual terms is encoded in version 1
     (
         b"\x03\x02\0\0\0\x08\x02\0\x01Q\0\0\0\0\x65\x53\xf1\0\0\0\0\0\x65\x53\xe2\xf0\0\x03a@b\0\0\0\x02h\n\xff\xff\xff\xff\0\0\0\0",
         b"\x01\x02\0\0\0\x08\x02\0\x01Q\0\0\0\0\x65\x53\xf1\0\0\0\0\0\x65\x53\xe2\xf0\0\x03a@b\0\0\0\x02h\n",
     ),
-    // how many outcomes are expected, what is returned, how it is worded, and extension fields
+    // the expected number of outcomes, the returned part, the wording, and extension fields
     (EXPECTING, EXPECTING),
     (RETURNING, RETURNING),
     (WORDED, WORDED),
     (WITH_FIELDS, WITH_FIELDS),
-    // discards and forgets; in later versions they are as in the first one that has them
+    // discards and Forgets; later versions lay them out as the first version that has them
     (DISCARD, DISCARD),
     (b"\x03\x03\xff\xff\xff\xff\x03\0\x02K1", DISCARD),
     (FORGET, FORGET),
@@ -89,7 +91,8 @@ const DISCARD: &[u8] = b"\x01\x03\xff\xff\xff\xff\x03\0\x02K1";
 
 const FORGET: &[u8] = b"\x02\x04\0\0\0\0\x01\0\x02K1";
 
-/// The frame of a body's request, written again; `None` if the body or the memory is refused.
+/// The frame of a body's request, encoded again. Returns `None` if the body or the memory is
+/// refused.
 fn written_again(alloc: Global, body: &[u8]) -> Option<Vec<u8>> {
     match decode_request(alloc, body) {
         Ok((number, request)) => encode_request(alloc, number, &request).ok(),
@@ -97,7 +100,7 @@ fn written_again(alloc: Global, body: &[u8]) -> Option<Vec<u8>> {
     }
 }
 
-/// The first body's request is written as the second body, in a frame of that length.
+/// The first body's request is encoded as the second body, in a frame of that length.
 fn expect_written(
     rt: &(impl AllocGlobal + Abort),
     body: &[u8],
@@ -129,8 +132,8 @@ fn longest_header_is_written_again(rt: HostRuntime) -> Result<(), Fail> {
     expect_written(&rt, &body, &body)
 }
 
-/// Whether the frame at this place asks about a key; or the number of its refusal, and whether the session
-/// ends with it.
+/// Whether the frame at this place asks about a key. A refusal is its number, and whether the
+/// session ends with it.
 fn asked(alloc: Global, place: u32, bytes: &[u8]) -> Result<bool, (u32, bool)> {
     match next_request(alloc, place, bytes) {
         Ok(body) => Ok(body.key().is_some()),

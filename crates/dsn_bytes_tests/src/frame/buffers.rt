@@ -8,7 +8,7 @@ use dsn_outcome::Plain;
 use std::process::Abort;
 use std::test::Fail;
 
-/// Reads the next frame into a buffer: the number of the fault, or 0.
+/// Reads the next frame into a buffer. Returns the number of the fault, or 0.
 fn read_next(buffer: &mut FrameBuffer, source: &mut Plain<PieceReader<'_>>) -> u32 {
     match buffer.read_next(source) {
         Ok(()) => 0,
@@ -16,8 +16,8 @@ fn read_next(buffer: &mut FrameBuffer, source: &mut Plain<PieceReader<'_>>) -> u
     }
 }
 
-/// The buffer holds the next frame, which has these bytes; or it holds none, and the fault has this
-/// number.
+/// The buffer holds the next frame, which has these bytes. Or it holds no frame, and the fault has
+/// this number.
 fn expect_next(
     rt: &impl Abort,
     buffer: &mut FrameBuffer,

@@ -1,4 +1,4 @@
-//! Frames from readers that give them in pieces, and that fail at each call.
+//! Frames from readers that give them in pieces, or that fail at each call.
 use crate::assert_same::same;
 use crate::device::{ALWAYS, reader};
 use crate::texts::text_of_size;
@@ -11,7 +11,7 @@ use std::test::Fail;
 
 const TWO_FRAMES: &[u8] = b"\0\0\0\x03abc\0\0\0\x01d";
 
-/// The next frame has this body; or the input ends, or the fault has this number.
+/// The next frame has this body. Or the input ends, or the fault has this number.
 fn expect_next(
     rt: &(impl AllocGlobal + Abort),
     source: &mut Plain<PieceReader<'_>>,
@@ -56,7 +56,7 @@ fn expect_reads(rt: &(impl AllocGlobal + Abort), input: &[u8], most: usize, read
 #[test]
 fn longest_body_has_few_reads(rt: HostRuntime) -> Result<(), Fail> {
     let input = text_of_size(rt.alloc(), b"\0\x01\0\0", 65_540, b"")?;
-    // one for the length, and the body's
+    // one read for the length, and the others for the body
     for (most, reads) in [(1, 65_540), (5_000, 15), (65_536, 2)] {
         expect_reads(&rt, &input, most, reads);
     }

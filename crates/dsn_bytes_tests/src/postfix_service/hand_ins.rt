@@ -1,4 +1,5 @@
-//! Notices that are handed to a mail server: whole dialogues, refusals at each step, and a device that fails at each call.
+//! Notices that are submitted to a mail server: whole dialogues, refusals at each step, and a
+//! device that fails at each call.
 use crate::assert_same::same;
 use crate::device::ALWAYS;
 use crate::postfix_service::server::{Server, host, path, refused_at};
@@ -10,14 +11,15 @@ use std::cell::RefCell;
 use std::process::Abort;
 use std::test::Fail;
 
-/// A message with the line of one dot.
+/// The mail data of a message with a line of one dot. That dot is doubled, and a last line of one
+/// dot ends the data.
 const MESSAGE: &[u8] = b"Subject: no\r\n\r\n..\r\n.\r\n";
 
 /// The replies of a server that takes the message (RFC 5321 appendix D.1).
 const TAKES: &[u8] =
     b"|220 mx.example.org ESMTP\r\n|250-mx.example.org\r\n250-PIPELINING\r\n250 8BITMIME\r\n|250 2.1.0 Ok\r\n|250 2.1.5 Ok\r\n|354 End data with <CR><LF>.<CR><LF>\r\n|250 2.0.0 Ok: queued as 4F9D195432C\r\n";
 
-/// What such a server is sent, with a `<` where it began a reply.
+/// The bytes that are sent to such a server, with a `<` at the start of each reply.
 const WHOLE: &[u8] =
     b"<EHLO mail.example.net\r\n<MAIL FROM:<>\r\n<RCPT TO:<ann@example.org>\r\n<DATA\r\n<Subject: no\r\n\r\n..\r\n.\r\n<QUIT\r\n";
 
@@ -25,12 +27,12 @@ const WHOLE: &[u8] =
 const TAKES_TWICE: &[u8] =
     b"|220 a\r\n|250 a\r\n|250 b\r\n|250 c\r\n|354 d\r\n|250 e\r\n|250 b\r\n|250 c\r\n|354 d\r\n|250 f\r\n";
 
-/// What such a server is sent.
+/// The bytes that are sent to such a server.
 const WHOLE_TWICE: &[u8] =
     b"<EHLO mail.example.net\r\n<MAIL FROM:<>\r\n<RCPT TO:<ann@example.org>\r\n<DATA\r\n<Subject: no\r\n\r\n..\r\n.\r\n<MAIL FROM:<>\r\n<RCPT TO:<ann@example.org>\r\n<DATA\r\n<Subject: no\r\n\r\n..\r\n.\r\n<QUIT\r\n";
 
-/// A server's replies, how many bytes a call gives or takes at most, how many calls go well before one fails, and how many
-/// times the message is handed in.
+/// A server's replies, the most bytes that a call gives or takes, the number of calls before one
+/// fails, and the number of times that the message is submitted.
 type Dialogue = (&'static [u8], usize, usize, u32);
 
 /// Begins a session.
@@ -42,7 +44,7 @@ fn greeted<S: Stream>(
     greet(stream, buffer, host)
 }
 
-/// Hands in the message.
+/// Submits the message.
 fn taken<S: Stream>(
     stream: &mut S,
     buffer: &mut ReplyBuffer,
@@ -51,7 +53,7 @@ fn taken<S: Stream>(
     hand_in_notice(stream, buffer, path, MESSAGE)
 }
 
-/// Begins a session, and hands in the message so many times, up to the first fault.
+/// Begins a session, and submits the message `times` times, up to the first fault.
 fn hand_in_all<S: Stream>(
     stream: &mut S,
     host: &MtaName,
@@ -66,7 +68,7 @@ fn hand_in_all<S: Stream>(
     Ok(())
 }
 
-/// The fault of notices that are handed in, if there is one. What the server is sent is noted.
+/// The fault of submitted notices, if there is one. The bytes sent to the server are recorded.
 fn fault_of(
     alloc: Global,
     (script, most, calls, times): Dialogue,
@@ -85,14 +87,14 @@ fn fault_of(
     Ok(outcome.err())
 }
 
-/// The fault of notices that are handed in, if there is one, and what the server is sent.
+/// The fault of submitted notices, if there is one, and the bytes sent to the server.
 fn handed_in(alloc: Global, dialogue: Dialogue) -> Result<(Option<HandInFault>, Vec<u8>), Fail> {
     let heard = RefCell::new(Vec::new(alloc));
     let fault = fault_of(alloc, dialogue, &heard)?;
     Ok((fault, heard.into_inner()))
 }
 
-/// All notices are taken, and the server is sent this.
+/// All notices are taken, and these bytes are sent to the server.
 fn expect_taken(
     rt: &(impl AllocGlobal + Abort),
     dialogue: Dialogue,
@@ -105,7 +107,8 @@ fn expect_taken(
     Ok(())
 }
 
-/// A notice isn't taken where so many calls go well, for this reason, and this is the end of what the server is sent, or isn't.
+/// A notice is submitted over a device that fails after `calls` calls, and has this fault.
+/// `is_sent` is whether the bytes sent to the server end with `end`.
 fn expect_fault(
     rt: &(impl AllocGlobal + Abort),
     (script, calls): (&'static [u8], usize),
@@ -131,7 +134,8 @@ fn two_notices_in_one_session(rt: HostRuntime) -> Result<(), Fail> {
     expect_taken(&rt, (TAKES_TWICE, 1_000, ALWAYS, 2), WHOLE_TWICE)
 }
 
-/// Scripts of servers that refuse, or give no reply, the step at which they do, and the code, or why there is none.
+/// Replies of servers that refuse a notice or give no valid reply, the step, and the code or the
+/// fault of the reply.
 const REFUSALS: [(&[u8], HandInStep, Result<[u8; 3], ReplyFault>); 13] = [
     (b"|554 no\r\n", HandInStep::Greeting, Ok(*b"554")),
     (b"|220 a\r\n|502 no\r\n", HandInStep::Hello, Ok(*b"502")),
@@ -160,7 +164,7 @@ const REFUSALS: [(&[u8], HandInStep, Result<[u8; 3], ReplyFault>); 13] = [
         HandInStep::Message,
         Ok(*b"452"),
     ),
-    // replies that are cut or come too soon
+    // replies that are cut short or come too soon
     (b"", HandInStep::Greeting, Err(ReplyFault::Nothing)),
     (
         b"|220 a\r\n250 a\r\n",
@@ -189,7 +193,8 @@ const REFUSALS: [(&[u8], HandInStep, Result<[u8; 3], ReplyFault>); 13] = [
     ),
 ];
 
-/// A server refuses so, and is told QUIT then, or gives no reply, and is told QUIT.
+/// A server refuses a notice with this code, or gives no valid reply. Then it is sent QUIT. If it
+/// refused, QUIT comes after the start of its last reply.
 fn expect_refusal(
     rt: &(impl AllocGlobal + Abort),
     &(script, step, said): &(&'static [u8], HandInStep, Result<[u8; 3], ReplyFault>),
@@ -218,7 +223,8 @@ fn refusals_and_no_replies_at_each_step(rt: HostRuntime) -> Result<(), Fail> {
     Ok(())
 }
 
-/// The fault where each call fails in turn: a read of the greeting; then a write, a flush and a read for each command.
+/// The fault if each call fails in turn: a read of the greeting; then a write, a flush and a read
+/// for each command.
 const FAILING_CALLS: [HandInFault; 16] = [
     HandInFault::Unheard(HandInStep::Greeting, ReplyFault::Read),
     HandInFault::Unsaid(HandInStep::Hello),

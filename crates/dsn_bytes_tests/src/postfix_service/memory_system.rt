@@ -1,32 +1,38 @@
-//! A mail system in memory, which writes down what is asked of it, and fails at a set deed.
+//! A mail system in memory, which records each operation, and fails at a set one.
 ghost use Rattle.std.specs.Prelude.{None};
 
 use crate::texts::{append_all, joined};
 use dsn_postfix::{PostfixRequest, QueueName};
 use dsn_postfix_notices::{DeedFault, MailSystem, PassReason};
 use dsn_smtp::{HandInFault, HandInStep, ReplyBuffer, ReplyFault};
-use dsn_text::{Address, QueueId, Service};
+use dsn_text::{Address, QueueId, Service, Stamp};
 use std::alloc::Global;
 
-/// A mail system in memory. It tells no deeds to contracts.
+/// A mail system in memory. It reports no operation to contracts.
 #[derive(Drop)]
 pub(crate) struct MemorySystem<'a> {
     /// The bounce log, if there is one.
     pub(crate) bounce_log: Option<&'a [u8]>,
     /// The log of each other service, if there is one.
     pub(crate) log: Option<&'a [u8]>,
+    /// When the log that a request reports was last changed, if that is known.
+    pub(crate) changed: Option<Stamp>,
     /// The message's file.
     pub(crate) file: &'a [u8],
-    /// How many deeds go well before one fails; those after it go well again.
+    /// The number of operations that succeed before one fails. All later operations succeed.
     pub(crate) well: usize,
-    /// What comes of the deed that fails, where it hands in nothing.
+    /// The fault of the operation that fails, unless it submits a notice.
     pub(crate) fault: DeedFault,
-    /// What comes of it where it hands in a notice.
+    /// The fault of the operation that fails, if it submits a notice.
     pub(crate) refusal: HandInFault,
-    /// What Postfix's own service answers.
+    /// The answer of Postfix's own service.
     pub(crate) status: u32,
-    /// A line of each deed, in their order.
+    /// A line for each operation, in their order. The line of a request that is passed on has the
+    /// letter of its service and its flags. For example, `pass-on D3` is a request to the service
+    /// of defer logs with the flags 3 (CLEAN and DELRCPT).
     pub(crate) asked: Vec<u8>,
+    /// The notices that were submitted.
+    pub(crate) notices: Vec<u8>,
 }
 
 impl<'a> MemorySystem<'a> {
@@ -38,7 +44,7 @@ impl<'a> MemorySystem<'a> {
         }
     }
 
-    /// Writes a line of a deed, and says whether the deed goes well.
+    /// Writes the line of an operation, and says whether the operation succeeds.
     fn goes_well(&mut self, word: &[u8], text: &[u8]) -> bool {
         let written = append_all(&mut self.asked, &[word, b" ", text, b"\n"]).is_ok();
         let well = self.well != 0;
@@ -46,7 +52,7 @@ impl<'a> MemorySystem<'a> {
         written && well
     }
 
-    /// What comes of a deed that gives nothing back.
+    /// The result of an operation that returns no value.
     fn done(&mut self, word: &[u8], text: &[u8]) -> Result<(), DeedFault> {
         if self.goes_well(word, text) {
             Ok(())
@@ -56,7 +62,7 @@ impl<'a> MemorySystem<'a> {
     }
 }
 
-/// No reply to a message that was said.
+/// A message was sent, and no reply to it could be read.
 pub(crate) const UNHEARD: HandInFault = HandInFault::Unheard(HandInStep::Message, ReplyFault::Read);
 
 /// A copy of a text.
@@ -67,7 +73,7 @@ fn copied(alloc: Global, text: &[u8]) -> Result<Vec<u8>, DeedFault> {
     }
 }
 
-/// The flags of a request, which have one digit here.
+/// The flags of a request. They have one digit in these tests.
 fn flags_of(request: &[u8]) -> u8 {
     match request.get(b"nrequest\01\0flags\0".len()) {
         Some(digit) => *digit,
@@ -87,7 +93,9 @@ fn digits(number: u64) -> [u8; 3] {
 impl MailSystem for MemorySystem<'_> {
     ghost deeds = { λ _. None };
 
-    fn begin(&mut self, _request: &PostfixRequest<'_>) {}
+    fn begin(&mut self, _service: Service, _request: &PostfixRequest<'_>) -> Option<Stamp> {
+        self.changed
+    }
 
     fn has_log(&mut self, service: Service, _id: QueueId) -> Result<bool, DeedFault> {
         self.done(b"seek", &[service.letter()])?;
@@ -136,10 +144,11 @@ impl MailSystem for MemorySystem<'_> {
     fn hand_in(
         &mut self,
         path: &Address,
-        _message: &[u8],
+        message: &[u8],
         _reply: &mut ReplyBuffer,
     ) -> Result<(), HandInFault> {
-        if self.goes_well(b"hand-in", path.bytes()) {
+        let is_kept = self.notices.extend_from_slice(message).is_ok();
+        if self.goes_well(b"hand-in", path.bytes()) && is_kept {
             Ok(())
         } else {
             Err(self.refusal)

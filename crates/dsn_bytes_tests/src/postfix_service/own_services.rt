@@ -1,4 +1,4 @@
-//! Requests that are passed on to one of Postfix's own services, and what it answers.
+//! Requests that are passed on to one of Postfix's own services, and its answers.
 use crate::assert_same::same;
 use crate::device::ALWAYS;
 use crate::postfix_service::server::Server;
@@ -9,14 +9,15 @@ use std::alloc::{AllocGlobal, Global};
 use std::cell::RefCell;
 use std::process::Abort;
 
-/// What a service says that answers 7.
+/// The bytes of a service that answers 7.
 const ANSWERS: &[u8] = b"|protocol\0delivery_status_protocol\0\0|status\07\0\0";
 
-/// What services say, how many calls go well before one fails, the answer, and what the service is sent.
+/// The bytes of services, the number of calls that succeed before one fails, the answer, and the
+/// bytes sent to the service.
 const SERVICES: [(&[u8], usize, Result<u32, DeedFault>, &[u8]); 7] = [
-    // the request is said after the announcement
+    // the request is sent after the announcement
     (ANSWERS, ALWAYS, Ok(7), b"<nrequest\01\0\0<"),
-    // nothing is said to another service
+    // nothing is sent to another service
     (
         b"|protocol\0other\0\0|status\00\0\0",
         ALWAYS,
@@ -30,7 +31,7 @@ const SERVICES: [(&[u8], usize, Result<u32, DeedFault>, &[u8]); 7] = [
         b"<",
     ),
     (b"", ALWAYS, Err(DeedFault::Failed), b""),
-    // what is no status is no answer
+    // an invalid status is not an answer
     (
         b"|protocol\0delivery_status_protocol\0\0|status\0no\0\0",
         ALWAYS,
@@ -47,7 +48,8 @@ const SERVICES: [(&[u8], usize, Result<u32, DeedFault>, &[u8]); 7] = [
     (ANSWERS, 0, Err(DeedFault::Failed), b""),
 ];
 
-/// The answer of a service that says this, in pieces of at most so many bytes. What it is sent is noted.
+/// The answer of a service with these bytes, in pieces of at most `most` bytes. The bytes sent to
+/// it are recorded.
 fn asked(
     alloc: Global,
     (script, calls): (&[u8], usize),
@@ -63,7 +65,8 @@ fn asked(
     ask_own_service(alloc, &mut stream, b"nrequest\01\0\0")
 }
 
-/// A service answers so, and is sent this, where it says what it says in pieces of so many bytes.
+/// A service has this answer, and these bytes are sent to it, if it gives its bytes in pieces of at
+/// most `most`.
 fn expect_answer(
     rt: &(impl AllocGlobal + Abort),
     &(script, calls, answer, sent): &(&[u8], usize, Result<u32, DeedFault>, &[u8]),

@@ -1,4 +1,4 @@
-//! The paths of files in queues: of short and of long queue ids, so deep as a queue is hashed.
+//! The paths of files in queues, for short and for long queue ids and for each depth of hashing.
 use crate::assert_same::same;
 use dsn_postfix::QueueName;
 use dsn_postfix_queue::{FolderHashing, path_in_queue};
@@ -7,14 +7,16 @@ use std::alloc::AllocGlobal;
 use std::process::Abort;
 use std::test::Fail;
 
-/// The queue, how deep it is hashed, the queue id, and the path of the message's file below the root.
+/// The queue, the depth of its hashing, the queue id, and the path of the message's file below the
+/// root.
 const PATHS: [(&[u8], u32, &[u8], &[u8]); 8] = [
-    // a queue that isn't hashed has its files itself
+    // a queue that isn't hashed has no folders
     (b"active", 0, b"4F9D195432C", b"active/4F9D195432C"),
-    // a short id names its folders itself
+    // the folders of a short id are named by its characters
     (b"defer", 1, b"4F9D195432C", b"defer/4/4F9D195432C"),
     (b"defer", 4, b"AB", b"defer/A/B/_/_/AB"),
-    // a long id names its folders by its microseconds; a Postfix with long queue ids made the first two
+    // the folders of a long id are named by its microseconds; a Postfix with long queue ids made
+    // the first two
     (
         b"defer",
         1,
@@ -39,7 +41,7 @@ const PATHS: [(&[u8], u32, &[u8], &[u8]); 8] = [
         b"4C1hTbzzzzz1",
         b"defer/6/F/9/0/F/F/_/4C1hTbzzzzz1",
     ),
-    // microseconds that are no number count as none
+    // microseconds that are not a number count as 0
     (b"defer", 2, b"4C1hTbaaaaz1", b"defer/0/0/4C1hTbaaaaz1"),
 ];
 
@@ -63,7 +65,7 @@ fn files_have_their_paths(rt: HostRuntime) -> Result<(), Fail> {
     Ok(())
 }
 
-/// How deep a queue is hashed where `deferred` and `Defer` are, by two.
+/// The depth of a queue's hashing, if `deferred` and `Defer` are hashed with a depth of 2.
 fn depth(queue: &[u8]) -> Result<u32, Fail> {
     let queues = [
         QueueName::new(b"deferred").ok_or("the queue")?,

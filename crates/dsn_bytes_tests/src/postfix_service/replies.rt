@@ -1,4 +1,5 @@
-//! Replies, from readers that give them in pieces, end anywhere and fail anywhere, and the queue ids in them.
+//! Replies from readers that give them in pieces, and that end or fail at any byte, and the queue
+//! ids in replies.
 use crate::assert_same::same;
 use crate::device::{ALWAYS, reader};
 use crate::texts::text_of_size;
@@ -10,7 +11,8 @@ use std::test::Fail;
 /// A reply of three lines (RFC 5321 section 4.2.1).
 const EXTENSIONS: &[u8] = b"250-mx.example.org\r\n250-PIPELINING\r\n250 8BITMIME\r\n";
 
-/// The code of the reply that is read into a buffer, at most so many bytes a call, where the call after `good` calls fails.
+/// The code of the reply that is read into a buffer at most `most` bytes a call, from a reader that
+/// fails after `good` calls.
 fn read_next(
     buffer: &mut ReplyBuffer,
     input: &[u8],
@@ -23,7 +25,8 @@ fn read_next(
     }
 }
 
-/// A reply that is read so has this code, or is none.
+/// A reply that is read at most `most` bytes a call, from a reader that fails after `good` calls,
+/// has this code or this fault.
 fn expect_code(
     rt: &impl Abort,
     input: &[u8],
@@ -34,7 +37,7 @@ fn expect_code(
     same(rt, (input, most, good, found), (input, most, good, want));
 }
 
-/// A reply that is read into a buffer, at most so many bytes a call, is the one of three lines.
+/// A reply that is read into a buffer at most `most` bytes a call is the one of three lines.
 fn expect_extensions(rt: &impl Abort, buffer: &mut ReplyBuffer, most: usize) {
     let code = read_next(buffer, EXTENSIONS, most, ALWAYS);
     let found = (most, code, buffer.bytes(), buffer.last_text());
@@ -62,7 +65,7 @@ fn a_reply_that_ends_at_each_byte(rt: HostRuntime) {
 
 #[test]
 fn a_reader_that_fails_at_each_byte(rt: HostRuntime) {
-    // once the reply's end is there the reader isn't asked again
+    // no further read is made after the end of the reply
     let whole = EXTENSIONS.len();
     for good in 0..whole {
         expect_code(&rt, EXTENSIONS, (1, good), Err(ReplyFault::Read));
@@ -70,7 +73,7 @@ fn a_reader_that_fails_at_each_byte(rt: HostRuntime) {
     expect_code(&rt, EXTENSIONS, (1, whole), Ok(*b"250"));
 }
 
-/// Bytes that are a reply, and bytes that are none.
+/// Bytes that are a reply, and bytes that aren't.
 const REPLIES: [(&[u8], Result<[u8; 3], ReplyFault>); 15] = [
     (b"220 mx.example.org ESMTP\r\n", Ok(*b"220")),
     (b"354\r\n", Ok(*b"354")),
@@ -89,8 +92,8 @@ const REPLIES: [(&[u8], Result<[u8; 3], ReplyFault>); 15] = [
     (b"\r\n", Err(ReplyFault::NoReply)),
 ];
 
-/// How much a call gives of two replies, and what is read: the end of the first comes with bytes behind it, but in pieces that
-/// end with it.
+/// The most bytes of two replies that a call gives, and the result. A piece with the end of the
+/// first reply has bytes of the second, unless it ends there.
 const PIECES_OF_TWO: [(usize, Result<[u8; 3], ReplyFault>); 5] = [
     (1, Ok(*b"250")),
     (7, Ok(*b"250")),
@@ -99,13 +102,13 @@ const PIECES_OF_TWO: [(usize, Result<[u8; 3], ReplyFault>); 5] = [
     (100, Err(ReplyFault::Trailing)),
 ];
 
-/// Bytes are read so by one byte a call, and at once.
+/// Bytes are read with this result, both one byte a call and at once.
 fn expect_reply(rt: &impl Abort, &(input, want): &(&[u8], Result<[u8; 3], ReplyFault>)) {
     expect_code(rt, input, (1, ALWAYS), want);
     expect_code(rt, input, (4_096, ALWAYS), want);
 }
 
-/// Two replies are read so by so many bytes a call.
+/// The first of two replies is read with this result, at most `most` bytes a call.
 fn expect_first(rt: &impl Abort, &(most, want): &(usize, Result<[u8; 3], ReplyFault>)) {
     expect_code(rt, b"250 a\r\n550 b\r\n", (most, ALWAYS), want);
 }
@@ -120,7 +123,7 @@ fn bytes_that_are_a_reply_and_bytes_that_are_none(rt: HostRuntime) {
     }
 }
 
-/// How long replies are, and what is read of them.
+/// The lengths of replies, and the results of reading them.
 const LENGTHS: [(usize, Result<[u8; 3], ReplyFault>); 4] = [
     (LONGEST_REPLY - 1, Ok(*b"250")),
     (LONGEST_REPLY, Ok(*b"250")),
@@ -128,7 +131,7 @@ const LENGTHS: [(usize, Result<[u8; 3], ReplyFault>); 4] = [
     (2 * LONGEST_REPLY, Err(ReplyFault::TooLong)),
 ];
 
-/// A reply of so many bytes is read so in pieces of each size.
+/// A reply of `size` bytes is read with this result in pieces of each size.
 fn expect_long(
     rt: &(impl AllocGlobal + Abort),
     &(size, want): &(usize, Result<[u8; 3], ReplyFault>),
@@ -148,7 +151,7 @@ fn the_longest_reply(rt: HostRuntime) -> Result<(), Fail> {
     Ok(())
 }
 
-/// What codes say, and what is no code.
+/// Codes and their classes, and digits that aren't a code.
 const CLASSES: [([u8; 3], Option<ReplyClass>); 8] = [
     (*b"250", Some(ReplyClass::Positive)),
     (*b"354", Some(ReplyClass::Intermediate)),
@@ -160,7 +163,7 @@ const CLASSES: [([u8; 3], Option<ReplyClass>); 8] = [
     (*b"25x", None),
 ];
 
-/// A code says this, or the digits are none.
+/// The digits are a code of this class, or aren't a code.
 fn expect_class(rt: &impl Abort, &(digits, want): &([u8; 3], Option<ReplyClass>)) {
     let class = match ReplyCode::new(digits) {
         Some(code) => Some(code.class()),
@@ -189,7 +192,7 @@ const TEXTS: [(&[u8], Option<&[u8]>); 9] = [
     (b"queued as 123456789012345678901234567890123", None),
 ];
 
-/// A text of a reply has this queue id at its end, or none.
+/// A text of a reply ends with this queue id, or has none.
 fn expect_queue_id(rt: &impl Abort, &(text, want): &(&[u8], Option<&[u8]>)) {
     let id = queue_id_in(text);
     let found = match &id {

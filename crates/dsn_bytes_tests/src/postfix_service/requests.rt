@@ -1,5 +1,5 @@
-//! Requests that are answered over a mail system in memory: what is done for each, in which order, and what it is
-//! answered, with a failure at each deed.
+//! Requests over a mail system in memory: the operations of each in their order, and the answer,
+//! with a failure at each operation.
 use crate::assert_same::same;
 use crate::postfix_letter::{moment, site};
 use crate::postfix_request::decoded;
@@ -16,18 +16,18 @@ use std::test::Fail;
 const NOT_DONE: u32 = 4_294_967_295;
 
 /// A message from Ann to two recipients.
-const FILE: &[u8] =
+pub(crate) const FILE: &[u8] =
     b"T\x0c1699996400 0S\x0fann@example.comR\x0cno@a.exampleR\x0cno@b.exampleM\x00N\x05To: bN\x00N\x02HiX\x00E\x00";
 
 /// A log of the two.
-const LOG: &[u8] =
+pub(crate) const LOG: &[u8] =
     b"\n<no@a.example>: no\nrecipient=no@a.example\noffset=31\nstatus=5.1.1\naction=failed\nreason=no\n\n\n<no@b.example>: no\nrecipient=no@b.example\noffset=45\nstatus=5.1.1\naction=failed\nreason=no\n\n";
 
-/// A log of one whose delivery is tried again.
-const DELAYS: &[u8] =
+/// A log of one recipient whose delivery is tried again.
+pub(crate) const DELAYS: &[u8] =
     b"\n<no@a.example>: later\nrecipient=no@a.example\noffset=31\nstatus=4.2.1\naction=delayed\nreason=later\n\n";
 
-/// What a program of Postfix asks.
+/// The request of a program of Postfix.
 #[derive(Clone, Copy)]
 enum Asked {
     Append,
@@ -46,31 +46,31 @@ enum Asked {
     Trace,
 }
 
-/// An append of a recipient whom a line can say.
+/// An append of a recipient that a line can name.
 pub(crate) const APPEND: &[u8] =
     b"nrequest\00\0flags\00\0queue_id\06BB87A7E6A1\0original_recipient\0\0recipient\0no@a.example\0offset\031\0dsn_orig_rcpt\0\0notify_flags\00\0status\05.1.1\0diag_type\0\0diag_text\0\0mta_type\0\0mta_mname\0\0action\0failed\0reason\0no\0\0";
 
-/// The same with CLEAN.
+/// The same append with CLEAN.
 const CLEAN_APPEND: &[u8] =
     b"nrequest\00\0flags\01\0queue_id\06BB87A7E6A1\0original_recipient\0\0recipient\0no@a.example\0offset\031\0dsn_orig_rcpt\0\0notify_flags\00\0status\05.1.1\0diag_type\0\0diag_text\0\0mta_type\0\0mta_mname\0\0action\0failed\0reason\0no\0\0";
 
-/// An append of a recipient with a space, whom no line can say.
+/// An append of a recipient with a space, whom no line can name.
 const SPACED_APPEND: &[u8] =
     b"nrequest\00\0flags\00\0queue_id\06BB87A7E6A1\0original_recipient\0\0recipient\0no a@a.example\0offset\031\0dsn_orig_rcpt\0\0notify_flags\00\0status\05.1.1\0diag_type\0\0diag_text\0\0mta_type\0\0mta_mname\0\0action\0failed\0reason\0no\0\0";
 
 /// Notices of a log, and its removal.
-const FLUSH: &[u8] =
+pub(crate) const FLUSH: &[u8] =
     b"nrequest\01\0flags\00\0queue_name\0active\0queue_id\06BB87A7E6A1\0encoding\0\0smtputf8\00\0sender\0ann@example.com\0envelope_id\0\0ret_flags\00\0\0";
 
-/// The same with CLEAN.
+/// The same flush with CLEAN.
 const CLEAN: &[u8] =
     b"nrequest\01\0flags\01\0queue_name\0active\0queue_id\06BB87A7E6A1\0encoding\0\0smtputf8\00\0sender\0ann@example.com\0envelope_id\0\0ret_flags\00\0\0";
 
-/// The same where the recipients are to be marked as done.
+/// The same flush with DELRCPT: the recipients are to be marked as done.
 const MARKING: &[u8] =
     b"nrequest\01\0flags\02\0queue_name\0active\0queue_id\06BB87A7E6A1\0encoding\0\0smtputf8\00\0sender\0ann@example.com\0envelope_id\0\0ret_flags\00\0\0";
 
-/// The same with CLEAN.
+/// The same flush with CLEAN and DELRCPT.
 const CLEAN_MARKING: &[u8] =
     b"nrequest\01\0flags\03\0queue_name\0active\0queue_id\06BB87A7E6A1\0encoding\0\0smtputf8\00\0sender\0ann@example.com\0envelope_id\0\0ret_flags\00\0\0";
 
@@ -78,7 +78,7 @@ const CLEAN_MARKING: &[u8] =
 const FROM_QUOTED: &[u8] =
     b"nrequest\01\0flags\00\0queue_name\0active\0queue_id\06BB87A7E6A1\0encoding\0\0smtputf8\00\0sender\0a b@example.com\0envelope_id\0\0ret_flags\00\0\0";
 
-/// The same with CLEAN, where the recipients are to be marked as done.
+/// The same flush with CLEAN and DELRCPT: the recipients are to be marked as done.
 const CLEAN_MARKING_FROM_QUOTED: &[u8] =
     b"nrequest\01\0flags\03\0queue_name\0active\0queue_id\06BB87A7E6A1\0encoding\0\0smtputf8\00\0sender\0a b@example.com\0envelope_id\0\0ret_flags\00\0\0";
 
@@ -86,7 +86,7 @@ const CLEAN_MARKING_FROM_QUOTED: &[u8] =
 const FROM_NOBODY: &[u8] =
     b"nrequest\01\0flags\00\0queue_name\0active\0queue_id\06BB87A7E6A1\0encoding\0\0smtputf8\00\0sender\0\0envelope_id\0\0ret_flags\00\0\0";
 
-/// Notices of a message whose sender is that of double bounces.
+/// Notices of a message whose sender is the one of double bounces.
 const FROM_DOUBLE_BOUNCE: &[u8] =
     b"nrequest\01\0flags\00\0queue_name\0active\0queue_id\06BB87A7E6A1\0encoding\0\0smtputf8\00\0sender\0Double-Bounce@mx.example.net\0envelope_id\0\0ret_flags\00\0\0";
 
@@ -128,17 +128,17 @@ enum Logs {
     Nothing,
     /// A bounce log of two recipients.
     Bounce,
-    /// A log of another service, of one.
+    /// A log of another service, of one recipient.
     Other,
-    /// A log of another service, of two.
+    /// A log of another service, of two recipients.
     OtherOfTwo,
-    /// A bounce log of two, and another log of one.
+    /// A bounce log of two recipients, and another log of one.
     Both,
-    /// An empty bounce log, and another log of one.
+    /// An empty bounce log, and another log of one recipient.
     EmptyAndOther,
 }
 
-/// The bounce log, and the log of each other service, where there are such.
+/// The bounce log, and the log of each other service, if they exist.
 fn texts_of(logs: Logs) -> (Option<&'static [u8]>, Option<&'static [u8]>) {
     match logs {
         Logs::Nothing => (None, None),
@@ -150,25 +150,26 @@ fn texts_of(logs: Logs) -> (Option<&'static [u8]>, Option<&'static [u8]>) {
     }
 }
 
-/// A request, over what it is answered, what goes wrong, and what comes of it.
+/// A request, the logs it is answered over, the operation that fails, and the expected result.
 struct Case {
     asked: Asked,
     service: Service,
     logs: Logs,
-    /// How many deeds go well before one fails.
+    /// The number of operations that succeed before one fails.
     well: usize,
-    /// What comes of the deed that fails, where it hands in nothing.
+    /// The fault of the operation that fails, unless it submits a notice.
     fault: DeedFault,
-    /// The code by which a notice is refused where that is the deed that fails; without one no reply is heard.
+    /// The code that refuses a notice, if submitting it is the operation that fails. Without a
+    /// code, no reply is read.
     refusal: Option<[u8; 3]>,
-    /// What Postfix's own service answers.
+    /// The answer of Postfix's own service.
     postfix: u32,
     status: u32,
-    /// The lines of the deeds.
+    /// The lines of the operations.
     lines: &'static [u8],
 }
 
-/// A request to the service of bounce logs, of a message with one, where all goes well.
+/// A flush to the service of bounce logs, of a message with a bounce log. All operations succeed.
 const BOUNCES: Case = Case {
     asked: Asked::Flush,
     service: Service::Bounce,
@@ -181,20 +182,20 @@ const BOUNCES: Case = Case {
     lines: TOLD,
 };
 
-/// The same where a deed fails.
+/// The same flush if an operation fails.
 const BOUNCES_FAIL: Case = Case {
     status: NOT_DONE,
     ..BOUNCES
 };
 
-/// The same where the request is passed on.
+/// The same flush if the request is passed on.
 const BOUNCES_PASSED_ON: Case = Case {
     status: 7,
     lines: PASSED_ON,
     ..BOUNCES
 };
 
-/// A request to the service of defer logs, of a message with both logs, where all goes well.
+/// A flush to the service of defer logs, of a message with both logs. All operations succeed.
 const BOTH: Case = Case {
     service: Service::Defer,
     logs: Logs::Both,
@@ -202,24 +203,24 @@ const BOTH: Case = Case {
     ..BOUNCES
 };
 
-/// The same where a deed fails.
+/// The same flush if an operation fails.
 const BOTH_FAIL: Case = Case {
     status: NOT_DONE,
     ..BOTH
 };
 
-/// The line of a record that is appended.
+/// The line of an appended record.
 pub(crate) const RECORD: &[u8] =
     b"append \n<no@a.example>: no\nrecipient=no@a.example\noffset=31\nstatus=5.1.1\naction=failed\nreason=no\n\n\n";
 
-/// The same, and the log's removal.
+/// The same line, and the removal of the log.
 const RECORD_REMOVED: &[u8] =
     b"append \n<no@a.example>: no\nrecipient=no@a.example\noffset=31\nstatus=5.1.1\naction=failed\nreason=no\n\n\nremove B\n";
 
 /// The lines of a flush of the bounce log alone.
 const TOLD: &[u8] = b"log B\nmessage active\nhand-in ann@example.com\nremove B\nrelease \n";
 
-/// The same up to a notice that isn't taken.
+/// The same lines up to a notice that isn't taken.
 const UNTOLD: &[u8] = b"log B\nmessage active\nhand-in ann@example.com\nrelease \n";
 
 /// The lines of a flush of the bounce log that is passed on.
@@ -229,19 +230,19 @@ const PASSED_ON: &[u8] = b"log B\nmessage active\nrelease \npass-on B0\n";
 const SECOND_UNTOLD: &[u8] =
     b"log B\nmessage active\nhand-in ann+no=a.example@example.com\nhand-in ann+no=b.example@example.com\nrelease \n";
 
-/// The lines of a flush of the bounce log that is asked before the defer log.
+/// The lines of a flush of the bounce log before the one of the defer log.
 const BOUNCE: &[u8] =
     b"seek B\nlog B\nmessage active\nhand-in ann@example.com\nremove B\nrelease \n";
 
-/// The lines of a flush of the defer log where there is no bounce log.
+/// The lines of a flush of the defer log if there is no bounce log.
 const DEFER: &[u8] =
     b"seek B\nlog D\nmessage active\nhand-in ann@example.com\nremove D\nrelease \n";
 
-/// The lines of a flush of both.
+/// The lines of a flush of both logs.
 const BOUNCE_AND_DEFER: &[u8] =
     b"seek B\nlog B\nmessage active\nhand-in ann@example.com\nremove B\nrelease \nlog D\nmessage active\nhand-in ann@example.com\nremove D\nrelease \n";
 
-/// Appends: one is answered 0 once it stands.
+/// Appends: the answer is 0 once the record is in the log.
 const APPENDS: [Case; 7] = [
     Case {
         asked: Asked::Append,
@@ -255,7 +256,7 @@ const APPENDS: [Case; 7] = [
         lines: RECORD,
         ..BOUNCES_FAIL
     },
-    // with CLEAN it leaves no log where it fails
+    // with CLEAN, an append that fails leaves no log
     Case {
         asked: Asked::CleanAppend,
         logs: Logs::Nothing,
@@ -268,7 +269,7 @@ const APPENDS: [Case; 7] = [
         lines: RECORD_REMOVED,
         ..BOUNCES_FAIL
     },
-    // memory that a deed lacks is answered by a status
+    // an operation that lacks memory is answered with a status
     Case {
         asked: Asked::Append,
         well: 0,
@@ -276,7 +277,7 @@ const APPENDS: [Case; 7] = [
         lines: RECORD,
         ..BOUNCES_FAIL
     },
-    // one that no line says is passed on
+    // an append whose recipient no line can name is passed on
     Case {
         asked: Asked::SpacedAppend,
         logs: Logs::Nothing,
@@ -293,7 +294,7 @@ const APPENDS: [Case; 7] = [
 
 /// Requests about one log.
 const OF_ONE_LOG: [Case; 18] = [
-    // a flush tells of two, and removes the log
+    // a flush submits a notice of both recipients, and removes the log
     BOUNCES,
     Case {
         well: 0,
@@ -314,7 +315,7 @@ const OF_ONE_LOG: [Case; 18] = [
         well: 3,
         ..BOUNCES_FAIL
     },
-    // nobody is told of a message from nobody
+    // a message without a sender, and a double bounce, have no notice
     Case {
         asked: Asked::FromNobody,
         lines: b"log B\nmessage active\nremove B\nrelease \n",
@@ -325,7 +326,7 @@ const OF_ONE_LOG: [Case; 18] = [
         lines: b"log B\nmessage active\nremove B\nrelease \n",
         ..BOUNCES
     },
-    // what is no letter is passed on, and nothing is handed in
+    // a request whose letter can't be made is passed on, and nothing is submitted
     Case {
         asked: Asked::FromQuoted,
         ..BOUNCES_PASSED_ON
@@ -334,7 +335,7 @@ const OF_ONE_LOG: [Case; 18] = [
         logs: Logs::Nothing,
         ..BOUNCES_PASSED_ON
     },
-    // each recipient has a path of its own
+    // each recipient has its own return path
     Case {
         asked: Asked::Verp,
         lines: b"log B\nmessage active\nhand-in ann+no=a.example@example.com\nhand-in ann+no=b.example@example.com\nremove B\nrelease \n",
@@ -346,7 +347,7 @@ const OF_ONE_LOG: [Case; 18] = [
         lines: SECOND_UNTOLD,
         ..BOUNCES_FAIL
     },
-    // a letter that is refused for good is passed on
+    // a request whose notice is refused for good is passed on
     Case {
         well: 2,
         refusal: Some(*b"550"),
@@ -359,7 +360,7 @@ const OF_ONE_LOG: [Case; 18] = [
         lines: UNTOLD,
         ..BOUNCES_FAIL
     },
-    // a later one is put off: who is told by the first would be told once more
+    // a request whose later notice is refused isn't passed on: that would repeat the first notice
     Case {
         asked: Asked::Verp,
         well: 3,
@@ -385,7 +386,7 @@ const OF_ONE_LOG: [Case; 18] = [
         lines: b"seek B\nlog D\nmessage active\nhand-in ann@example.com\nmark 031\nmark 045\nrelease \nremove D\n",
         ..BOTH_FAIL
     },
-    // a trace without a log tells nobody
+    // a trace without a log has no notice
     Case {
         asked: Asked::Trace,
         service: Service::Trace,
@@ -395,7 +396,8 @@ const OF_ONE_LOG: [Case; 18] = [
     },
 ];
 
-/// Requests about the defer log of a message that may have both: the bounce log is told first.
+/// Requests about the defer log of a message that may have both logs: the bounce log is flushed
+/// first.
 const OF_BOTH_LOGS: [Case; 23] = [
     BOTH,
     Case {
@@ -408,7 +410,7 @@ const OF_BOTH_LOGS: [Case; 23] = [
         lines: DEFER,
         ..BOTH
     },
-    // a bounce log that Postfix tells comes first
+    // a bounce log that is passed on to Postfix comes first
     Case {
         asked: Asked::FromQuoted,
         status: 7,
@@ -421,7 +423,9 @@ const OF_BOTH_LOGS: [Case; 23] = [
         lines: b"seek B\nlog B\nmessage active\nrelease \npass-on B0\nlog D\nmessage active\nrelease \npass-on D0\n",
         ..BOTH
     },
-    // the bounce log's flush has neither CLEAN nor DELRCPT, which are about the defer log
+    // the flush of the bounce log is passed on without CLEAN and DELRCPT, which are about the defer
+    // log. The flush of the defer log is passed on with both: its line ends with the letter D and
+    // the flags 3.
     Case {
         asked: Asked::CleanMarkingFromQuoted,
         status: 7,
@@ -434,7 +438,8 @@ const OF_BOTH_LOGS: [Case; 23] = [
         lines: b"seek B\nlog B\nmessage active\nrelease \npass-on B0\nlog D\nmessage active\nrelease \npass-on D3\n",
         ..BOTH
     },
-    // the defer log is told after a bounce log that was refused and passed on
+    // a bounce log whose notice is refused is passed on, and the defer log is flushed if that
+    // succeeds
     Case {
         well: 3,
         refusal: Some(*b"554"),
@@ -455,7 +460,7 @@ const OF_BOTH_LOGS: [Case; 23] = [
         lines: b"seek B\nlog B\nmessage active\nhand-in ann@example.com\nremove B\nrelease \nlog D\nmessage active\nhand-in ann@example.com\nmark 031\nremove D\nrelease \n",
         ..BOTH
     },
-    // with a path for each recipient too
+    // each recipient may have its own return path, too
     Case {
         asked: Asked::Verp,
         lines: b"seek B\nlog B\nmessage active\nhand-in ann+no=a.example@example.com\nhand-in ann+no=b.example@example.com\nremove B\nrelease \nlog D\nmessage active\nhand-in ann+no=a.example@example.com\nremove D\nrelease \n",
@@ -467,7 +472,7 @@ const OF_BOTH_LOGS: [Case; 23] = [
         lines: b"log D\nmessage active\nhand-in ann@example.com\nrelease \n",
         ..BOTH
     },
-    // the defer log stays where the bounce log fails
+    // the defer log stays if the bounce log fails
     Case {
         well: 0,
         lines: b"seek B\n",
@@ -493,7 +498,7 @@ const OF_BOTH_LOGS: [Case; 23] = [
         lines: BOUNCE,
         ..BOTH_FAIL
     },
-    // the bounce log is told where the defer log fails
+    // the bounce log is flushed even if the defer log fails
     Case {
         well: 6,
         lines: b"seek B\nlog B\nmessage active\nhand-in ann@example.com\nremove B\nrelease \nlog D\nrelease \n",
@@ -513,7 +518,7 @@ const OF_BOTH_LOGS: [Case; 23] = [
         well: 9,
         ..BOTH_FAIL
     },
-    // with CLEAN no defer log is removed before its turn, and no bounce log at all
+    // with CLEAN, the defer log isn't removed before its turn, and the bounce log not at all
     Case {
         asked: Asked::Clean,
         well: 0,
@@ -528,7 +533,7 @@ const OF_BOTH_LOGS: [Case; 23] = [
     },
 ];
 
-/// What comes of a notice that is refused by this code, or has no reply.
+/// The fault of a notice that is refused with this code, or has no reply.
 fn refusal_of(digits: Option<[u8; 3]>) -> HandInFault {
     match digits {
         Some(digits) => refused_at(HandInStep::Recipient, digits).unwrap_or(UNHEARD),
@@ -536,7 +541,7 @@ fn refusal_of(digits: Option<[u8; 3]>) -> HandInFault {
     }
 }
 
-/// The status that answers a request to a service. Memory is ample, so there is one.
+/// The status that answers a request to a service. These tests have memory for it.
 fn answered(
     alloc: Global,
     service: Service,
@@ -561,18 +566,20 @@ fn answered(
     Ok(answer_request(alloc, &terms, &request, bytes, system)?)
 }
 
-/// A request is answered by its status, and its deeds have these lines.
+/// A request is answered with its status, and its operations have these lines.
 fn expect_answer(rt: &(impl AllocGlobal + Abort), case: &Case) -> Result<(), Fail> {
     let (bounce_log, log) = texts_of(case.logs);
     let mut system = MemorySystem {
         bounce_log,
         log,
+        changed: None,
         file: FILE,
         well: case.well,
         fault: case.fault,
         refusal: refusal_of(case.refusal),
         status: case.postfix,
         asked: Vec::new(rt.alloc()),
+        notices: Vec::new(rt.alloc()),
     };
     let found = answered(rt.alloc(), case.service, bytes_of(case.asked), &mut system)?;
     same(rt, system.asked.as_slice(), case.lines);

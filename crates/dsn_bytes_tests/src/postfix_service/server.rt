@@ -10,21 +10,21 @@ use std::io;
 use std::io::{ErrorKind, Read, Write};
 use std::test::Fail;
 
-/// A mail server in memory. No contract tells its bytes.
+/// A mail server in memory. No contract knows its bytes.
 #[derive(Drop)]
 pub(crate) struct Server<'a> {
-    /// The replies that it gives yet, each after a `|`; no read gives bytes of two.
+    /// The replies that are left, each after a `|`. No read gives bytes of two.
     pub(crate) script: &'a [u8],
-    /// How many bytes a call gives or takes at most, but at least one.
+    /// The most bytes that a call gives or takes; 0 counts as 1.
     pub(crate) most: usize,
-    /// How many calls go well before one is interrupted; from then on they do again.
+    /// The number of calls that succeed before one is interrupted. All later calls succeed.
     pub(crate) calls: usize,
-    /// Where it notes what it was sent, with a `<` where it began a reply.
+    /// The record of the bytes that were sent to it, with a `<` at the start of each reply.
     pub(crate) heard: &'a RefCell<Vec<u8>>,
 }
 
 impl<'a> Server<'a> {
-    /// A connection to a server with these replies, of which no call fails.
+    /// A connection to a server with these replies. No call of it fails.
     pub(crate) fn steady(script: &'a [u8], heard: &'a RefCell<Vec<u8>>) -> Plain<Server<'a>> {
         Plain::new(Server {
             script,
@@ -34,7 +34,7 @@ impl<'a> Server<'a> {
         })
     }
 
-    /// Counts a call, and fails where it is the one that is to.
+    /// Counts a call, and fails if it is the one to fail.
     fn count_call(&mut self) -> io::Result<()> {
         if self.calls == 0 {
             self.calls = usize::MAX;
@@ -44,7 +44,7 @@ impl<'a> Server<'a> {
         Ok(())
     }
 
-    /// Notes what it was sent, or that it began a reply.
+    /// Records the bytes that were sent to it, or the start of a reply.
     fn note(&self, text: &[u8]) -> io::Result<()> {
         let Ok(mut heard) = self.heard.try_borrow_mut() else {
             return Err(io::Error::from(ErrorKind::Other));
@@ -87,17 +87,17 @@ impl OpaqueStream for Server<'_> {
     ghost untold_output = { λ _. refl };
 }
 
-/// Who hands notices in.
+/// The host that submits notices.
 pub(crate) fn host(alloc: Global) -> Result<MtaName, Fail> {
     Ok(MtaName::new(alloc, b"mail.example.net")?)
 }
 
-/// Who is told by notices.
+/// The recipient of notices.
 pub(crate) fn path(alloc: Global) -> Result<Address, Fail> {
     Ok(Address::new(alloc, b"ann@example.org")?)
 }
 
-/// The fault of a notice that is refused at a step by this code.
+/// The fault of a notice that is refused at a step with this code.
 pub(crate) fn refused_at(step: HandInStep, digits: [u8; 3]) -> Option<HandInFault> {
     match ReplyCode::new(digits) {
         Some(code) => Some(HandInFault::Refused(step, code)),

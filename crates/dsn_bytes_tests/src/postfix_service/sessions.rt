@@ -1,4 +1,4 @@
-//! Notices that are handed in over a session that was kept, or over a new one, and what each server is sent then.
+//! Notices that are submitted over a kept session or over a new one, and the bytes sent over each.
 use crate::assert_same::same;
 use crate::postfix_service::server::{Server, host, path, refused_at};
 use dsn_outcome::{Plain, Stream};
@@ -11,7 +11,7 @@ use std::cell::RefCell;
 use std::process::Abort;
 use std::test::Fail;
 
-/// Where new connections come from, if there are any: from a server with these replies.
+/// New connections, if there are any, to a server with these replies.
 #[derive(Drop)]
 struct Place<'a> {
     script: Option<&'static [u8]>,
@@ -29,9 +29,11 @@ impl<'a> Connect<Plain<Server<'a>>> for Place<'a> {
     }
 }
 
-/// The replies over a session that is kept, and over a new one, where there are such; the step at which the notice isn't taken, if
-/// there is one, and the code by which it is refused there, or none where nothing is heard; and what is sent over each session, with
-/// a `<` where a reply is begun.
+/// A notice, and the replies over a kept session and over a new one, each if there is one.
+///
+/// `fault` is the step at which the notice isn't taken, and the code that refuses it, or `None` if
+/// no reply is read. `over_kept` and `over_new` are the bytes sent over each session, with a `<` at
+/// the start of each reply.
 struct Case {
     kept: Option<&'static [u8]>,
     new: Option<&'static [u8]>,
@@ -40,34 +42,34 @@ struct Case {
     over_new: &'static [u8],
 }
 
-/// A message with the line of one dot.
+/// The mail data of a message without a body, ended by a line of one dot.
 const MESSAGE: &[u8] = b"Subject: no\r\n\r\n.\r\n";
 
 /// The replies of a server that takes the message (RFC 5321 appendix D.1).
 const TAKES: &[u8] =
     b"|220 mx.example.org ESMTP\r\n|250 mx.example.org\r\n|250 Ok\r\n|250 Ok\r\n|354 End\r\n|250 Ok\r\n";
 
-/// What such a server is sent.
+/// The bytes sent to such a server.
 const WHOLE: &[u8] =
     b"<EHLO mail.example.net\r\n<MAIL FROM:<>\r\n<RCPT TO:<ann@example.org>\r\n<DATA\r\n<Subject: no\r\n\r\n.\r\n<";
 
-/// The replies of a server that offers PIPELINING and takes the message (RFC 2920 section 3.2). Those to MAIL, RCPT and DATA come
-/// in one piece.
+/// The replies of a server that offers PIPELINING and takes the message (RFC 2920 section 3.2).
+/// Those to MAIL, RCPT and DATA come in one piece.
 const GROUP_TAKES: &[u8] =
     b"|220 a\r\n|250-a\r\n250 PIPELINING\r\n|250 b\r\n250 c\r\n354 d\r\n|250 e\r\n";
 
-/// Those of one that refuses the recipient, and waits for a message all the same.
+/// The replies of a server that refuses the recipient, and still waits for a message.
 const GROUP_REFUSES: &[u8] =
     b"|220 a\r\n|250-a\r\n250 PIPELINING\r\n|250 b\r\n550 c\r\n354 d\r\n|250 e\r\n";
 
-/// What one is sent that refuses the sender.
+/// The bytes sent to a server that refuses the sender.
 const UP_TO_SENDER: &[u8] = b"<EHLO mail.example.net\r\n<MAIL FROM:<>\r\n<QUIT\r\n";
 
-/// What one is sent that says nothing after the greeting and the reply to EHLO.
+/// The bytes sent to a server that gives no reply after the one to EHLO.
 const UP_TO_SILENCE: &[u8] = b"<EHLO mail.example.net\r\n<MAIL FROM:<>\r\nQUIT\r\n";
 
-/// A notice is handed in over the session that is kept. Only where that fails at MAIL, and where there is none, it is handed in
-/// over a new one.
+/// A notice is submitted over the kept session. It is submitted over a new one if no session is
+/// kept, or if it fails at MAIL.
 const CASES: [Case; 10] = [
     Case {
         kept: Some(TAKES),
@@ -141,7 +143,7 @@ const CASES: [Case; 10] = [
     },
 ];
 
-/// The fault that a case wants, if there is to be one.
+/// The expected fault of a case, if there is one.
 fn wanted(case: &Case) -> Option<HandInFault> {
     match case.fault {
         Some((step, Some(digits))) => refused_at(step, digits),
@@ -150,12 +152,13 @@ fn wanted(case: &Case) -> Option<HandInFault> {
     }
 }
 
-/// A session over a new connection, if it can be begun.
+/// A session over a new connection, if it can begin.
 fn begun<S: Stream + Drop>(stream: S, host: &MtaName) -> Option<Session<S>> {
     Session::begin(stream, &mut ReplyBuffer::new(), host).ok()
 }
 
-/// Hands in a notice, over the session that is kept or over one of a new connection: the fault, if it isn't taken.
+/// Submits a notice over the kept session, or over one of a new connection. Returns the fault, if
+/// it isn't taken.
 fn fault_of<S: Stream + Drop, C: Connect<S>>(
     place: &mut C,
     kept: Option<Session<S>>,
@@ -169,7 +172,8 @@ fn fault_of<S: Stream + Drop, C: Connect<S>>(
     hand_in_over(place, kept, host, &notice, &mut ReplyBuffer::new()).err()
 }
 
-/// What comes of a case's notice; what is sent over the session that is kept, and over a new one, is noted.
+/// The fault of a case's notice, if there is one. The bytes sent over the kept session and over a
+/// new one are recorded.
 fn tried(
     alloc: Global,
     case: &Case,
@@ -189,7 +193,7 @@ fn tried(
     Ok(fault_of(&mut place, kept, &host, &path))
 }
 
-/// A case's notice is handed in as it must be, and each server is sent what it must.
+/// A case's notice has the expected fault, and the expected bytes are sent to each server.
 fn expect_case(rt: &(impl AllocGlobal + Abort), case: &Case) -> Result<(), Fail> {
     let over_kept = RefCell::new(Vec::new(rt.alloc()));
     let over_new = RefCell::new(Vec::new(rt.alloc()));

@@ -1,5 +1,6 @@
--- A worked example of an agent that serves a port, made by the definitions: three connections, with a discard, with a frame
--- that has no body, and with a discard again; then the port is done.
+-- A worked example of an agent that serves a port, made by the definitions. There are three
+-- connections: one with a discard, one with a frame that has no body, and one with a discard again.
+-- Then the port is done.
 use Rattle.std.proofs.Common.{◌≡◌, ℕ, List, [], ◌∷◌, inl, true, false, refl, ap, lit<, lit≤, arith}
 use Rattle.std.specs.Prelude.{◌≢◌, Some, None, unwrap_or as option_or}
 use Rattle.std.proofs.lemmas.List.Elements.{All-cons, All-nil}

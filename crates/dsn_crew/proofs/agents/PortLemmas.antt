@@ -61,7 +61,7 @@ not-failed (Err Number) good = (λ is. let never = ap code_or_0 is in omega (ari
 not-failed (Err Frames) good = (λ is. let never = ap code_or_0 is in omega (arith, never), λ is. let never = ap code_or_0 is in omega (arith, never))
 not-failed (Err Lost) good = (λ is. let never = ap code_or_0 is in omega (arith, never), λ is. let never = ap code_or_0 is in omega (arith, never))
 
--- a count that stood still below its end counted no failure
+-- a count below its maximum that stayed as it was counted no failure
 still : (failed : Bool) (count : ℕ) → counted failed count ≡ count → count < most_failures → failed ≡ false
 still false count same below = refl
 still true count same below = absurd (let one : count + 1 ≡ count = rw (lt-ltb count most_failures below) at same in omega (arith, one))
@@ -101,7 +101,8 @@ pairs-push R [] (first ∷ ys) x y pairs is = absurd pairs
 pairs-push R (first ∷ xs) [] x y pairs is = absurd pairs
 pairs-push R (first ∷ xs) (other ∷ ys) x y pairs is = (pairs.0, pairs-push R xs ys x y pairs.1 is)
 
--- so many of a port's connections were served, one session over each; these are what the port then tells
+-- some of a port's connections were served, one session over each; `now` is what the port then
+-- exposes
 pub record ServedConns (conns : List Conn) (sessions : List Session) (now : Option (List Conn)) : Type 0 where
   pub served : List Conn
   pub left : List Conn
@@ -151,7 +152,7 @@ module _ {S : Type 0} (source : Source S) where
   port-done (Some conns) sessions now new so_far gives =
       conns-done conns sessions so_far.served so_far.left new so_far.conns_are so_far.over (subst (λ told. Gives source told new next.Done) so_far.told gives)
 
-  -- the port failed, so it doesn't tell its connections
+  -- a port that failed doesn't expose its connections
   conns-failed : (left : List Conn) (new : Option (List Conn)) → Gives source (Some left) new next.Failed → ⊥
   conns-failed [] new gives = gives
   conns-failed (conn ∷ rest) new gives = gives
@@ -176,7 +177,7 @@ port-lost (Some conns) sessions now so_far = record { served = so_far.served; le
 one-more : (count : ℕ) (rest : List Given) → replicate (count + 1) connection ++ rest ≡ replicate count connection ++ connection ∷ rest
 one-more count rest = ap (λ (given : List Given). given ++ rest) (sym (replicate-append-replicate count 1 connection)) ∙ append_assoc (replicate count connection) (connection ∷ []) rest
 
--- the port gave so many connections; whatever it may give from now on, it may have given after them
+-- the port gave `count` connections; whatever it may give from now on, it may have given after them
 abbrev pub GivenSoFar : (List Given → Type 0) → (List Given → Type 0) → ℕ → Type 0
 GivenSoFar may_give may_now count = (rest : List Given) → may_now rest → may_give (replicate count connection ++ rest)
 
@@ -202,7 +203,7 @@ given-alone may_give may_now count so_far alone = subst may_give (replicate-appe
 -- ---- the agent
 
 module _ {P T : Type 0} (port : Port P T) (start : P) (old : Agent) where
-  -- so many connections were served, and nothing ended the service; this is the port then
+  -- `count` connections were served, and nothing ended the service; `now` is the port then
   pub record ServesSoFar (now : P) (agent : Agent) (line : AgentLine) (count : ℕ) : Type 0 where
     pub sessions : List Session
     pub follow : AreSessions old.limit (length old.halves.requests.sent) sessions
@@ -242,7 +243,7 @@ serves_nothing port start agent requests is goes_on = record {
   good = refl;
 }
 
--- a line that counts what this one does, and tells this of the port
+-- a line that counts what this one does, with this value for whether the port failed
 pub record IsLine (line : AgentLine) (told : Bool) (then : AgentLine) : Type 0 where
   pub requests : then.requests ≡ line.requests
   pub connections : then.connections ≡ line.connections
@@ -250,7 +251,7 @@ pub record IsLine (line : AgentLine) (told : Bool) (then : AgentLine) : Type 0 w
   pub port_failed : then.port_failed ≡ told
 
 module _ {P T : Type 0} (port : Port P T) (start : P) (old : Agent) (now : P) (agent : Agent) (line : AgentLine) (count : ℕ) (so_far : ServesSoFar port start old now agent line count) (most : count ≤ 1000000) where
-  -- the line, with what is told of the port
+  -- the line, with this value for whether the port failed
   abbrev line-with : Bool → AgentLine
   line-with told = record { requests = line.requests; connections = line.connections; faults = line.faults; port_failed = told }
 

@@ -92,7 +92,7 @@ module _ (asks : Identity Request) (hears : Identity Answer) (body : Body) (repl
     counts = record { count = refl; no_flush = refl; stays_steady = λ _. (tt, refl) };
   }
 
-  -- where the collector is found gone before it, nothing is sent and nothing written, and the agent is lost
+  -- if the collector is found gone before it, nothing is sent or written, and the agent is lost
   discard_lost : IsServed reads writes before (agent_with before.halves.requests.sent before.halves.answers.taken true) (frame discard_body, []) ([], []) (Err Lost)
   unfolding reads writes before agent_with numbered_from answer_frames_from discard_body
   discard_lost = record {

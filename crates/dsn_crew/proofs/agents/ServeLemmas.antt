@@ -98,7 +98,7 @@ refusal_apart : (refusal : Refusal) → refusal_code refusal ≢ 44
 refusal_apart (refusals.Body fault) same = absurd (let few = body_few fault in omega arith)
 refusal_apart refusals.OutOfTurn same = absurd (omega arith)
 
--- an answer that is none of them, alone
+-- one refusal, with another number than 44
 one_apart : (code : ℕ) → code ≢ 44 → All (λ (answer : Spoken). answer ≢ spoken.Refused 44) (spoken.Refused code ∷ [])
 one_apart code apart = All-cons (λ (answer : Spoken). answer ≢ spoken.Refused 44) (spoken.Refused code) [] (λ same. apart cc) (All-nil (λ (answer : Spoken). answer ≢ spoken.Refused 44))
 

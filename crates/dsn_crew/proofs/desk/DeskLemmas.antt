@@ -30,7 +30,7 @@ use Rattle.dsn_crew.proofs.desk.IntakeLemmas.{next_of, are_numbered_first, numbe
 
 -- ---- the halves of the answer lanes
 
--- where there is a half, there is a first one
+-- if there is a half, there is a first one
 pub first_half : (halves : List (Half Answer)) (k : ℕ) → k < length halves → Half Answer
 first_half [] k inside = absurd (omega arith)
 first_half (half ∷ halves) k inside = half

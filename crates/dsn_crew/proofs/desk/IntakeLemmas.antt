@@ -1,4 +1,4 @@
--- Intakes: what is taken together and then handed on, one request after another.
+-- Intakes: what is taken together and then given, one request after another.
 use Rattle.std.proofs.Common.{◌≡◌, ◌≢◌, ℕ, ◌+◌, ◌<◌, ◌≤◌, ◌==◌, Bool, true, false, cond, All, List, [], ◌∷◌, ◌++◌, length, take, filter, refl, ap, sym, ◌∙◌, subst, append_assoc, length-append, arith}
 use Rattle.std.specs.Prelude.{◌↔◌, IsTrue, Some}
 use Rattle.std.specs.List.{slice_get}

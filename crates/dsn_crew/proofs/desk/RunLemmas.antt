@@ -1,4 +1,5 @@
--- Runs: what one request, with its letter handed on or not, adds to a run, and one run after another.
+-- Runs: what one request adds to a run, with its letter passed on or not, and one run after
+-- another.
 use Rattle.std.proofs.Common.{◌≡◌, ℕ, zero, suc, inl, inr, ◌+◌, ◌-◌, ◌<◌, ◌==◌, ◌&&◌, not, Bool, true, false, ◌||◌, List, [], ◌∷◌, ◌++◌, length, take, refl, ap, sym, ◌∙◌, subst, append_assoc, length-append, true≢false, eq-eqb, arith}
 use Rattle.std.specs.Prelude.{Result, Ok, Err, is_err, Some, None}
 use Rattle.std.proofs.lemmas.Bool.{false≢true}
@@ -85,7 +86,7 @@ module _ {B : Type 0} (keeper : Keeper B) where
   stopped_behind old new (inl same) = ([], append-nil old.behind ∙ sym (ap (λ (desk : Desk B). desk.behind) same))
   stopped_behind old new (inr unkept) = (new.behind, ap (λ (q : List Request). q ++ new.behind) unkept.1)
 
-  -- where nothing was moved and then nothing again, nothing was
+  -- if nothing was moved, and then nothing again, nothing was moved at all
   unmoved_then : (old mid new : Desk B) (result : Result (Unit {0}) DeskFault) → mid ≡ old → IsUnmoved keeper mid new result → IsUnmoved keeper old new result
   unmoved_then old mid new (Ok done) same then = then ∙ same
   unmoved_then old mid new (Err fault) same then = subst (λ (desk : Desk B). HasStopped keeper desk new) same then

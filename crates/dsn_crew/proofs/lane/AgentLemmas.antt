@@ -7,12 +7,12 @@ use Rattle.std.proofs.lemmas.List.Elements.{filter-append}
 use Rattle.dsn_outcome.specs.Agents.{from_agent}
 use Rattle.dsn_crew.specs.lane.Lane.{IsNumbered}
 
--- where two lists meet stands the first item of the second
+-- the item after `front` is at the place `length front`
 pub get_seam : {T : Type 0} (front : List T) (item : T) (rest : List T) → slice_get (front ++ item ∷ rest) (length front) ≡ Some item
 get_seam [] item rest = refl
 get_seam (first ∷ front) item rest = get_seam front item rest
 
--- an item of a list with one more stands in the list, or it is that one
+-- an item of a list with one more is an item of the list, or the last one
 pub get_snoc : {T : Type 0} (front : List T) (last : T) (place : ℕ) (item : T) → slice_get (front ++ last ∷ []) place ≡ Some item → (slice_get front place ≡ Some item) ⊎ ((place ≡ length front) × (last ≡ item))
 get_snoc [] last zero item at = inr (refl, cc)
 get_snoc [] last (suc place) item at = absurd cc
@@ -46,7 +46,7 @@ pub numbered_none : {T : Type 0} (number : T → ℕ) → IsNumbered number []
 numbered_none number place item at = absurd cc
 
 module _ {T : Type 0} (agent : T → ℕ) where
-  -- where an item of an agent stands in a list, it stands behind those of its agent that are before it
+  -- the items of an agent in a list that is split at one of them
   pub seam_mine : (a : ℕ) (front : List T) (item : T) (rest : List T) → agent item ≡ a → from_agent agent a (front ++ item ∷ rest) ≡ from_agent agent a front ++ item ∷ from_agent agent a rest
   seam_mine a front item rest is =
       filter-append (λ it. agent it == a) front (item ∷ rest)

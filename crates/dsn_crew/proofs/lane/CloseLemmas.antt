@@ -23,7 +23,7 @@ use Rattle.dsn_crew.specs.declared.lane.lane_knowledge.LaneKnowledge.TheVariants
 
 -- ---- lists of halves
 
--- where a list around an item has one item, it is that one
+-- if a list with `x` in it has one item, the item is `x`
 only_one : {A : Type 0} (front : List A) (x y : A) (rest : List A) → front ++ x ∷ rest ≡ y ∷ [] → x ≡ y
 only_one [] x y rest e = cc
 only_one (first ∷ []) x y rest e = absurd cc
@@ -213,7 +213,7 @@ all_joined {T} capacity most old before own after halves left last all is joined
     in
     after_is ∙ ((λ i. after_join (then i) (own_is i)) ∙ ap (λ (es : List (Sending T)). Takes capacity (record { made = known.made; taken = known.taken; back = es })) back)
 
--- what a lane has come to: what was taken, what waits, and that both together are what its halves sent
+-- a closed lane: what was taken, what waits, and that both together are what its halves sent
 pub record IsShut {T : Type 0} (agent number : T → ℕ) (halves : List (Half T)) (out : Out T) (count sent : ℕ) : Type 0 where
   pub taken : count ≡ length out.taken
   pub below : count ≤ sent

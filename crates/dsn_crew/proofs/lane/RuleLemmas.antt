@@ -26,7 +26,7 @@ all_set {V} P views pass view here others p v at =
     ⊎_elim (λ (it : (p ≡ pass) × (view ≡ v)). subst (λ (y : ℕ × V). P y.0 y.1) (λ i. (sym it.0 i, it.1 i)) here)
     (λ (it : (p ≢ pass) × (get_elem? views p ≡ some v)). others p v it.0 it.1) (at_set views pass p view v at)
 
--- a pass among one more is one of those before, or it is that one, which stands last
+-- a pass among these and one more is one of these, or the last one
 at_last : {V : Type 0} (views : List V) (view : V) (p : ℕ) (v : V) → get_elem? (views ++ view ∷ []) p ≡ some v → (get_elem? views p ≡ some v) ⊎ ((p ≡ length views) × (view ≡ v))
 at_last [] view zero v at = inr (refl, some-injective view v at)
 at_last [] view (suc p) v at = absurd (some-ne-none v (sym at))

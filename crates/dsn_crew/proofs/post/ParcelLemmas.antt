@@ -129,7 +129,7 @@ abbrev later_parcels : List Parcel → List Parcel
 later_parcels [] = []
 later_parcels (parcel ∷ rest) = rest
 
--- where the end mark was taken all letters were
+-- if the end mark was taken, all letters were taken
 marked_from : (number : ℕ) (taken sent : List Letter) (marked : Bool) (rest : List Parcel) → parcels_from number taken true ++ rest ≡ parcels_from number sent marked → taken ≡ sent
 marked_from number [] [] marked rest same = refl
 marked_from number [] (letter ∷ sent) marked rest same = absurd (none-some letter (ap first_letter same))

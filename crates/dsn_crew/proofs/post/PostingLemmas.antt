@@ -1,24 +1,16 @@
 -- Posting: what a lane of letters said at its end.
-use Rattle.std.proofs.Common.{◌≡◌, ◌↔◌, ◌+◌, ◌≤◌, Bool, true, List, [], ◌∷◌, ◌++◌, length, refl, ap, sym, ◌∙◌, true≢false, length-append, arith}
+use Rattle.std.proofs.Common.{◌≡◌, ◌↔◌, ℕ, ◌+◌, ◌≤◌, Bool, true, List, [], ◌∷◌, ◌++◌, length, refl, ap, sym, ◌∙◌, true≢false, length-append, arith}
 use Rattle.std.specs.Prelude.{Option, Some, None, is_none}
 use Rattle.std.proofs.lemmas.Option.{none-some}
 use mathlib.Core.List.{IsPrefix}
 use Rattle.dsn_outcome.specs.Letter.{Letter}
 use Rattle.dsn_crew.specs.declared.lane.lane_gone.LaneGone.{LaneGone}
 
--- there is one letter at least after one more
-pub some_left : (letters : List Letter) (letter : Letter) → letters ++ letter ∷ [] ≡ [] → ⊥
-some_left letters letter none =
-    let long = ap length none in
-    let split = length-append letters (letter ∷ []) in omega arith
+-- no more letters are left than came, if none was left before
+pub left_within : (end letters : List Letter) (unsent before : ℕ) → length end ≤ unsent → before ≡ 0 → unsent ≤ before + length letters → length end ≤ length letters
+left_within end letters unsent before is none few = omega arith
 
--- no more letters are left than came, where none was left before
-pub left_within : (end unsent before letters : List Letter) → end ≡ unsent → before ≡ [] → length unsent ≤ length before + length letters → length end ≤ length letters
-left_within end unsent before letters is none few =
-    let same = ap length is in
-    let empty = ap length none in omega arith
-
--- the first letters of none are none
+-- a prefix of an empty list is empty
 pub none_first : (letters sent : List Letter) → IsPrefix letters sent → sent ≡ [] → letters ≡ []
 none_first [] sent is none = refl
 none_first (letter ∷ rest) sent is none =

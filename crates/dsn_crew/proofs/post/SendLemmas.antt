@@ -14,8 +14,6 @@ use Rattle.dsn_crew.proofs.LaneSendLemmas.{closure_send}
 use Rattle.dsn_crew.proofs.lane.lane_out.LaneOut.TheSendSync as lane_out
 use Rattle.dsn_crew.specs.contracts.lane.lane_out.LaneOut as LaneOut
 use Rattle.dsn_outcome.proofs.SendLemmas.{letter_send}
-use Rattle.dsn_report.proofs.SendLemmas.{outgoing_send}
-use Rattle.dsn_report.specs.contracts.outgoing.Outgoing as Outgoing
 use Rattle.dsn_crew.specs.contracts.post.letter_source.LetterSource as LetterSource
 use Rattle.dsn_crew.specs.contracts.post.parcel.Parcel as Parcel
 use Rattle.dsn_crew.specs.contracts.post.parcel.ParcelCarried.TheImpl as ParcelCarried
@@ -33,17 +31,17 @@ count_send = search sendable depth 20
 source_send : IsSend LetterSource.the_row
 source_send = search (parcels_out_send, sendable) depth 20
 
--- what the closure holds: the runtime, the poster, and the half by which the letters come
+-- what the closure holds: the runtime, the outlet, and the half by which the letters come
 abbrev pub captured : NamedLft → RattleType → RattleType → List RattleType
-captured r R W = ShrRef r.mir r.lft (param 1 R) ∷ Outgoing.the_row (param 2 W) ∷ LetterSource.the_row ∷ []
+captured r R O = ShrRef r.mir r.lft (param 1 R) ∷ param 2 O ∷ LetterSource.the_row ∷ []
 
 runtime_send : (r : NamedLft) (R : RattleType) → IsSync (param 1 R) → IsSend (ShrRef r.mir r.lft (param 1 R))
 runtime_send r R sync = search (sync, sendable) depth 20
 
-pub posts_send : (ν : Sym) (r : NamedLft) (R W : RattleType) → IsSync (param 1 R) → IsSend (param 2 W) → IsSend (TupleAt ν (captured r R W))
-posts_send ν r R W sync send = closure_send ν (captured r R W) (runtime_send r R sync, (outgoing_send (param 2 W) send, (source_send, tt)))
+pub posts_send : (ν : Sym) (r : NamedLft) (R O : RattleType) → IsSync (param 1 R) → IsSend (param 2 O) → IsSend (TupleAt ν (captured r R O))
+posts_send ν r R O sync send = closure_send ν (captured r R O) (runtime_send r R sync, (send, (source_send, tt)))
 
-pub posting_send : (W : RattleType) → IsSend (param 2 W) → IsSend (Posting.the_row (param 2 W))
-posting_send W send =
-    declared_send (Posting.the_type (param 2 W))
-    (as_row_send (row_field (Outgoing.the_row (param 2 W))) (outgoing_send (param 2 W) send), (count_send, (as_row_send (row_field LetterSource.the_row) source_send, (search (option.the_field_send, sendable) depth 20, tt))))
+pub posting_send : (O : RattleType) → IsSend (param 2 O) → IsSend (Posting.the_row (param 2 O))
+posting_send O send =
+    declared_send (Posting.the_type (param 2 O))
+    (as_row_send (row_field (param 2 O)) send, (count_send, (as_row_send (row_field LetterSource.the_row) source_send, (search (option.the_field_send, sendable) depth 20, tt))))

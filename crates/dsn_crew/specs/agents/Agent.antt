@@ -1,4 +1,4 @@
--- Agents: what contracts see of an agent and its halves, and what a request of it comes to.
+-- Agents: what contracts see of an agent and its halves, and the result of a request.
 use Rattle.std.specs.Prelude.{◌≡◌, ◌≢◌, ℕ, ◌+◌, ◌<◌, ◌≤◌, Bool, true, false, List, [], ◌∷◌, ◌++◌, All, length, Some, None, Result, Ok, Err}
 use Rattle.dsn_text.specs.FaultCode.{lane_lost_code, used_up_code}
 use Rattle.dsn_crew.specs.lane.Halves.{Half, Out}
@@ -25,7 +25,7 @@ pub record LaneHalves : Type 0 where
   pub requests : Half Request
   pub answers : Out Answer
 
--- the request of an agent that has this body, and the answer to it that is so replied
+-- an agent's next request, with this body, and the answer to it with this reply
 abbrev pub request_with : LaneHalves → Body → Request
 request_with halves body =
     record { agent = halves.requests.agent; number = length halves.requests.sent; body = body }
@@ -83,8 +83,8 @@ with_halves agent halves = record { halves = halves; limit = agent.limit; lost =
 abbrev pub losing : Agent → LaneHalves → Agent
 losing agent halves = record { halves = halves; limit = agent.limit; lost = true }
 
--- what an ask comes to: once a lane was lost, every ask is lost with its body; at the limit the
--- agent stays as it is
+-- the result of an ask. An agent that has lost a lane gets `Lost` with the body at every later ask.
+-- At the limit the agent gets `Limit`, and stays as it is
 abbrev pub IsAsk : Agent → Body → Agent → Result Answer AskFault → Type 0
 IsAsk old body new (Ok answer) =
     MayAsk old × (answer ≡ answer_with old.halves (replied_in answer))
@@ -101,8 +101,8 @@ IsAsk old body new (Err (Limit back)) =
 abbrev pub Stays : List Request → Type 0
 Stays requests = All (λ (request : Request). request.body ≢ Bye) requests
 
--- what every agent keeps: it makes no more requests than it may, and `most_requests` at most; it has not
--- said goodbye; and while no lane was lost it has an answer to each request
+-- what every agent keeps. It makes no more requests than it may, and `most_requests` at most. It
+-- has not said goodbye. While no lane was lost, it has an answer to each request
 pub record IsAgent (agent : Agent) : Type 0 where
   pub limited : length agent.halves.requests.sent ≤ agent.limit
   pub few : agent.limit ≤ most_requests
@@ -110,15 +110,15 @@ pub record IsAgent (agent : Agent) : Type 0 where
   pub answered : agent.lost ≡ false
       → length agent.halves.answers.taken ≡ length agent.halves.requests.sent
 
--- what a goodbye comes to: it is the agent's last request, and Gone is the answer to it; or a lane
--- is lost
+-- the result of a goodbye. If it was heard, it is the agent's last request, and Gone is the answer
+-- to it. Otherwise a lane was lost
 abbrev pub IsGoodbye : Agent → Result LaneHalves AskFault → Type 0
 IsGoodbye old (Ok finished) = (old.lost ≡ false) × (finished ≡ after_reply old.halves Bye (plain Gone))
 IsGoodbye old (Err (Lost (Some back))) = body_of back ≡ Bye
 IsGoodbye old (Err (Lost None)) = old.lost ≡ false
 IsGoodbye old (Err (Limit back)) = ⊥
 
--- what the halves of an agent that said goodbye keep: what it sent ends with its only goodbye, what
+-- what the halves of an agent that said goodbye keep. What it sent ends with its only goodbye, what
 -- it was answered ends with Gone, and it has an answer to each request
 pub record IsFinished (halves : LaneHalves) : Type 0 where
   pub answered : length halves.answers.taken ≡ length halves.requests.sent

@@ -1,5 +1,5 @@
--- Ports: what a port gives, the connections that it tells, the sessions of the agent that serves
--- them, and what the agent comes to.
+-- Ports: what a port gives, the connections that it exposes, the sessions of the agent that serves
+-- them, and the result for the agent.
 use Rattle.std.specs.Prelude.{◌≡◌, ◌≢◌, ℕ, ◌+◌, ◌<◌, ◌⊎◌, Bool, true, false, List, [], ◌∷◌, ◌++◌, length, filter, replicate, Option, Some, None, is_some}
 use Rattle.std.specs.List.{AllZip, flat_map}
 use Rattle.dsn_device.specs.Failures.{most_failures}
@@ -29,20 +29,21 @@ given_of (next.Conn stream) = connection
 given_of next.Done = done
 given_of next.Failed = failed
 
--- an answer of a port, by what the port may give before it and after it: it may give that answer,
--- and after it whatever it may give then
+-- an answer of a port, by what the port may give before it and after it. Before it, the port may
+-- give this answer alone, and this answer followed by anything that it may give after it
 pub record GivesFirst (before after : List Given → Type 0) (answer : Given) : Type 0 where
   pub alone : before (answer ∷ [])
   pub first : (rest : List Given) → after rest → before (answer ∷ rest)
 
--- all that a port gave: so many connections, and then its last answer, if it was asked once more
+-- all answers of a port that gave this number of connections, and then its last answer, if it was
+-- asked once more
 abbrev pub all_given : ℕ → Option Given → List Given
 all_given connections None = replicate connections connection
 all_given connections (Some last) = replicate connections connection ++ last ∷ []
 
--- the last answer of a port that gave so many connections: that it is done, or that it failed, which
--- is known; or there is none, where a lane was lost, or as many connections were served as an agent
--- serves
+-- the last answer of a port that gave this number of connections. It was done, or it failed, as
+-- `port_failed` says, and no lane was lost. There is no last answer if a lane was lost, or if the
+-- agent served as many connections as an agent may serve
 abbrev pub IsLastGiven : ℕ → Bool → Bool → Option Given → Type 0
 IsLastGiven connections lost port_failed None =
     (port_failed ≡ false) × ((lost ≡ true) ⊎ (connections ≡ most_connections))
@@ -58,24 +59,24 @@ pub record HasGiven (may_give : List Given → Type 0) (line : AgentLine) (lost 
   pub gave : may_give (all_given line.connections last)
   pub ends : IsLastGiven line.connections lost line.port_failed last
 
--- ---- what a port tells
+-- ---- what a port exposes
 
--- a connection that a port tells before it gives it: the bytes that its stream will give, and
+-- a connection that a port exposes before it gives it: the bytes that its stream will give, and
 -- whether the stream may fail. A port whose connections are known never answers `Failed`
 pub record Conn : Type 0 where
   pub bytes : List ℕ
   pub may_fail : Bool
 
--- the stream of this connection. One that may not fail is steady, and its count of failures isn't
--- at its end, so that a failure would show
+-- the stream of this connection. If it may not fail, it is steady, and its count of failures is
+-- below the maximum, so that a failure would be counted
 pub record IsStream {S : Type 0} (source : Source S) (conn : Conn) (stream : S) : Type 0 where
   pub bytes : source.remaining stream ≡ Some conn.bytes
   pub steady : conn.may_fail ≡ false
       → source.steady stream × (source.failures stream < most_failures)
 
--- what a port gives, from the connections that it told before to those that it tells then: the
--- first of them while there is one, and then it is done. One that doesn't tell claims nothing, and
--- doesn't begin to tell
+-- what a port gives, by the connections that it exposes before and after. It gives the first of
+-- them while there is one, and then it is done. A port that exposes none claims nothing, and
+-- exposes none afterwards
 abbrev pub Gives : {S : Type 0} → Source S → Option (List Conn) → Option (List Conn) → Next S
     → Type 0
 Gives source None new given = new ≡ None
@@ -89,9 +90,9 @@ Gives source (Some (conn ∷ rest)) new next.Failed = ⊥
 
 -- ---- the sessions over a port's connections
 
--- one session: what its stream had still to give at its start and at its end, the bodies of the
--- frames that were taken, those that were asked, the answers, and the number of the session's end,
--- if it didn't end well
+-- one session. `start` and `left` are what its stream had still to give at its start and at its
+-- end. `frames` are the bodies of the frames that were taken, and `bodies` those that were asked.
+-- `end` is the number of the session's fault, if it had one
 pub record Session : Type 0 where
   pub start : Option (List ℕ)
   pub left : Option (List ℕ)
@@ -111,8 +112,8 @@ answers_of sessions = flat_map (λ (session : Session). session.answers) session
 abbrev pub faults_of : List Session → ℕ
 faults_of sessions = length (filter (λ (session : Session). is_some session.end) sessions)
 
--- the session of an agent with this limit, after so many accepted requests: it is what its stream's
--- bytes make it
+-- a session of an agent with this limit, after this number of accepted requests, as the bytes of
+-- its stream determine it
 abbrev pub IsSessionAt : ℕ → ℕ → Session → Type 0
 IsSessionAt limit accepted session =
     IsSession Connection limit accepted session.start session.left session.frames session.bodies
@@ -124,15 +125,15 @@ AreSessions limit accepted [] = Unit {0}
 AreSessions limit accepted (session ∷ rest) =
     IsSessionAt limit accepted session × AreSessions limit (accepted + length session.bodies) rest
 
--- a session over this connection: over its bytes; and where its stream may not fail it doesn't end
--- with a read or a write that failed
+-- a session over this connection: over its bytes. If its stream may not fail, the session doesn't
+-- end with a failed read or a failed write
 pub record IsOver (conn : Conn) (session : Session) : Type 0 where
   pub bytes : session.start ≡ Some conn.bytes
   pub steady : conn.may_fail ≡ false → (session.end ≢ Some read_failed_code) × (session.end ≢ Some connection_write_code)
 
--- the sessions over the connections of a port that tells them: one over each, in order, from the
--- first on. None is left but those beyond the `most_connections` that an agent serves, unless a lane
--- was lost; and the port is not said to have failed
+-- the sessions over the connections of a port that exposes them: one over each, in order, from the
+-- first on. Unless a lane was lost, no connection is left, or the agent served `most_connections`.
+-- The port is not said to have failed
 pub record AreOverConns (conns : List Conn) (sessions : List Session)
     (lost port_failed : Bool) : Type 0 where
   pub served : List Conn
@@ -142,7 +143,7 @@ pub record AreOverConns (conns : List Conn) (sessions : List Session)
   pub all : lost ≡ false → (left ≡ []) ⊎ (length sessions ≡ most_connections)
   pub good : port_failed ≡ false
 
--- of a port that doesn't tell nothing is claimed
+-- if a port doesn't expose its connections, nothing is claimed of its sessions
 abbrev pub AreOverPort : Option (List Conn) → List Session → Bool → Bool → Type 0
 AreOverPort None sessions lost port_failed = Unit {0}
 AreOverPort (Some conns) sessions lost port_failed = AreOverConns conns sessions lost port_failed

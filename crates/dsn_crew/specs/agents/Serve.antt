@@ -1,5 +1,5 @@
--- Sessions of an agent: what became of one connection, of the agent that served it, and of the
--- answers' frames.
+-- Sessions of an agent: the result of serving one connection, the agent after it, and the frames of
+-- the answers.
 use Rattle.std.specs.Prelude.{◌≡◌, ◌≢◌, ℕ, suc, Bool, true, false, ◌||◌, ◌⊎◌, List, [], ◌∷◌, ◌++◌, All, length, Result, IfOk}
 use Rattle.std.specs.List.{flat_map}
 use Rattle.std.specs.Result.{result_err}
@@ -22,7 +22,7 @@ use Rattle.dsn_frame.specs.declared.session.Served.{Served}
 
 -- ---- the agent after a session
 
--- items made of other ones and of their numbers, which count on from this one
+-- items made from others and from their numbers, which count up from the given one
 unfoldable pub numbered_from : {A B : Type 0} → (ℕ → A → B) → ℕ → List A → List B
 numbered_from make number [] = []
 numbered_from make number (item ∷ rest) = make number item ∷ numbered_from make (suc number) rest
@@ -64,15 +64,14 @@ after_requests agent bodies replies lost = record {
   lost = agent.lost || lost;
 }
 
--- each body that was sent has a reply, but for the last one where the collector was found gone
--- after that
+-- each body that was sent has a reply; if a lane was lost, the last one may have none
 abbrev pub AreReplied : Bool → ℕ → ℕ → Type 0
 AreReplied false bodies replies = bodies ≡ replies
 AreReplied true bodies replies = (bodies ≡ replies) ⊎ (bodies ≡ suc replies)
 
--- what an agent that serves comes to: it sent requests with these bodies, and got the replies among
--- these answers; where a lane was lost before, it sent none, and answered nobody that its requests are
--- used up
+-- an agent that has served: it sent requests with these bodies, and got the replies among these
+-- answers. If it had lost a lane before, it sent none, and answered no frame that the agent's
+-- requests are used up
 pub record HasAsked (old new : Agent) (bodies : List Body) (answers : List Spoken)
     (lost : Bool) : Type 0 where
   pub agent_is : new ≡ after_requests old bodies (flat_map reply_of answers) lost
@@ -82,9 +81,11 @@ pub record HasAsked (old new : Agent) (bodies : List Body) (answers : List Spoke
 
 -- ---- a session
 
--- what serving one connection came to: a session over what the stream had to read; the requests of
--- its bodies, and their answers, at the agent; the frames of what its frames were told of these
--- answers, in the stream, which failed once where that ended the session
+-- the result of serving one connection. `session`: it is a session over what the stream had to
+-- read. `asked`: the agent sent the requests of its bodies, and got their replies. `written`: the
+-- frames of the answers are in the stream, each as its own frame's version has it. `answered`:
+-- without a fault, the result counts the answers. `counts`: the stream failed once, if a failure of
+-- it ended the session
 pub record IsServed {S : Type 0} (source : Source S) (drain : Drain S) (old new : Agent)
     (before after : S) (result : Result Served ServeFault) : Type 0 where
   pub frames : List (List ℕ)

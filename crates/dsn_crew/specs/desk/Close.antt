@@ -1,4 +1,4 @@
--- Closes: which agents are those of a collector, and what a crew that is closed came to.
+-- Closes: which agents are those of a collector, and the result of closing a crew.
 use Rattle.std.specs.Prelude.{◌≡◌, List, All, Contains, map}
 use Rattle.dsn_book.specs.declared.keeper.Keeper.{Ghosts as Keeper}
 use Rattle.dsn_outcome.specs.Agents.{from_agent}
@@ -13,7 +13,7 @@ abbrev pub AreCrew : {B : Type 0} → List LaneHalves → Desk B → Type 0
 AreCrew crew desk = map lanes_of crew ≡ agent_lanes_of desk
 
 -- all that an agent sent was taken, in that order, and it got just the answers that the history
--- gives it, after the one that the collector began with
+-- gives it. That history follows the one that the collector began with
 pub record IsHeard {B : Type 0} (keeper : Keeper B) (before : List Exchange) (desk : Desk B)
     (halves : LaneHalves) : Type 0 where
   pub taken : from_agent

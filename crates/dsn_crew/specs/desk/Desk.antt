@@ -21,10 +21,11 @@ use Rattle.dsn_crew.specs.declared.desk.desk_fault.DeskFault.{DeskFault}
 use Rattle.dsn_crew.specs.declared.desk.desk_fault.DeskFault.TheVariants.{Requests, Answers, Letters}
 use Rattle.dsn_crew.specs.KeeperHistory.{BeginsWith, StandsOrRefused, AreNextOf}
 
--- the collector: its keeper when it began, and its keeper now; the half by which it takes requests,
--- with those that it has carried out, and the requests behind these that it took and didn't carry out
--- so far; the halves by which it answers, agent by agent; the number of agents that never start, as
--- far as it knows; whether it failed; and why those behind were not kept, if they weren't
+-- the collector. `start` is its keeper when it began, `book` its keeper now. `requests` is the half
+-- by which it takes requests, with those that it has carried out; `behind` are those that it took
+-- and hasn't carried out so far. `answers` are the halves by which it answers, agent by agent.
+-- `missed` is the number of agents that never start, as far as it knows. `unkept` is why those
+-- behind were not kept, if they weren't
 pub record Desk (B : Type 0) : Type 0 where
   pub start : B
   pub book : B
@@ -234,10 +235,10 @@ abbrev pub IsUnmoved :
 IsUnmoved keeper old new (Ok done) = new ≡ old
 IsUnmoved keeper old new (Err fault) = HasStopped keeper old new
 
--- A run of the collector: the requests that it carried out, those behind first, each taken while
--- agents were left, and none once it had failed; and the letters that it passed on, which are those
--- that these requests sealed, in order, except the one that the fault holds. A run that carried none
--- out leaves the collector unchanged, except that it has failed if there is a fault
+-- A run of the collector. It carried out `more`, those behind first, each taken while agents were
+-- left, and none once it had failed. It passed on the letters that these requests sealed, in order,
+-- except the one that the fault holds. A run that carried none out leaves the collector unchanged,
+-- except that it has failed if there is a fault
 pub record IsRun {B S : Type 0} (keeper : Keeper B) (before : List Exchange)
     (takes : S → Letter → S → Type 0) (old new : Desk B) (sink after : S)
     (result : Result (Unit {0}) DeskFault) : Type 0 where

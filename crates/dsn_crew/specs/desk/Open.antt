@@ -43,8 +43,8 @@ pub record IsLine (agent : ℕ) (half : Half Answer) : Type 0 where
 abbrev pub AreLines : List (Half Answer) → Type 0
 AreLines halves = (a : ℕ) (d : Half Answer) → a < length halves → IsLine a (slice_index_or halves a d)
 
--- a crew of the given number of agents over a keeper, before the first request: each agent has the
--- lane on which it asks, and the one on which the collector answers it; at most `requests_waiting`
+-- a crew of the given number of agents over a keeper, before the first request. Each agent has the
+-- lane on which it asks, and the one on which the collector answers it. At most `requests_waiting`
 -- requests wait, and at most 1 answer to an agent
 pub record IsOpened {B : Type 0} (keeper : Keeper B) (start : B) (agents : ℕ) (crew : List Agent)
     (desk : Desk B) : Type 0 where

@@ -1,4 +1,4 @@
--- Agents: what contracts see of an agent and its halves, and what a request of it comes to.
+-- Of private parts: the result of an exchange, of a goodbye, and of the service of a port.
 use Rattle.std.specs.Prelude.{◌≡◌, Option, Some, None, Result, Ok, Err, Bool, true, false, ◌≢◌, ◌≤◌, List, All, length, ◌++◌, IfSome, [], ◌∷◌, ℕ}
 use Rattle.dsn_crew.specs.agents.Agent.{LaneHalves, with_sent, answer_with, after_reply, Agent}
 use Rattle.dsn_crew.specs.agents.Port.{most_connections, Given, HasGiven, Conn, Session, bodies_of, answers_of, faults_of, AreSessions, AreOverPort, all_given}
@@ -30,12 +30,12 @@ use Rattle.dsn_outcome.specs.declared.answer.Reply.TheVariants.{Gone}
 use Rattle.dsn_outcome.specs.declared.body.Body
 use Rattle.dsn_text.specs.FaultCode.{lane_lost_code, used_up_code}
 
--- a body that has no answer is not sent, and handed back; or it is sent
+-- a body that got no answer: it was not sent, and is returned; or it was sent
 abbrev pub IsUnanswered : LaneHalves → Body → LaneHalves → Option Body.Body → Type 0
 IsUnanswered old body new (Some back) = (body_of back ≡ body) × (new ≡ old)
 IsUnanswered old body new None = new ≡ with_sent old body
 
--- what a body that is sent comes to: the answer to it, or none
+-- the result of an exchange: the answer to the body, or none
 abbrev pub IsExchange : LaneHalves → Body → LaneHalves → Result Answer Unanswered → Type 0
 IsExchange old body new (Ok answer) =
     (answer ≡ answer_with old (replied_in answer))
@@ -51,21 +51,22 @@ is_unsent Answered = false
 abbrev pub was_unsent : Unheard → Type 0
 was_unsent unheard = is_unsent unheard.cause ≡ true
 
--- what a goodbye that says why it was not heard comes to
+-- the result of a goodbye that says why it was not heard. An agent that had lost a lane doesn't
+-- send it
 abbrev pub IsLeave : Agent → Result LaneHalves Unheard → Type 0
 IsLeave old (Ok finished) = (old.lost ≡ false) × (finished ≡ after_reply old.halves Bye (plain Gone))
 IsLeave old (Err unheard) = old.lost ≡ true → was_unsent unheard
 
--- the fault that a goodbye answers where it was not heard
+-- the fault that a goodbye returns if it was not heard. If the body isn't returned, it was sent
 abbrev pub IsFaultOf : Unheard → AskFault → Type 0
 IsFaultOf unheard (Limit back) = ⊥
 IsFaultOf unheard (Lost (Some back)) = body_of back ≡ Bye
 IsFaultOf unheard (Lost None) = is_unsent unheard.cause ≡ false
 
--- what serving the connections of a port comes to, up to the goodbye: what the port gave, and these
--- sessions, one over each connection; what they asked, and the replies among their answers, are
--- what the agent asked and got, in order; its line counts them. Where it lost no lane, none of them
--- ended so
+-- the result of serving the connections of a port, up to the goodbye: what the port gave, and these
+-- sessions, one over each connection. The agent asked what the sessions asked, and got the replies
+-- among their answers, in order; its line counts them. If it lost no lane, no session ended with
+-- that
 pub record HasServed (conns : Option (List Conn)) (may_give : List Given → Type 0)
     (old new : Agent)
     (line : AgentLine) : Type 0 where
@@ -81,8 +82,8 @@ pub record HasServed (conns : Option (List Conn)) (may_give : List Given → Typ
   pub connections : line.connections ≡ length sessions
   pub faults : line.faults ≡ faults_of sessions
 
--- the same, and nothing beside was asked of the port: whatever it may give now it may have given
--- after all that is known
+-- the same, and the port was asked for nothing else: whatever it may give now, it may have given
+-- after all these answers
 pub record HasServedOnly (conns : Option (List Conn)) (may_give may_now : List Given → Type 0)
     (old new : Agent)
     (line : AgentLine) : Type 0 where
@@ -90,8 +91,8 @@ pub record HasServedOnly (conns : Option (List Conn)) (may_give may_now : List G
   pub only : (rest : List Given)
       → may_now rest → may_give (all_given line.connections served.gave.last ++ rest)
 
--- what serving a port comes to: its connections were served, and then the agent said goodbye and
--- was heard; else a lane was lost, and the line says what was served before
+-- the result of serving a port: its connections were served, as the line says, and then the agent
+-- said goodbye. It has finished only if it lost no lane, and its goodbye was answered Gone
 pub record IsPortServed (conns : Option (List Conn)) (may_give : List Given → Type 0)
     (agent : Agent) (end : PortEnd) : Type 0 where
   pub last : Agent
@@ -99,13 +100,13 @@ pub record IsPortServed (conns : Option (List Conn)) (may_give : List Given → 
   pub goodbye : IfSome end.finished
       (λ (finished : LaneHalves). (served.lost ≡ false) × (finished ≡ after_reply last.halves Bye (plain Gone)))
 
--- what a frame is answered whose body was asked: none where the collector is gone
+-- the turn of a frame whose body was asked; none if the collector is gone
 abbrev pub asked_turn : Result Answer AskFault → Option Turn
 asked_turn (Ok answer) = Some (record { answer = spoken.Reply (replied_in answer); over = false })
 asked_turn (Err (asks.Limit body)) = Some (record { answer = spoken.Refused used_up_code; over = false })
 asked_turn (Err (asks.Lost back)) = None
 
--- the answers that one frame has: none where the collector is gone
+-- the answers to one frame; empty if the collector is gone
 abbrev pub answer_in : Option Turn → List Spoken
 answer_in None = []
 answer_in (Some turn) = turn.answer ∷ []
@@ -119,15 +120,16 @@ abbrev pub has_lost : Option Turn → Bool
 has_lost None = true
 has_lost (Some turn) = false
 
--- what a frame at its place came to, and what it left of the agent
+-- the turn of the frame at this place, and the agent after it
 pub record IsTurn (old new : Agent) (place : ℕ) (bytes : List ℕ) (turn : Option Turn) : Type 0 where
   pub bodies : List Body
   pub takes : Takes Connection old.limit (length old.halves.requests.sent) place bytes bodies
       (answer_in turn) (turn_end turn)
   pub asked : HasAsked old new bodies (answer_in turn) (has_lost turn)
 
--- what an agent answered of a session: these bodies were asked, and the frames of the answers are in
--- the stream; by whether the collector was found gone, the last frame lost, and the stream failed
+-- what an agent answered in a session: these bodies were asked, and the frames of the answers are
+-- in the stream. `gone` says whether the collector was found gone, `unwritten` whether the last
+-- frame was lost, and `failed` whether the stream failed
 pub record HasAnswered {S : Type 0} (source : Source S) (drain : Drain S) (old new : Agent)
     (before after : S) (frames : List (List ℕ)) (bodies : List Body) (answers : List Spoken)
     (gone unwritten failed : Bool) : Type 0 where

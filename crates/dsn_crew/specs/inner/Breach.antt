@@ -22,8 +22,8 @@ abbrev pub HasFailedBy : {B : Type 0} → Keeper B → Option (Snapshot (Desk B)
 HasFailedBy keeper None breach = ⊥
 HasFailedBy keeper (Some desk) breach = IsStopped keeper desk.value breach
 
--- of a run with this collector, if it had one: one whose collector is named as full took all that
--- it may, and one in which a request was not kept had it refused by its keeper
+-- what a breach shows of a run with this collector, if it had one. If the collector is named as
+-- full, it took all that it may. If a request was not kept, the collector's keeper refused it
 abbrev pub IsShown : {B : Type 0} → Keeper B → Option (Snapshot (Desk B)) → Breach → Type 0
 IsShown keeper desk (CollectorGone gone) = Unit {0}
 IsShown keeper desk (Unheard unheard) = Unit {0}

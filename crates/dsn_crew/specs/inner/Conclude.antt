@@ -1,4 +1,4 @@
--- Of private parts: how a run is concluded, from how it was collected, what came of its agents, and
+-- Of private parts: how a run is concluded from the collector's result, the agents' results, and
 -- what was posted.
 use Rattle.std.specs.Prelude
 use Rattle.std.specs.Prelude.{◌≡◌, true, List, [], ◌++◌, Option, None, Some, Result, Ok, Err, is_some}
@@ -23,12 +23,13 @@ use Rattle.std.specs.declared.snapshot.Snapshot.{Snapshot}
 use Rattle.dsn_crew.specs.declared.crew_cause.CrewCause.{CrewCause}
 use Rattle.dsn_crew.specs.declared.crew_cause.CrewCause.TheVariants as causes
 
--- What a breach of the agents' part shows, whatever the collector came to
+-- what a breach of the agents' part shows, whatever the collector's result is
 abbrev pub IsOfAgents : {B : Type 0} → Keeper B → Breach → Type 0
 IsOfAgents keeper breach = (desk : Option (Snapshot (Desk _))) → IsShown keeper desk breach
 
--- a collector that ended well has all agents gone. If all went well, the agents are its; if not, what
--- came of them shows why. One that has failed did so for this reason
+-- when a run may be concluded. If the collector and the agents ended well, all agents are gone, and
+-- they are the collector's. If only the collector did, the breach is one of the agents' part. If
+-- the collector failed, its breach is the reason
 abbrev pub MayClose :
     {B : Type 0} → Keeper B → Result (Desk B) (BrokenOff B) → Result Gathered Breach → Type 0
 MayClose keeper (Ok desk) (Ok gathered) =
@@ -36,7 +37,7 @@ MayClose keeper (Ok desk) (Ok gathered) =
 MayClose keeper (Ok desk) (Err breach) = IsOfAgents keeper breach
 MayClose keeper (Err broken) gathered = IsStopped keeper broken.desk.value broken.breach
 
--- what a closed crew comes to, with its outbox
+-- the account of a closed crew, with its outbox
 abbrev pub account_of :
     {B W : Type 0} → List AgentLine → List LaneHalves → Desk B → Posted W → Account W B
 account_of lines agents desk posted = record {
@@ -50,8 +51,8 @@ account_of lines agents desk posted = record {
   halves = agents;
 }
 
--- what is left of one that isn't, with the letter that the collector held, and with what carried
--- its requests out
+-- the fault of a crew that isn't closed, with the letter that the collector held, and with its
+-- keeper
 abbrev pub fault_of :
     {B W : Type 0} → CrewCause → List Letter → B → Desk B → Posted W → CrewFault W B
 fault_of cause held book desk posted =
@@ -77,7 +78,7 @@ pub record HasClosed {B W : Type 0} (keeper : Keeper B) (lines : List AgentLine)
   pub has : (before : List Exchange) → BeginsWith keeper desk.start before
       → keeper.has account.book (history keeper before desk) []
 
--- the cause of one in which the agents came to this, by whether the lane of letters was lost
+-- the cause if the agents' part ended with this breach, by whether the lane of letters was lost
 abbrev pub broken_cause : Option LaneGone → Breach → CrewCause
 broken_cause None breach = cause_of breach
 broken_cause (Some gone) breach = causes.Lost

@@ -1,4 +1,4 @@
--- Of private parts: what came of the agents' threads, taken together.
+-- Of private parts: the results of the agents' threads, taken together.
 use Rattle.std.specs.Prelude.{◌≡◌, Bool, true, false, List, [], ◌∷◌, Option, Some, None, Result, Ok, Err, is_none}
 use Rattle.std.specs.List.{list_any}
 use Rattle.dsn_crew.specs.agents.Agent.{LaneHalves}

@@ -15,7 +15,7 @@ use Rattle.dsn_crew.specs.lane.Lane.{IsNumbered, most_agents}
 use Rattle.dsn_outcome.specs.Agents.{from_agent}
 
 module _ {T : Type 0} where
-  -- what a pass stands for, and how many items its lane holds at most
+  -- the knowledge of a pass, and how many items its lane holds at most
   abbrev pub capacity_of : LaneKnowledge T → ℕ
   capacity_of (Sends capacity half) = capacity
   capacity_of (Takes capacity known) = capacity
@@ -69,12 +69,12 @@ module _ {T : Type 0} where
   abbrev pub sending_of : Half T → Sending T
   sending_of half = record { agent = half.agent; sent = half.sent }
 
-  -- so many agents from one on, which have sent nothing
+  -- the given number of agents, from `first` on, which have sent nothing
   abbrev pub fresh : ℕ → ℕ → List (Sending T)
   fresh first zero = []
   fresh first (suc more) = record { agent = first; sent = [] } ∷ fresh (suc first) more
 
-  -- what the receiving half of a lane of such a capacity knows that has passed over so many agents
+  -- the knowledge of the receiving half of a lane of this capacity that has passed over `n` agents
   abbrev pub passed_over : ℕ → ℕ → LaneKnowledge T
   passed_over capacity n = Takes capacity (record { made = n; taken = []; back = fresh 0 n })
 
@@ -84,9 +84,9 @@ module _ {T : Type 0} where
     pub mine : from_agent agent half.agent half.sent ≡ half.sent
     pub numbered : IsNumbered number half.sent
 
-  -- what the receiving half keeps while the lane is open: that it has up to `most_agents` agents;
-  -- that the halves that came back are those of the agents below the first, unused; its count,
-  -- which wraps; and that what it took of each agent is numbered from 0
+  -- what the receiving half keeps while the lane is open. It has up to `most_agents` agents. The
+  -- halves that came back are those of the agents below the first, unused. Its count wraps. What it
+  -- took of each agent is numbered from 0
   pub record IsReceiving (agent number : T → ℕ) (known : Taking T) (count : ℕ) : Type 0 where
     pub agents : (length known.back < known.made) × (known.made ≤ most_agents)
     pub passed : known.back ≡ fresh 0 (length known.back)

@@ -7,24 +7,25 @@ use Rattle.dsn_crew.specs.post.LetterSource.{LetterSource}
 use Rattle.dsn_crew.specs.post.Parcel.{Parcel}
 use Rattle.dsn_outcome.specs.Letter.{Letter}
 
--- the sending half at its end, after the end mark where that was sent
+-- the sending half at its end, after the end mark if it was sent
 pub record FinishedSink : Type 0 where
   pub lane : Identity Parcel
   pub letters : List Letter
   pub marked : Bool
 
--- the result of taking: the next letter; or none, once the end mark came or if the lane is lost
+-- the result of taking: the next letter; or none, if the end mark came, none waits, or the lane is
+-- lost
 abbrev pub HasTaken : LetterSource → LetterSource → Result (Option Letter) LaneGone → Type 0
 HasTaken old new (Ok (Some letter)) =
     (old.marked ≡ false)
     × (new ≡ record { lane = old.lane; letters = old.letters ++ letter ∷ []; marked = false })
 HasTaken old new (Ok None) =
-    (new.lane ≡ old.lane) × (new.letters ≡ old.letters) × (new.marked ≡ true)
+    (new.lane ≡ old.lane) × (new.letters ≡ old.letters)
 HasTaken old new (Err gone) =
     (new.lane ≡ old.lane) × (new.letters ≡ old.letters) × (new.marked ≡ false)
 
--- the parcels of these letters, numbered from one on, and after them the end mark where there is
--- one
+-- the parcels of these letters, numbered from `number` on, and after them the end mark if it was
+-- sent
 abbrev pub parcels_from : ℕ → List Letter → Bool → List Parcel
 parcels_from number (letter ∷ rest) marked =
     record { number = number; letter = Some letter } ∷ parcels_from (suc number) rest marked

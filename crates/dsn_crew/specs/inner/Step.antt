@@ -53,8 +53,9 @@ module _ {T : Type 0} where
   after_join Spent other = Spent
 
   module _ (agent number : T → ℕ) where
-    -- what a receive reports of the item that it takes: its agent has a half, which did not come back
-    -- empty-handed; its number is how many items of its agent were taken before
+    -- what a receive reports of the item that it takes. Its agent has a half, which did not come
+    -- back without having sent anything. Its number is how many items of its agent were taken
+    -- before
     abbrev pub IsNext : LaneKnowledge T → T → Type 0
     IsNext (Takes capacity known) item =
         (agent item < known.made)

@@ -6,8 +6,8 @@ use Rattle.crossbeam_channel.specs.declared.flavors.array.Key.{Key}
 use Rattle.dsn_outcome.specs.Agents.{from_agent}
 use Rattle.dsn_crew.specs.lane.Lane.{IsNumbered}
 
--- which lane it is: no two lanes share it; and how many items it holds at most
--- the capacity is a part, so a half that stays of its lane keeps its capacity. The kit's channel is built on
+-- which lane it is, which no two lanes share, and how many items it holds at most. The capacity is
+-- a part, so a half that stays of its lane keeps its capacity. The kit's channel is built on
 -- `atomic_table`, whose table and badges these are
 pub record Identity (T : Type 0) : Type 0 where
   pub table : TableId
@@ -34,14 +34,14 @@ pub record Lists (T : Type 0) : Type 0 where
   pub out : Out T
 
 module _ {T : Type 0} where
-  -- the halves of so many agents from one on, in their order, which have sent nothing
+  -- the halves of the given number of agents, from `first` on, in order, which have sent nothing
   abbrev pub fresh_halves : Identity T → ℕ → ℕ → List (Half T)
   fresh_halves lane first zero = []
   fresh_halves lane first (suc more) = record { lane = lane; agent = first; sent = [] }
       ∷ fresh_halves lane (suc first) more
 
-  -- what a lane with these halves has accepted: of each half's agent, what that half has sent; of no
-  -- other agent, anything; of each agent, items that are numbered from 0
+  -- what a lane with these halves has accepted. For each half's agent, it is what that half has
+  -- sent; for any other agent, it is nothing. The items of each agent are numbered from 0
   pub record IsAccepted (agent number : T → ℕ) (halves : List (Half T)) (items : List T) : Type 0 where
     pub each : All (λ (half : Half T). from_agent agent half.agent items ≡ half.sent) halves
     pub others : (a : ℕ) → from_agent (λ (half : Half T). half.agent) a halves ≡ []

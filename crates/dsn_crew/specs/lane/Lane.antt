@@ -15,9 +15,9 @@ most_agents = 16
 
 -- how many items a lane may hold at most, as it is opened
 abbrev pub most_waiting : ℕ
-most_waiting = 1024
+most_waiting = 16384
 
--- how many items a half may send at most: so many, numbered from 0, are counted in four bytes
+-- how many items a half may send at most: they are numbered from 0, and counted in four bytes
 abbrev pub most_sent : ℕ
 most_sent = 4294967295
 
@@ -31,9 +31,9 @@ module _ {T : Type 0} where
   abbrev pub back_from : ℕ → Taking T → List (Sending T)
   back_from agent receiver = from_agent (λ (half : Sending T). half.agent) agent receiver.back
 
-  -- what a pass stands for is so: `capacity` is how many items the lane holds at most, `receiver`
-  -- what the receiving half knows, `reader` its pass, `sent` what each agent has sent, and `seat`
-  -- the pass of its half
+  -- the knowledge of a pass is true. `capacity` is how many items the lane holds at most.
+  -- `receiver` is what the receiving half knows, and `reader` its pass. `sent` is what each agent
+  -- has sent, and `seat` the pass of its half
   abbrev pub Knows : ℕ → Taking T → ℕ → (ℕ → List T) → (ℕ → ℕ) → ℕ → LaneKnowledge T → Type 0
   Knows capacity receiver reader sent seat pass (Sends most half) =
       (most ≡ capacity) × (seat half.agent ≡ pass) × (sent half.agent ≡ half.sent)
@@ -42,7 +42,7 @@ module _ {T : Type 0} where
       × (reader ≡ pass) × (receiver ≡ known)
   Knows capacity receiver reader sent seat pass Spent = Unit {0}
 
-  -- `waiting` is what the lane holds, oldest first, and `tokens` what its passes stand for
+  -- `waiting` is what the lane holds, oldest first, and `tokens` the knowledge of its passes
   pub record IsLane (agent number : T → ℕ) (waiting : List T)
       (tokens : List (LaneKnowledge T)) : Type 0 where
     pub capacity : ℕ
@@ -62,6 +62,6 @@ module _ {T : Type 0} where
     pub back : (a : ℕ)
         → (back_from a receiver ≡ [])
         ⊎ (back_from a receiver ≡ record { agent = a; sent = sent a } ∷ [])
-    -- what each pass stands for is so
+    -- the knowledge of each pass is true
     pub passes : (pass : ℕ) (token : LaneKnowledge T) → get_elem? tokens pass ≡ some token
         → Knows capacity receiver reader sent seat pass token

@@ -1,12 +1,8 @@
 -- Letter sinks: what contracts see of the sending half of the lane of letters.
-use Rattle.std.specs.Prelude.{◌≡◌, ℕ, List, [], ◌∷◌, ◌++◌}
+use Rattle.std.specs.Prelude.{◌≡◌, List, [], ◌∷◌, ◌++◌}
 use Rattle.dsn_crew.specs.lane.Halves.{Identity}
 use Rattle.dsn_outcome.specs.Letter.{Letter}
 use Rattle.dsn_crew.specs.post.Parcel.{Parcel}
-
--- how many letters wait at most
-abbrev pub letters_waiting : ℕ
-letters_waiting = 16
 
 -- its lane, and the letters that it has sent, in order
 pub record LetterSink : Type 0 where

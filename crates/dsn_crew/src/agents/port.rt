@@ -1,22 +1,23 @@
-//! Where an agent's connections come from.
+//! The source of an agent's connections.
 ghost use Rattle.std.specs.Prelude.{◌≡◌};
 ghost use Rattle.dsn_crew.specs.agents.Port.{Gives, GivesFirst, connection, given_of};
 
 use crate::agents::next_connection::Next;
 use dsn_device::Stream;
 
-/// Where an agent gets the connections that it serves, one after another: a listening socket, say.
+/// The source of the connections that an agent serves, one after another: a listening socket, say.
 ///
 /// A port may expose its connections to contracts, and a port in memory does: it then gives these,
-/// and is done once none is left. One that doesn't promises nothing of their bytes.
+/// and is done once none is left. A port that doesn't expose them promises nothing about their
+/// bytes.
 ///
 /// Each port says what it may give from here on: lists of answers, each of which is a connection,
-/// that it is done, or that it failed. One over a socket may give a number of connections, say. A
-/// port that promises nothing may give anything.
+/// that it is done, or that it failed. A port over a socket may give a number of connections, say.
+/// A port that promises nothing may give anything.
 ///
-/// A port that answered that it is done, or that it failed, isn't asked again. It may say at which
-/// moments it can be asked, and then only owes that it can be after each connection: an agent knows
-/// of no other leave. One that doesn't say so can be asked at any time.
+/// A port isn't asked again once it was done or failed. It may restrict when it can be asked
+/// (`may_be_asked`), but has to allow it after each connection, when an agent asks next. By default
+/// it can be asked at any time.
 pub trait Port {
     ghost use Rattle.std.specs.Prelude.{List, Option};
     ghost use Rattle.dsn_crew.specs.agents.Port.{Conn, Given};

@@ -22,19 +22,24 @@ use std::alloc::Global;
 use std::sync::Wait;
 
 impl Agent {
-    /// Serves one connection: reads its frames, asks the collector what they ask, and answers each
-    /// frame before the next one is read: one of version 3 with the serial of the notice that it made,
-    /// if it did. It makes no flush. Memory is taken only to read a frame
-    /// that is longer than any before it on the connection, in one buffer that is kept until its
-    /// end, and for what a frame asks.
+    /// Serves one connection. Reads its frames, asks the collector what each valid body asks, and
+    /// answers each frame before it reads the next one. The answer to a frame of version 3 has the
+    /// serial of the notice that the request made, if it made one. Never flushes the stream.
     ///
-    /// A body that is refused, and one beyond the agent's requests (44), is answered so, and the
-    /// session goes on. It ends with the first of these: `Frame` (9, 11 to 14) where no frame can
-    /// be read; `Frames` (47) where there are more frames than the agent may make requests;
-    /// `Number` (46) once a number out of turn is answered; `Lost` (41) where the collector is
-    /// gone, with no answer to that frame; `WriteBack` (35) where an answer could not be written.
-    /// After any of them but `Lost` the agent can serve the next connection, unless it was lost
-    /// before.
+    /// Takes memory for what a frame asks, and for one buffer that is kept until the connection's
+    /// end. The buffer grows only for a frame that is longer than any before it on the connection.
+    ///
+    /// A refused body is answered with the number of its fault, and a body beyond the agent's
+    /// requests with 44. The session goes on after both. It ends with the first of these faults:
+    ///
+    /// - `Frame` (9, 11 to 14) if no frame can be read;
+    /// - `Frames` (47) if there are more frames than the agent may make requests;
+    /// - `Number` (46) once a body whose number is out of turn is answered;
+    /// - `Lost` (41) if the collector is gone, with no answer to that frame;
+    /// - `WriteBack` (35) if an answer could not be written.
+    ///
+    /// After any of them except `Lost` the agent can serve the next connection, unless it had lost
+    /// a lane before.
     pub fn serve<S: Stream, G: Gate>(
         &mut self,
         rt: &impl Wait,
@@ -59,7 +64,7 @@ impl Agent {
         )
     }
 
-    /// What the frame at this place of a connection is answered; none where the collector is gone.
+    /// The answer to the frame at this place of the connection; `None` if the collector is gone.
     fn answer<G: Gate>(
         &mut self,
         rt: &impl Wait,
@@ -167,7 +172,8 @@ fn turn_of(asked: Result<Answer, AskFault>) -> Option<Turn>
     })
 }
 
-/// The frame of what the frame with this body, at this place, is told of an answer.
+/// The frame that answers the frame with this body at this place. It has no serial unless that
+/// frame is of version 3.
 fn frame_told(place: u32, bytes: &[u8], answer: Spoken) -> ShortText
     ensures { result ≡ answer_bytes place (told_to bytes.now answer) }
 {

@@ -24,11 +24,13 @@ use std::marker::Model;
 use std::snapshot::Snapshot;
 use std::sync::Wait;
 
-/// The collector of a crew: it takes the agents' requests that wait, has them kept together, and
-/// has its keeper carry them out by its rules, one after another, and answers them. Contracts see
-/// the keeper, as it was at first and as it is, the requests that it carried out and those behind
-/// that it took, what it answered each agent, whether it failed, and why those behind were not kept,
-/// if they weren't.
+/// The collector of a crew. It takes the agents' requests that wait and has its keeper keep them
+/// together. The keeper then carries them out by its rules, one after another, and the collector
+/// answers them.
+///
+/// Contracts see the keeper as it was at first and as it is, the requests that were carried out,
+/// and those behind them. They see what each agent was answered, whether the collector failed, and
+/// why the requests behind were not kept, if they weren't.
 #[derive(Drop)]
 pub struct Desk<B: Keeper = Book> {
     start: Snapshot<B>,
@@ -135,11 +137,11 @@ impl<B: Keeper> Desk<B> {
     /// Takes one request and answers it. Returns the letter that it sealed, if it did. If none is
     /// behind, it takes all that wait, up to 16, and has them kept together first.
     ///
-    /// Requires that not all agents said goodbye. Returns `Requests` if no agent is left to ask, once
-    /// 4,294,967,295 requests were carried out, once the collector has failed, and if the requests
-    /// weren't kept, none of which is then carried out. Returns `Answers` if the agent that asked is
-    /// gone. From then on the collector has failed. If requests weren't kept, the keeper is what it
-    /// says of its refusal.
+    /// Requires that not all agents said goodbye. Returns `Requests` if no agent is left to ask,
+    /// once 4,294,967,295 requests were carried out, and once the collector has failed. Returns it
+    /// too if the requests weren't kept; none of them is then carried out. Returns `Answers` if the
+    /// agent that asked is gone. After an error the collector has failed. If requests weren't kept,
+    /// the keeper is as its `refuses` says.
     pub fn take_one(&mut self, rt: &impl Wait) -> Result<Option<Letter>, DeskFault>
         requires some_left { all_gone self.old ≡ false }
         ensures taken { (before : List Exchange) → BeginsWith B.Keeper self.old.start before

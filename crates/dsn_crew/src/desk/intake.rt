@@ -119,7 +119,7 @@ impl Intake {
 
     /// Gives the next request.
     ///
-    /// Requires that one is behind, and that fewer than 4,294,967,295 were given.
+    /// Requires that a request is behind, and that fewer than 4,294,967,295 were given.
     pub(crate) fn next(&mut self) -> Request
         requires some { 1 ≤ length self.old.behind }
         requires few { length self.old.requests.taken < most_taken }
@@ -177,7 +177,7 @@ fn take_together(
         if counted == agents {
             return Ok(());
         }
-        let Some(request) = lane.take_waiting(rt) else {
+        let Ok(Some(request)) = lane.take_waiting(rt) else {
             return Ok(());
         };
         counted += u64::from(request.body.is_bye());

@@ -10,8 +10,8 @@ pub struct Sending<T> {
     pub sent: LinkedList<T>,
 }
 
-/// What the receiving half knows: how many agents have been given a half, the items that it has
-/// taken, in order, and what the sending halves that it has taken back knew.
+/// What the receiving half knows: how many agents have been given a half, and the items that it has
+/// taken, in order. It also knows what the sending halves knew that it has taken back.
 pub struct Taking<T> {
     /// How many agents have been given a half.
     pub made: u64,

@@ -1,5 +1,6 @@
 //! The receiving half of a lane.
-ghost use Rattle.std.specs.Prelude.{◌≡◌, ℕ, ◌<◌, ◌≤◌, List, ◌∷◌, [], ◌++◌, length, IfNone, IfOk, IfSome, OnErr};
+ghost use Rattle.std.specs.Prelude.{◌≡◌, ℕ, ◌<◌, ◌≤◌, List, ◌∷◌, [], ◌++◌, length, IfOk, IfSome, OnErr};
+ghost use Rattle.std.specs.Option.{option_to_list};
 ghost use Rattle.crossbeam_channel.specs.Claims.{view, IsSeatAt};
 ghost use Rattle.crossbeam_channel.specs.Ends.{receives_on, ruled_capacity};
 ghost use Rattle.dsn_outcome.specs.Agents.{from_agent};
@@ -12,7 +13,7 @@ use crate::lane::lane_gone::LaneGone;
 use crate::lane::lane_knowledge::LaneKnowledge;
 use crate::lane::lane_left::LaneLeft;
 use crate::lane::lane_rule::{LaneRule, Removes};
-use crossbeam_channel::{Pass, RuledReceiver};
+use crossbeam_channel::{Pass, RuledReceiver, TryRecvError};
 use dsn_outcome::Carried;
 use std::marker::Model;
 use std::sync::Wait;
@@ -95,16 +96,17 @@ impl<T: Carried> LaneOut<T> {
     }
 
     /// Takes the item at the front if one waits, and doesn't wait: so several that wait are taken at
-    /// once. Returns `None` also once all sending halves are gone. That it doesn't while an item waits
-    /// isn't proved.
+    /// once. Returns `None` if none waits, and `LaneEnd` if none waits and all sending halves are gone.
+    /// That it returns them then alone isn't proved.
     #[tactic(auto, using(crate::proofs::LaneHalfLemmas::agent_within, crate::proofs::LaneHalfLemmas::keeps_receiving))]
-    pub fn take_waiting(&mut self, rt: &impl Wait) -> Option<T>
-        ensures item { IfSome result (λ item. self.new.taken ≡ self.old.taken ++ item ∷ []) }
-        ensures agent { IfSome result
-            (λ item. (self.old.first ≤ T.agent item) × (T.agent item < self.old.past)) }
-        ensures number { IfSome result
-            (λ item. T.number item ≡ length (from_agent T.agent (T.agent item) self.old.taken)) }
-        ensures none { IfNone result (self.new.taken ≡ self.old.taken) }
+    pub fn take_waiting(&mut self, rt: &impl Wait) -> Result<Option<T>, LaneEnd>
+        ensures taken { IfOk result
+            (λ item. self.new.taken ≡ self.old.taken ++ option_to_list item) }
+        ensures agent { IfOk result (λ item. IfSome item
+            (λ item. (self.old.first ≤ T.agent item) × (T.agent item < self.old.past))) }
+        ensures number { IfOk result (λ item. IfSome item
+            (λ item. T.number item ≡ length (from_agent T.agent (T.agent item) self.old.taken))) }
+        ensures end { OnErr result (self.new.taken ≡ self.old.taken) }
         ensures numbered { (a : ℕ) → IsNumbered T.number (from_agent T.agent a self.new.taken) }
         ensures same { (self.new.lane ≡ self.old.lane) × (self.new.first ≡ self.old.first)
             × (self.new.past ≡ self.old.past) }
@@ -112,9 +114,12 @@ impl<T: Carried> LaneOut<T> {
         match self.receiver.try_recv_as::<Removes, _>(rt, &mut self.pass) {
             Ok(item) => {
                 self.count = self.count.wrapping_add(1);
-                Some(item)
+                Ok(Some(item))
             }
-            Err(_) => None,
+            Err(TryRecvError::Empty) => Ok(None),
+            Err(TryRecvError::Disconnected) => Err(LaneEnd {
+                gone: LaneGone::reported(),
+            }),
         }
     }
 

@@ -67,7 +67,7 @@ fn count_room<T: Carried>(
     ensures channel { IsSeatAt (sends_on sender.now) pass.new }
     ensures receiver { view pass.new ≡ passed_over capacity 0 }
 {
-    // The rule's first state can't depend on an argument, so the room is counted: at most 1,024
+    // The rule's first state can't depend on an argument, so the room is counted: at most 16,384
     // loads of a word, once a lane.
     for _ in 0..capacity {
         sender.another::<CountRoom>(pass);

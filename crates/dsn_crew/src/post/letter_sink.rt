@@ -40,7 +40,7 @@ impl Sink for LetterSink {
 
     ghost takes = { TakesLetter };
 
-    /// Sends a letter to the poster, and waits while 16 letters wait. It takes no memory. Returns the
+    /// Sends a letter to the poster, and waits while the lane is full. It takes no memory. Returns the
     /// letter if the receiving half is gone, and if 4,294,967,294 were sent.
     fn hand(&mut self, rt: &impl Wait, letter: Letter) -> Result<(), Letter> {
         let number = self.half.count();

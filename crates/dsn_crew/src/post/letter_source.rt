@@ -1,5 +1,5 @@
 //! The poster's side of the lane of letters.
-ghost use Rattle.std.specs.Prelude.{◌≡◌, ◌≤◌, false, [], length, IfOk, IsSome};
+ghost use Rattle.std.specs.Prelude.{◌≡◌, ◌≤◌, false, true, [], length, IfNone, IfOk, IsSome};
 ghost use Rattle.dsn_crew.specs.lane.Lane.{most_sent};
 ghost use Rattle.dsn_crew.specs.inner.LetterSource.{HasTaken};
 
@@ -52,6 +52,13 @@ impl LetterSource {
         }
     }
 
+    /// Whether the end mark was taken, so that no letter comes any more.
+    pub(super) fn has_ended(&self) -> bool
+        ensures { result ≡ self.now.marked }
+    {
+        self.marked
+    }
+
     /// Takes the next letter, and waits for it. Returns `None` at the end mark and after it, and
     /// `LaneGone` if the sending half is gone before its mark.
     #[tactic(auto, using(crate::proofs::post::LetterSourceLemmas::parcels))]
@@ -59,12 +66,39 @@ impl LetterSource {
         ensures taken { HasTaken self.old self.new result }
         ensures few { IfOk result
             (λ letter. IsSome letter → length self.new.letters ≤ most_sent) }
+        ensures ended { IfOk result (λ letter. IfNone letter (self.new.marked ≡ true)) }
     {
         if self.marked {
             return Ok(None);
         }
         let parcel = match self.parcels.take(rt) {
             Ok(parcel) => parcel,
+            Err(end) => return Err(end.gone),
+        };
+        let Parcel { letter, .. } = parcel;
+        match letter {
+            Some(letter) => Ok(Some(letter)),
+            None => {
+                self.marked = true;
+                Ok(None)
+            }
+        }
+    }
+
+    /// Takes the next letter if one waits, and doesn't wait. Returns `None` also if none waits, and at
+    /// the end mark and after it; and `LaneGone` if the sending half is gone before its mark.
+    #[tactic(auto, using(crate::proofs::post::LetterSourceLemmas::parcels))]
+    pub(super) fn take_waiting(&mut self, rt: &impl Wait) -> Result<Option<Letter>, LaneGone>
+        ensures taken { HasTaken self.old self.new result }
+        ensures few { IfOk result
+            (λ letter. IsSome letter → length self.new.letters ≤ most_sent) }
+    {
+        if self.marked {
+            return Ok(None);
+        }
+        let parcel = match self.parcels.take_waiting(rt) {
+            Ok(Some(parcel)) => parcel,
+            Ok(None) => return Ok(None),
             Err(end) => return Err(end.gone),
         };
         let Parcel { letter, .. } = parcel;

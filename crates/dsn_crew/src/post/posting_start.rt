@@ -3,9 +3,8 @@ ghost use Rattle.std.specs.Prelude.{◌≡◌, false, [], IfErr, IfOk};
 
 use crate::post::letter_sink::LetterSink;
 use crate::post::letter_source::LetterSource;
+use crate::post::outlet::Outlet;
 use crate::post::posting::{Posting, post_all};
-use dsn_device::Drain;
-use dsn_report::Outgoing;
 use std::marker::Model;
 use std::snapshot::Snapshot;
 use std::sync::Wait;
@@ -14,15 +13,15 @@ use std::thread::{Promise, PromisedHandle, Scope};
 /// The promise of a poster's thread. It has no bytes: contracts see what the thread was started
 /// with, and the lane by which its letters come.
 #[derive(Drop)]
-pub struct Posts<W> {
-    begun: Snapshot<Outgoing<W>>,
+pub struct Posts<O> {
+    begun: Snapshot<O>,
     source: Snapshot<LetterSource>,
 }
 
-impl<W> Model for Posts<W> {
+impl<O> Model for Posts<O> {
     ghost use Rattle.dsn_crew.specs.post.Posting.{Posts};
 
-    ghost Value = { Posts W };
+    ghost Value = { Posts O };
 
     ghost view = { λ p. record {
       begun = p.begun.value;
@@ -30,47 +29,49 @@ impl<W> Model for Posts<W> {
     } };
 }
 
-impl<W: Drain> Promise<Posting<W>> for Posts<W> {
+impl<O: Outlet> Promise<Posting<O>> for Posts<O> {
     ghost use Rattle.dsn_crew.specs.post.Posting.{IsPosting};
 
-    ghost kept_by = { λ p r. IsPosting W.Drain p.begun p.lane r };
+    ghost kept_by = { λ p r. IsPosting O.Outlet p.begun p.lane r };
 }
 
 /// Starts the poster's thread, with the two halves of a lane over which nothing was sent. It goes on
-/// after what was posted before. Returns the outbox as it was if no thread can be made. Outside this
-/// crate it is for tests.
-pub fn start_posting<'s, E: 's, R: Wait + Sync, W: Drain + Drop + Send + 's>(
+/// after what was posted before. Returns what is left of the outlet, to which no letter was passed, if
+/// no thread can be made. Outside this crate it is for tests.
+pub fn start_posting<'s, E: 's, R: Wait + Sync, O: Outlet + Drop + Send + 's>(
     scope: &Scope<'s, E>,
     rt: &'s R,
-    outgoing: Outgoing<W>,
+    outlet: O,
     sink: LetterSink,
     source: LetterSource,
-) -> Result<(LetterSink, PromisedHandle<Posting<W>, Posts<W>>), W>
+) -> Result<(LetterSink, PromisedHandle<Posting<O>, Posts<O>>), O::Left>
     requires source { source ≡ record { lane = sink.lane; letters = []; marked = false } }
     requires sink { sink.letters ≡ [] }
     ensures sink { IfOk result (λ started. started.0 ≡ sink) }
     ensures promise { IfOk result
-        (λ started. started.1.promise ≡ record { begun = outgoing; lane = sink.lane }) }
-    ensures refused { IfErr result (λ back. back ≡ outgoing.poster.outbox) }
+        (λ started. started.1.promise ≡ record { begun = outlet; lane = sink.lane }) }
+    ensures refused { IfErr result (O.untouched outlet) }
 {
     let promise = Posts {
-        begun: Snapshot::of(&outgoing),
+        begun: Snapshot::of(&outlet),
         source: Snapshot::of(&source),
     };
-    match scope.spawn_with(promise, move || post_all(rt, outgoing, source)) {
+    let started = scope.spawn_with(
+        promise,
+        move || -> Posting<O>
+            requires { source.letters ≡ [] }
+        { post_all(rt, outlet, source) },
+    );
+    match started {
         Ok(handle) => Ok((sink, handle)),
         Err(refused) => {
             // The closure runs here after the end mark, so it finds no letter, and the close proves
-            // that none came. It doesn't end the outbox, or an untouched outbox would get an empty
+            // that none came. It doesn't end the outlet, or an untouched outbox would get an empty
             // session.
             let sink = sink.mark(rt);
-            let Posting {
-                outgoing,
-                source,
-                ..
-            } = (refused.value)();
+            let Posting { outlet, source, .. } = (refused.value)();
             sink.close(rt, source);
-            Err(outgoing.into_outbox())
+            Err(outlet.into_left())
         }
     }
 }

@@ -12,7 +12,9 @@ use std::test::Fail;
 /// How many bytes the frame of an answer has.
 pub(super) const ANSWER: usize = 14;
 
-/// Room for what a client hears: so many answers and one more, so that one too many shows.
+/// Room for what a client hears: the given number of answers and one more, so that an answer too
+/// many shows.
+/// shows.
 pub(super) fn room_for(alloc: Global, answers: u32) -> Result<Vec<AtomicU8>, Fail> {
     let mut room = Vec::new(alloc);
     for _ in 0..(answers as usize).saturating_add(1).saturating_mul(ANSWER) {

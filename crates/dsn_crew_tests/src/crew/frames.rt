@@ -1,4 +1,4 @@
-//! Frames of requests for tests, as docs/FORMATS.md lays them out.
+//! Frames of requests for tests, as noticed-protocol(5) lays them out.
 use crate::bodies::Kind;
 use std::alloc::Global;
 use std::test::Fail;

@@ -1,4 +1,4 @@
-//! A gate that holds asks until something else has come to pass, for tests.
+//! A gate for tests, which holds asks until something else has happened.
 use dsn_crew::Gate;
 use std::sync::atomic::{AtomicU64, Ordering};
 use std::thread;
@@ -10,19 +10,19 @@ const TURNS: u32 = 10_000;
 /// What is held, and until when.
 #[derive(Clone, Copy)]
 pub(super) struct Until {
-    /// The agents below this one are held,
+    /// How many agents are held: those below this number.
     pub(super) agents: u32,
-    /// each before its request of this number,
+    /// The number of the request before which each is held.
     pub(super) number: u32,
-    /// until so many agents have begun their request of this number,
+    /// A hold lasts until at least this number of agents have begun that request.
     pub(super) begun: u64,
-    /// and so many requests were answered
+    /// It lasts until at least this number of requests of agent `to` were answered.
     pub(super) answered: u64,
-    /// to this agent,
+    /// The agent whose answers are counted.
     pub(super) to: u32,
-    /// and the outbox was written to so often.
+    /// It lasts until the outbox was written to at least this number of times.
     pub(super) written: u64,
-    /// The outbox's first write is held until so many requests were answered to that agent.
+    /// The outbox's first write is held until this number of requests of agent `to` were answered.
     pub(super) write: u64,
 }
 
@@ -68,7 +68,7 @@ impl<'a, R> Hold<'a, R> {
 }
 
 impl<R: Clock> Hold<'_, R> {
-    /// Waits until the count has come to so many, or runs out.
+    /// Waits until the count has reached `wanted`, or runs out.
     fn wait(&self, seen: &AtomicU64, wanted: u64) {
         for _ in 0..TURNS {
             if seen.load(Ordering::SeqCst) >= wanted {

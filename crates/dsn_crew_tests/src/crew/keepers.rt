@@ -13,7 +13,7 @@ use crate::ledgers::{open_disk, outcomes_on};
 use crate::refusing::Refusing;
 use dsn_book::{Book, Keeper, Limits, NotKept};
 use dsn_crew::{Account, CrewCause, CrewFault, NoGate, run_crew_over};
-use dsn_device::Plain;
+use dsn_device::{Drain, Plain};
 use dsn_fakes::MemoryDisk;
 use dsn_journal::SharedMarkCount;
 use dsn_ledger::{KeptBook, ledgers_have_earlier_histories, ledgers_have_one_history};
@@ -33,18 +33,20 @@ const TWO_APPENDS: [(Kind, [u8; 2]); 2] = [(Kind::Append, *b"K1"); 2];
 /// Why a run ended with a fault, if it did, and the keeper that it returned.
 pub(super) type Ended<B> = (Option<CrewCause>, Option<B>);
 
-/// Runs a crew over these ports and this keeper.
-pub(super) fn run_ports<R: Threads + Wait + Sync, B: Keeper + Drop>(
+/// Runs a crew over these ports and this keeper, whose outbox is written here.
+// The outbox is of any type, since one of a given type isn't seen to be one for another thread.
+pub(super) fn run_ports<R: Threads + Wait + Sync, B: Keeper + Drop, W: Drain + Drop + Send>(
     rt: &R,
     alloc: Global,
     keeper: B,
     ports: Vec<ClientPort<'_>>,
     site: Site,
+    written: W,
 ) -> Ended<B>
     requires few { B.sealed keeper < 2 ^ 63 }
     requires begins { (before : List Exchange) × BeginsWith B.Keeper keeper before }
 {
-    let outgoing = Outgoing::new(site, Plain::new(Vec::new(alloc)));
+    let outgoing = Outgoing::new(site, written);
     match run_crew_over(rt, alloc, keeper, ports, outgoing, &NoGate) {
         Ok(Account { book, .. }) => (None, Some(book)),
         Err(CrewFault { cause, book, .. }) => (Some(cause), book),
@@ -63,11 +65,11 @@ fn run_keeper<R: Threads + Wait + Sync, B: Keeper + Drop>(
     let frames = frames_of(alloc, &TWO_APPENDS)?;
     let ports = only_port(alloc, &frames)?;
     let site = Site::new(alloc, b"mx.example.net")?;
-    let (cause, keeper) = run_ports(rt, alloc, keeper, ports, site);
+    let (cause, keeper) = run_ports(rt, alloc, keeper, ports, site, Plain::new(Vec::new(alloc)));
     Ok((cause, keeper.ok_or("nothing is handed back")?))
 }
 
-/// What comes of a keeper that keeps one request and no more.
+/// The result of a crew over a keeper that keeps one request and no more.
 fn run_refusing<R: Threads + Wait + Sync>(
     rt: &R,
     alloc: Global,
@@ -84,7 +86,7 @@ fn refused_request_ends_a_crew(rt: HostRuntime) -> Result<(), Fail> {
     Ok(())
 }
 
-/// What comes of a ledger over a new disk of so many bytes, and the disk.
+/// The result of a crew over a ledger on a new disk of `size` bytes, and the disk.
 fn run_over_disk<R: Threads + Wait + Clock + Sync>(
     rt: &R,
     alloc: Global,

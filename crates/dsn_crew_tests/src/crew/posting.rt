@@ -11,8 +11,8 @@ use std::test::Fail;
 use std::thread::Threads;
 use std::time::Clock;
 
-/// How many letters a crew of one agent has over one connection, over which it is asked for this, how
-/// many of them aren't sent, and whether its outbox is whole.
+/// A crew of one agent, which is asked for this over one connection. Returns how many letters it
+/// has, how many of them aren't sent, and whether its outbox is whole.
 fn letters_of<R: Threads + Wait + Clock + Sync>(
     rt: &R,
     alloc: Global,
@@ -58,8 +58,8 @@ const THREE_LETTERS: &[(Kind, [u8; 2])] = &[
     (Kind::Flush, *b"K3"),
 ];
 
-/// The outbox's first write waits for the answer to the last flush: so all letters but the first one
-/// wait where the agent says goodbye, after which no letter is sealed.
+/// The outbox's first write waits for the answer to the last flush. So all letters except the first
+/// one wait when the agent says goodbye, after which no letter is sealed.
 const HELD_TO_THE_END: Until = Until { write: 6, ..FREE };
 
 #[test]

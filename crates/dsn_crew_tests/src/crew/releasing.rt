@@ -1,5 +1,5 @@
-//! A crew over a book that releases closed keys: which key makes room for a new one, by what the
-//! client hears and by the logs that are open at last.
+//! A crew over a book that releases closed keys: which key makes room for a new one. That is seen
+//! by what the client hears, and by the logs that are open at last.
 use super::client::{ANSWER, bytes_in, port_of, room_for};
 use super::frames::frames_of;
 use super::keepers::run_ports;
@@ -8,6 +8,7 @@ use crate::bodies::Kind;
 use crate::open_logs::open_logs;
 use dsn_book::{Limits, RuledBook};
 use dsn_crew::CrewCause;
+use dsn_device::Plain;
 use dsn_report::Site;
 use std::alloc::Global;
 use std::process::Abort;
@@ -30,7 +31,7 @@ const ASKS: [(Kind, [u8; 2]); 8] = [
     (Kind::Append, *b"K1"),
 ];
 
-/// The reply and the value of each answer, as docs/FORMATS.md numbers replies.
+/// The reply and the value of each answer, as noticed-protocol(5) numbers replies.
 const ANSWERS: [(u8, u8); 8] = [
     (LOGGED, 0),
     (LOGGED, 0),
@@ -62,7 +63,8 @@ fn run_releasing<R: Threads + Wait + Sync>(
     let mut ports = Vec::new(alloc);
     ports.push(port_of(&frames, heard))?;
     let site = Site::new(alloc, b"mx.example.net")?;
-    let (cause, book) = run_ports(rt, alloc, book, ports, site);
+    let written = Plain::new(Vec::new(alloc));
+    let (cause, book) = run_ports(rt, alloc, book, ports, site, written);
     Ok((cause, book.ok_or("no book is returned")?))
 }
 

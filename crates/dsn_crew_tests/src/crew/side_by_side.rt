@@ -1,5 +1,5 @@
-//! Agents of a crew that work at the same time: each of these runs is held so that a crew which
-//! serves its connections one after another, or in turns, runs out.
+//! Agents of a crew that work at the same time. Each of these runs is held so that it runs out if
+//! the crew serves its connections one after another, or in turns.
 use super::client::{ANSWER, ClientPort, bytes_in, port_of, room_for};
 use super::frames::appends;
 use super::hold::{FREE, Until};
@@ -15,8 +15,8 @@ use std::test::Fail;
 use std::thread::Threads;
 use std::time::Clock;
 
-/// Agents that append to one log and leave it open: how many, how often each, how many outcomes the log
-/// has then, and the sum of the places at which they are, each place once.
+/// Agents that append to one log and leave it open: how many, and how often each. The log then has
+/// `outcomes` outcomes. `sum` is the sum of the places at which they are, each place once.
 #[derive(Clone, Copy)]
 struct Case {
     agents: u32,
@@ -71,8 +71,8 @@ fn place_in(frame: &[u8]) -> u32 {
     }
 }
 
-/// A client heard so many `logged` in their order, at places that rise, and no other byte: the sum of
-/// the places.
+/// A client heard `count` times `logged` in their order, at places that rise, and no other byte.
+/// Returns the sum of the places.
 fn expect_logged(rt: &impl Abort, heard: &[u8], count: u32) -> u64 {
     let mut rest = heard;
     let mut next = 0u32;
@@ -119,7 +119,7 @@ fn expect_agents(rt: &impl Abort, agents: &[AgentLine], case: &Case) {
     }
 }
 
-/// What comes of the agents of a case.
+/// Runs the agents of a case, and checks the result.
 fn expect<R: Threads + Wait + Clock + Sync + Abort>(
     rt: &R,
     alloc: Global,

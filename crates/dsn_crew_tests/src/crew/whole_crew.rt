@@ -1,4 +1,4 @@
-//! Whole crews over connections in memory, and what comes of them.
+//! Whole crews over connections in memory, and their results.
 use super::client::ClientPort;
 use super::hold::{Hold, Until};
 use super::outbox::Outbox;
@@ -13,7 +13,7 @@ use std::test::Fail;
 use std::thread::Threads;
 use std::time::Clock;
 
-/// What a run came to that ended well.
+/// The result of a run that ended well.
 #[derive(Drop)]
 pub(super) struct Seen {
     pub(super) agents: Vec<AgentLine>,
@@ -39,7 +39,7 @@ fn seen_in<R: Clock>(alloc: Global, account: Account<Plain<Outbox<'_, R>>>) -> R
     })
 }
 
-/// What comes of a crew that serves these ports, with this gate and an outbox that it may hold.
+/// The result of a crew that serves these ports, with this gate and an outbox that it may hold.
 fn run_gated<R: Threads + Wait + Clock + Sync>(
     rt: &R,
     alloc: Global,

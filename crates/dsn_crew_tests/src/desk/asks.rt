@@ -1,4 +1,4 @@
-//! What agents ask, for tests, and what comes of it.
+//! What agents ask, for tests, and the results.
 ghost use Rattle.std.specs.Prelude.{◌≡◌};
 ghost use Rattle.dsn_crew.specs.agents.AgentLanes.{lanes_of};
 
@@ -8,7 +8,7 @@ use dsn_outcome::{Body, Reply};
 use std::alloc::Global;
 use std::sync::Wait;
 
-/// What comes of an ask: the reply; or the number of the fault, and whether the body came back.
+/// The result of an ask: the reply; or the number of the fault, and whether the body came back.
 pub(super) type Asked = Result<Reply, (u32, bool)>;
 
 /// The number of a fault, and whether the body came back. (The fault is taken apart: as a whole it takes

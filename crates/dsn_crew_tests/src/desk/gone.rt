@@ -22,7 +22,7 @@ fn bye(rt: &impl Wait, agent: Agent) -> u32 {
     }
 }
 
-/// What two asks and a goodbye of an agent come to whose collector is gone.
+/// The results of two asks and a goodbye of an agent whose collector is gone.
 fn without_desk(rt: &impl Wait, alloc: Global) -> Option<(Option<Asked>, Option<Asked>, u32)> {
     let (mut agents, desk) = opened(rt, alloc)?;
     drop(desk);

@@ -21,7 +21,7 @@ use std::thread::Threads;
 /// What two agents were answered, each of which may ask once.
 #[derive(Drop)]
 struct Seen {
-    /// The reply to the first one's request. Its second one was handed back as one too many.
+    /// The reply to the first one's request. Its second request was returned as one too many.
     reply: Reply,
     first: Finished,
     second: Finished,
@@ -51,7 +51,7 @@ fn ask_and_leave(rt: &impl Wait, alloc: Global, first: Agent, second: Agent) -> 
 /// last.
 type Ended = (Reply, u32, u32, Book);
 
-/// What comes of a crew of two.
+/// The result of a crew of two.
 fn two_agents<R: Threads + Wait + Sync>(
     rt: &R,
     alloc: Global,

@@ -13,7 +13,7 @@ use std::thread;
 use std::thread::Threads;
 use std::time::{Clock, Duration};
 
-/// Sends so many items of agent 0, and counts those that are through.
+/// Sends `more` items of agent 0, and counts those that are through.
 fn send_counted(rt: &impl Wait, half: &mut LaneIn<Item>, through: &AtomicU64, more: u32) -> bool
     requires { half.old.agent ≡ 0 }
 {
@@ -26,7 +26,7 @@ fn send_counted(rt: &impl Wait, half: &mut LaneIn<Item>, through: &AtomicU64, mo
     true
 }
 
-/// Waits until so many are through, at most ten seconds, and says how many are.
+/// Waits until `count` items are through, at most ten seconds. Returns how many are.
 fn wait_for(rt: &impl Clock, through: &AtomicU64, count: u64) -> u64 {
     for _ in 0..10_000u32 {
         if through.load(Ordering::SeqCst) >= count {
@@ -40,7 +40,7 @@ fn wait_for(rt: &impl Clock, through: &AtomicU64, count: u64) -> u64 {
 /// One send more than the lane holds items: how many are through before anything is taken, and how
 /// many once one item is taken.
 fn run<R: Threads + Wait + Clock + Sync>(rt: &R, alloc: Global, capacity: u32) -> Option<(u64, u64)>
-    requires { (1 ≤ capacity) × (capacity ≤ 1024) }
+    requires { (1 ≤ capacity) × (capacity ≤ 16384) }
 {
     let full = u64::from(capacity);
     let (mut halves, mut out) = opened(rt, alloc, 1, capacity)?;
@@ -65,7 +65,7 @@ fn run<R: Threads + Wait + Clock + Sync>(rt: &R, alloc: Global, capacity: u32) -
 
 #[test]
 fn full_lane_makes_a_send_wait(rt: HostRuntime) -> Result<(), Fail> {
-    for (capacity, seen) in [(3, (3, 4)), (1024, (1024, 1025))] {
+    for (capacity, seen) in [(3, (3, 4)), (16_384, (16_384, 16_385))] {
         same(&rt, run(&rt, rt.alloc(), capacity), Some(seen));
     }
     Ok(())

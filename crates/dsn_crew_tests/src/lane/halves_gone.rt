@@ -24,7 +24,7 @@ fn first_send(rt: &impl Wait, half: &mut LaneIn<Item>) -> Option<(u32, Sent)>
     Some((lost.code(), (lost.item.agent, lost.item.number)))
 }
 
-/// What a send comes to once the receiving half has left.
+/// The result of a send once the receiving half has left.
 fn send_after_leave(rt: &impl Wait, alloc: Global) -> Option<(u32, Sent)> {
     let (mut halves, out) = opened(rt, alloc, 1, 1)?;
     let mut half = last_half(&mut halves, &out, 1)?;

@@ -7,7 +7,7 @@ use dsn_crew::{LaneIn, LaneOut, open_lane};
 use std::alloc::Global;
 use std::sync::Wait;
 
-/// A lane of so many agents, the first of which is 0.
+/// A lane of the given number of agents, the first of which is 0.
 pub(crate) fn opened(
     rt: &impl Wait,
     alloc: Global,
@@ -15,14 +15,14 @@ pub(crate) fn opened(
     capacity: u32,
 ) -> Option<(Vec<LaneIn<Item>>, LaneOut<Item>)>
     requires agents { (1 ≤ agents) × (agents ≤ 16) }
-    requires capacity { (1 ≤ capacity) × (capacity ≤ 1024) }
+    requires capacity { (1 ≤ capacity) × (capacity ≤ 16384) }
     ensures halves { IfSome result (λ lane. lane.0.items ≡ fresh_halves lane.1.lane 0 agents) }
     ensures out { IfSome result (λ lane. (lane.1.first ≡ 0) × (lane.1.past ≡ agents)) }
 {
     open_lane(rt, alloc, 0, agents, capacity).ok()
 }
 
-/// Takes the last of the halves that are left, of so many agents, none of which has sent anything.
+/// Takes the last of the `left` halves that are left, none of which has sent anything.
 pub(crate) fn last_half(
     halves: &mut Vec<LaneIn<Item>>,
     out: &LaneOut<Item>,

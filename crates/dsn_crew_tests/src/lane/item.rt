@@ -35,7 +35,7 @@ pub(crate) fn send_next(rt: &impl Wait, half: &mut LaneIn<Item>, agent: u32) -> 
     number < u32::MAX && half.send(rt, Item { agent, number }).is_ok()
 }
 
-/// Sends so many items of an agent, one after another.
+/// Sends `more` items of an agent, one after another.
 pub(crate) fn send_many(rt: &impl Wait, half: &mut LaneIn<Item>, agent: u32, more: u32) -> bool
     requires { agent ≡ half.old.agent }
     ensures { (half.new.lane ≡ half.old.lane) × (half.new.agent ≡ half.old.agent) }

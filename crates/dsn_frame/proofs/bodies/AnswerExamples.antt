@@ -30,7 +30,7 @@ sealed_with_serial : answer_bytes 1 (Reply third_notice) ≡ 0 ∷ 0 ∷ 0 ∷ 1
 unfolding answer_bytes answer_body
 sealed_with_serial = refl
 
--- a frame of version 3 is told the serial, those of versions 1 and 2 and one without a byte aren't
+-- a frame of version 3 gets the serial; frames of versions 1 and 2, and one without a byte, don't
 told_by_version :
     told_each ((1 ∷ 2 ∷ []) ∷ (2 ∷ 2 ∷ []) ∷ (3 ∷ 2 ∷ []) ∷ [] ∷ (3 ∷ []) ∷ []) (Reply third_notice ∷ Reply third_notice ∷ Reply third_notice ∷ Reply third_notice ∷ Refused 23 ∷ [])
     ≡ Reply (plain (Sealed 1)) ∷ Reply (plain (Sealed 1)) ∷ Reply third_notice ∷ Reply (plain (Sealed 1)) ∷ Refused 23 ∷ []
@@ -76,7 +76,7 @@ serial_is_accepted : refused (1 ∷ 7 ∷ 0 ∷ 0 ∷ 0 ∷ 1 ∷ 0 ∷ 0 ∷ 0 
 unfolding first_answer_fault
 serial_is_accepted = refl
 
--- a serial has eight bytes, and is of a notice alone
+-- a serial has eight bytes, and only a notice has one
 serial_cut_short : refused (1 ∷ 7 ∷ 0 ∷ 0 ∷ 0 ∷ 1 ∷ 0 ∷ 0 ∷ 0 ∷ 1 ∷ 0 ∷ 0 ∷ 0 ∷ 0 ∷ 0 ∷ 0 ∷ 1 ∷ []) ≡ Some 24
 unfolding first_answer_fault
 serial_cut_short = refl
@@ -98,7 +98,7 @@ closed_with_high_value : refused (1 ∷ 2 ∷ 0 ∷ 0 ∷ 0 ∷ 0 ∷ 1 ∷ 0 �
 unfolding first_answer_fault
 closed_with_high_value = refl
 
--- a value doesn't matter before the length does
+-- the length is checked before the value
 value_and_byte_after : refused (1 ∷ 2 ∷ 0 ∷ 0 ∷ 0 ∷ 0 ∷ 0 ∷ 0 ∷ 0 ∷ 5 ∷ 0 ∷ []) ≡ Some 24
 unfolding first_answer_fault
 value_and_byte_after = refl

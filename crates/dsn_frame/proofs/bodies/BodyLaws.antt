@@ -1,4 +1,4 @@
--- Bodies: the fields that were written are read again, and what is read is what was written.
+-- Bodies: fields that were written are read again, and fields that were read had been written so.
 use Rattle.std.proofs.Common.{◌≡◌, ℕ, suc, ◌<◌, ◌^◌, ◌⊎◌, inl, inr, List, [], ◌∷◌, ◌++◌, Bool, true, false, cond, eqb, Option, Some, None, refl, sym, ap, subst, ◌∙◌, append_assoc}
 use Rattle.std.specs.Int.{w32, w64}
 use Rattle.std.proofs.lemmas.Bool.{eqb-true}
@@ -107,7 +107,7 @@ head_takes version bytes x fits e =
     let made : Head × List ℕ = (record { version = version; number = a.0.0; service = b.0.0; id = c.0.0 }, c.0.1) in
     subst (λ (y : Head × List ℕ). Takes bytes (head_bytes y.0) y.1 × (FitsHead y.0 × (version ≡ y.0.version))) (some_is made x c.2) (e02, (record { number = t0.1; id = t2.1 }, refl))
 
--- what follows a field that was read, in terms of the field and the bytes after it
+-- the step after a field, in terms of the field and the bytes after it
 text_then : {B C : Type 0} (bytes : List ℕ) (next : List ℕ × List ℕ → Option B) (x : B) → IsBytes bytes → (text_at bytes >>= next) ≡ Some x
     → ((text rest : List ℕ) → Takes bytes (text_bytes text) rest → FitsText text → next (text, rest) ≡ Some x → C) → C
 text_then bytes next x fits e goes =
@@ -186,7 +186,7 @@ flush_takes bytes x fits e =
     let made : FlushFields × List ℕ = (record { moment = moment; arrival = arrival; return_path = return_path; envelope_id = envelope_id; header = header }, rest_header) in
     subst (λ (y : FlushFields × List ℕ). Takes bytes (flush_bytes y.0) y.1 × FitsFlush y.0) (some_is made x e_header) (from_moment, record { moment = fits_moment; arrival = fits_arrival; return_path = fits_return_path; envelope_id = fits_envelope_id; header = fits_header }))))))
 
--- what a body's own fields are read from
+-- the bytes that a body's own fields are read from
 pub record TakesOwn (kind : ℕ) (head : Head) (bytes : List ℕ) (wire : WireBody) (rest : List ℕ) : Type 0 where
   pub taken : Takes bytes (own_bytes wire) rest
   pub fits : FitsOwn wire
@@ -328,7 +328,7 @@ own_takes kind head bytes x fits e =
       ]
     ]
 
--- a body that is read was written so
+-- a body that is read has these bytes
 pub body_takes : (bytes : List ℕ) (x : WireBody × List ℕ) → IsBytes bytes → body_at bytes ≡ Some x → Takes bytes (body_bytes x.0) x.1 × Fits x.0
 unfolding body_at body_bytes
 body_takes [] x fits e = absurd cc

@@ -1,4 +1,4 @@
--- Requests that are written: the bytes that are written of a legal body encode it, and fit a frame.
+-- Requests in bytes: the bytes that a legal body is written as encode it, and fit a frame.
 use Rattle.std.proofs.Common.{◌≡◌, ℕ, ◌+◌, ◌^◌, ◌<◌, ◌≤◌, Bool, true, false, List, [], ◌∷◌, ◌++◌, length, Option, Some, None, refl, sym, ap, subst, ◌∙◌, arith}
 use Rattle.std.specs.Prelude.{◌≢◌, nat_le, is_none, IsSome, ◌==◌, ◌&&◌, if◌then◌else◌, unwrap_or, is_some}
 use Rattle.std.specs.Int.{w16, w32, w64, to_be_bytes}
@@ -41,7 +41,7 @@ use Rattle.dsn_frame.specs.bodies.Wire.{Head, RecipientFields, RetryFields, Type
 
 -- ---- texts
 
--- what a text's form says of its length
+-- the bound that a text's form sets on its length
 text-short : (test : ℕ → Bool) (least most : ℕ) (text : List ℕ) → is_text test least most text ≡ true → length text ≤ most
 text-short test least most text legal = leb-true _ _ (and_parts _ _ (and_parts _ _ legal).0).1
 
@@ -70,13 +70,13 @@ optional-short : (test : List ℕ → Bool) (most : ℕ) → ((text : List ℕ) 
 optional-short test most short None legal = omega arith
 optional-short test most short (Some text) legal = short text legal
 
--- a text that passes a test that the empty one doesn't
+-- a text passes a test that the empty one fails, so it isn't empty
 said : (test : List ℕ → Bool) → test [] ≡ false → (text : Option (List ℕ)) → is_none_or test text ≡ true → text ≢ Some []
 said test never None legal is = cc
 said test never (Some []) legal is = let both : false ≡ true = sym never ∙ legal in cc
 said test never (Some (byte ∷ rest)) legal is = cc
 
--- a text that is there and says something is read as it was written
+-- a text that isn't empty is read as it was written
 back : (text : Option (List ℕ)) → text ≢ Some [] → unless_empty (text_or_empty text) ≡ text
 back None there = refl
 back (Some []) there = absurd (there refl)
@@ -109,7 +109,7 @@ action-back Expanded = refl
 
 -- ---- moments
 
--- a moment is no number of all ones
+-- no moment is the number of all ones
 moment-said : (moment : ℕ) → is_moment moment ≡ true → (moment == no_moment) ≡ false
 moment-said moment dated = let early = leb-true moment last_moment dated in grind (arith, nat_tests, early)
 
@@ -123,7 +123,7 @@ moment-fits (Some moment) dated = let early = leb-true moment last_moment dated 
 
 -- ---- counts
 
--- a number of outcomes that can be expected is no number of all ones
+-- no number of outcomes that can be expected is the number of all ones
 count-said : (count : ℕ) → is_count count ≡ true → (count == any_count) ≡ false
 count-said count counted = let few = ltb-true count any_count counted in grind (arith, nat_tests, few)
 
@@ -145,7 +145,7 @@ none-is (Some value) e = absurd (false≢true e)
 abbrev all_fields_for : Outcome → Fields
 all_fields_for outcome = outcome_fields (fields_for outcome) (type_fields_for outcome) outcome.last_attempt outcome.retry_until
 
--- a type that is that of a text is one where both are written
+-- a valid type of a text is still one once both are written
 type-of-text : (text name : Option (List ℕ)) → text ≢ Some [] → is_none_or is_type_name name ≡ true → (IsSome name → IsSome text) → is_type_of (text_or_empty text) (text_or_empty name) ≡ true
 type-of-text text None there legal typed = refl
 type-of-text text (Some []) there legal typed = refl
@@ -183,7 +183,7 @@ outcome-back outcome legal = record {
   extensions_is = refl;
 }
 
--- how long they are
+-- the bounds of their lengths
 record AreShort (outcome : Outcome) : Type 0 where
   recipient : length outcome.recipient ≤ longest_address
   original : length (text_or_empty outcome.original) ≤ longest_address
@@ -322,7 +322,7 @@ fields-few : (outcome : Outcome) → AreShort outcome → length (append_bytes (
 fields-few outcome short =
     omega (arith, append_length (fields_for outcome), short.original, short.recipient, short.status, short.mta, short.diagnostic, short.reason)
 
--- no type is said, and there is no extension field
+-- no text has a type, and there is no extension field
 record HasUsualTypes (outcome : Outcome) : Type 0 where
   recipient : outcome.recipient_type ≡ None
   original : outcome.original_type ≡ None
@@ -344,7 +344,7 @@ usual-types outcome usual =
 types-usual : (outcome : Outcome) → HasUsualTypes outcome → type_fields_for outcome ≡ usual_types
 types-usual outcome usual = rw (usual.recipient, usual.original, usual.diagnostic, usual.extensions) refl
 
--- where there are no moments, none are missed
+-- without moments, nothing is lost by leaving them out
 undated-back : (outcome : Outcome) → HasUsualTypes outcome → IsOutcomeOf outcome.service (all_fields_for outcome) outcome → outcome.last_attempt ≡ None → outcome.retry_until ≡ None
     → IsOutcomeOf outcome.service (undated_fields (fields_for outcome)) outcome
 undated-back outcome usual of no_attempt no_retry = record {
@@ -384,7 +384,7 @@ undated_written number id outcome few legal_id legal usual no_attempt no_retry =
       stands_for = record { service_is = service-back outcome.service; id_is = refl; outcome_is = back_again };
     }
 
--- an append with its moments, also where it has none
+-- an append with its moments, also if it has none
 dated_written : (number : ℕ) (id : List ℕ) (outcome : Outcome) → number < 2 ^ 32 → is_queue_id id ≡ true → IsLegalOutcome outcome → HasUsualTypes outcome
     → IsWritten number (Append id outcome) (DatedAppendFields (head_for 2 number outcome.service id) (fields_for outcome) (retry_fields_for outcome))
 unfolding own_bytes FitsOwn first_own_fault StandsFor
@@ -409,7 +409,7 @@ dated_written number id outcome few legal_id legal usual =
       stands_for = record { service_is = service-back outcome.service; id_is = refl; outcome_is = back_again };
     }
 
--- an append with its moments and types, also where it has none
+-- an append with its moments and types, also if it has none
 typed_written : (number : ℕ) (id : List ℕ) (outcome : Outcome) → number < 2 ^ 32 → is_queue_id id ≡ true → IsLegalOutcome outcome
     → IsWritten number (Append id outcome) (TypedAppendFields (head_for 3 number outcome.service id) (fields_for outcome) (retry_fields_for outcome) (type_fields_for outcome))
 unfolding own_bytes FitsOwn first_own_fault StandsFor
@@ -438,7 +438,7 @@ one-written : (number : ℕ) (body : Body) (first second : WireBody) (undated : 
 one-written number body first second true p q = p refl
 one-written number body first second false p q = q
 
--- an append without types, with its moments where it has one
+-- an append without types, and with moments if it has one
 usual_written : (number : ℕ) (id : List ℕ) (outcome : Outcome) → number < 2 ^ 32 → is_queue_id id ≡ true → IsLegalOutcome outcome → HasUsualTypes outcome
     → IsWritten number (Append id outcome) (if is_none outcome.last_attempt && is_none outcome.retry_until then AppendFields (head_for 1 number outcome.service id) (fields_for outcome) else DatedAppendFields (head_for 2 number outcome.service id) (fields_for outcome) (retry_fields_for outcome))
 usual_written number id outcome few legal_id legal usual =
@@ -455,7 +455,7 @@ append_written number id outcome few legal_id legal =
     (λ usual. usual_written number id outcome few legal_id legal (usual-types outcome usual))
     (typed_written number id outcome few legal_id legal)
 
--- what a byte says is read as it was written
+-- a byte is read as it was written
 returned-back : (returned : Returned) → returned_of_byte (returned_byte returned) ≡ Some returned
 returned-back Header = refl
 returned-back Message = refl
@@ -479,7 +479,7 @@ flush-back draft legal =
     let id = back draft.envelope_id (said is_envelope_id refl draft.envelope_id legal.envelope_id_legal) in
     rw (path, id, count-back draft.expected legal.expected_counted, returned-back draft.returned, wording-back draft.wording) refl
 
--- what is usual is one thing
+-- there is one set of usual terms
 usual-is : (wishes : WishFields) → are_usual wishes ≡ true → wishes ≡ usual_wishes
 usual-is wishes e =
     let count = and_parts (wishes.expected == any_count) _ e in
@@ -518,7 +518,7 @@ wishes-fit draft legal = record {
 flush-few : (draft : Draft) → IsLegalDraft draft → length (flush_bytes (flush_fields_for draft)) ≤ 22 + (longest_address + (longest_envelope_id + longest_header))
 flush-few draft legal = omega (arith, flush_length (flush_fields_for draft), path-short draft legal, id-short draft legal, legal.header_short)
 
--- a flush that asks for nothing unusual
+-- a flush whose further terms are the usual ones
 usual_flush_written : (number : ℕ) (key : Key) (draft : Draft) → number < 2 ^ 32 → is_queue_id key.id ≡ true → IsLegalDraft draft → wish_fields_for draft ≡ usual_wishes
     → IsWritten number (Flush key draft) (FlushFieldsOf (head_for 1 number key.service key.id) (flush_fields_for draft))
 unfolding own_bytes FitsOwn first_own_fault StandsFor
@@ -536,7 +536,7 @@ usual_flush_written number key draft few legal_id legal usual =
       stands_for = (record { service_is = service-back key.service; id_is = refl }, back_again);
     }
 
--- a flush that says what it asks for besides, whatever that is
+-- a flush that states its further terms, whatever they are
 counted_written : (number : ℕ) (key : Key) (draft : Draft) → number < 2 ^ 32 → is_queue_id key.id ≡ true → IsLegalDraft draft
     → IsWritten number (Flush key draft) (CountedFlushFields (head_for 3 number key.service key.id) (flush_fields_for draft) (wish_fields_for draft))
 unfolding own_bytes FitsOwn first_own_fault StandsFor
@@ -586,7 +586,7 @@ forget_written number key few legal_id =
 
 -- ---- frames
 
--- what is written of a body is a frame's body, and encodes it
+-- the bytes that a body is written as are a frame's body, and encode it
 pub written_encodes : (number : ℕ) (body : Body) (wire : WireBody) → IsWritten number body wire → Encodes (body_bytes wire) number body
 written_encodes number body wire written = record {
   wire = wire;
@@ -605,7 +605,7 @@ written_fits number body wire written =
 
 -- ---- refusals
 
--- a draft is refused as the flush is that it is read from, whose moments have no fault
+-- a draft is refused as its flush is, if the moments of the flush have no fault
 refused-as : (dated header path id returned wording extensions : Bool) → dated ≡ true
     → draft_refusal (unwrap_or (first_failed ((header, drafts.Header) ∷ (path, drafts.ReturnPath) ∷ (id, drafts.EnvelopeId) ∷ (returned, drafts.Returned) ∷ (wording, drafts.Wording) ∷ (extensions, drafts.Extensions) ∷ [])) drafts.NoMemory)
     ≡ unwrap_or (first_failed ((dated, faults.Moment) ∷ (header, faults.Header) ∷ (path, faults.ReturnPath) ∷ (id, faults.EnvelopeId) ∷ (returned, faults.Returned) ∷ (wording, faults.Wording) ∷ (extensions, faults.Extensions) ∷ [])) faults.NoMemory

@@ -32,7 +32,7 @@ wrong_kind : refused (1 ∷ 4 ∷ []) ≡ Some 22
 unfolding first_body_fault has_kind first_own_fault body_at head_at text_at number_at own_at
 wrong_kind = refl
 
--- a Forget is of version 2 and 3; no version is above them
+-- a Forget needs version 2 or 3; no version is above them
 forget_of_version_one : refused (1 ∷ 4 ∷ 0 ∷ 0 ∷ 0 ∷ 0 ∷ 1 ∷ 0 ∷ 2 ∷ 75 ∷ 49 ∷ []) ≡ Some 22
 unfolding first_body_fault has_kind first_own_fault body_at head_at text_at number_at own_at
 forget_of_version_one = refl
@@ -94,7 +94,8 @@ service_before_id : refused (1 ∷ 3 ∷ 0 ∷ 0 ∷ 0 ∷ 0 ∷ 4 ∷ 0 ∷ 2 �
 unfolding first_body_fault has_kind first_own_fault body_at head_at text_at number_at own_at
 service_before_id = refl
 
--- one append and one flush: the bodies of a delivery agent that gives up on one recipient and asks for the notice
+-- one append and one flush: the bodies of a delivery agent that gives up on one recipient and asks
+-- for the notice
 abbrev pub append_body : List ℕ
 append_body =
     (1 ∷ 1 ∷ 0 ∷ 0 ∷ 0 ∷ 0 ∷ 1 ∷ 0 ∷ 6 ∷ []) ++ codes "A1B2C3" ++ (0 ∷ 0 ∷ 0 ∷ 15 ∷ []) ++ codes "bob@example.org"
@@ -117,7 +118,7 @@ byte_after_append : refused (append_body ++ (0 ∷ [])) ≡ Some 24
 unfolding first_body_fault has_kind first_own_fault body_at head_at text_at number_at own_at append_at append_body_at
 byte_after_append = refl
 
--- what they ask
+-- the requests that they encode
 abbrev pub append_asked : Body
 append_asked =
     Append (codes "A1B2C3") (record {
@@ -185,7 +186,7 @@ flush_is_encoded = record {
   stands_for = (record { service_is = refl; id_is = refl }, refl);
 }
 
--- and what they ask is written as these bodies
+-- and these requests are written as these bodies
 append_is_written : request_body 0 append_asked ≡ append_body
 unfolding request_body fields_written append_written_as body_bytes own_bytes head_bytes append_bytes text_bytes number_bytes
 append_is_written = refl
@@ -194,7 +195,7 @@ flush_is_written : request_body 1 flush_asked ≡ flush_body
 unfolding request_body fields_written flush_written_as body_bytes own_bytes head_bytes flush_bytes text_bytes number_bytes
 flush_is_written = refl
 
--- a flush that says how many outcomes it expects: the body of a version 3 flush, and what it asks
+-- a flush that says how many outcomes it expects: the body of a version 3 flush, and its request
 abbrev flush_with : ℕ → List ℕ → List ℕ
 flush_with version rest =
     (version ∷ 2 ∷ 0 ∷ 0 ∷ 0 ∷ 1 ∷ 1 ∷ 0 ∷ 6 ∷ []) ++ codes "A1B2C3" ++ (0 ∷ 0 ∷ 0 ∷ 0 ∷ 0x65 ∷ 0x53 ∷ 0xf1 ∷ 0 ∷ [])
@@ -220,7 +221,7 @@ counted_flush_is_encoded = record {
   stands_for = (record { service_is = refl; id_is = refl }, refl);
 }
 
--- all ones are any number of outcomes
+-- all ones mean any number of outcomes
 any_number_is_encoded : Encodes (flush_with 3 (replicate 4 255 ++ 0 ∷ 0 ∷ 0 ∷ 0 ∷ [])) 1 flush_asked
 unfolding body_bytes own_bytes counted_flush_bytes wish_bytes head_bytes append_bytes flush_bytes text_bytes number_bytes FitsOwn first_own_fault StandsFor are_extension_lines
 any_number_is_encoded = record {
@@ -258,7 +259,7 @@ wording_missing : refused (flush_with 3 (0 ∷ 0 ∷ 1 ∷ 2 ∷ 1 ∷ [])) ≡ 
 unfolding first_body_fault has_kind first_own_fault body_at head_at text_at number_at own_at flush_at flush_body_at wishes_at are_extension_lines
 wording_missing = refl
 
--- a message, with words by outcome; each byte is 0 or 1, and the first is judged first
+-- a message, with words by outcome; each byte is 0 or 1, and the first is checked first
 message_by_outcome_is_written : request_body 1 (flush_wishing None Message ByOutcome) ≡ flush_with 3 (replicate 4 255 ++ 1 ∷ 1 ∷ 0 ∷ 0 ∷ [])
 unfolding request_body fields_written flush_written_as body_bytes own_bytes counted_flush_bytes wish_bytes head_bytes flush_bytes text_bytes number_bytes
 message_by_outcome_is_written = refl
@@ -283,7 +284,7 @@ wording_two : refused (flush_with 3 (replicate 4 255 ++ 1 ∷ 2 ∷ 0 ∷ 1 ∷ 
 unfolding first_body_fault has_kind first_own_fault body_at head_at text_at number_at own_at flush_at flush_body_at wishes_at are_extension_lines
 wording_two = refl
 
--- extension fields of the message: what a flush of version 3 ends with, judged last
+-- extension fields of the message: the last field of a version 3 flush, checked last
 abbrev flush_extended : List ℕ → Body
 flush_extended extensions =
     Flush (record { service = Bounce; id = codes "A1B2C3" }) (record {
@@ -338,7 +339,7 @@ forget_is_written : request_body 0 (Forget (record { service = Bounce; id = code
 unfolding request_body fields_written body_bytes own_bytes head_bytes text_bytes number_bytes
 forget_is_written = refl
 
--- a delayed recipient, with its two moments: the body of a version 2 append, and what it asks
+-- a delayed recipient, with its two moments: the body of a version 2 append, and its request
 abbrev with_moments : List ℕ → List ℕ → List ℕ
 with_moments last_attempt retry_until =
     (2 ∷ 1 ∷ 0 ∷ 0 ∷ 0 ∷ 0 ∷ 2 ∷ 0 ∷ 2 ∷ []) ++ codes "X1" ++ (0 ∷ 0 ∷ 0 ∷ 15 ∷ []) ++ codes "bob@example.org"
@@ -371,7 +372,7 @@ delayed_is_written :
 unfolding request_body fields_written append_written_as body_bytes own_bytes head_bytes append_bytes retry_bytes text_bytes number_bytes
 delayed_is_written = refl
 
--- all ones are no moment; a first second of the year 10000 is none
+-- all ones mean no moment; the first second of the year 10000 isn't a valid moment
 moments_missing : refused (with_moments (replicate 8 255) (replicate 8 255)) ≡ None
 unfolding first_body_fault first_own_fault body_at head_at text_at number_at own_at append_at append_body_at retry_at has_kind first_outcome_fault are_extension_lines
 moments_missing = refl
@@ -388,8 +389,8 @@ moments_cut : refused (with_moments (replicate 8 255) (replicate 7 255)) ≡ Som
 unfolding first_body_fault first_own_fault body_at head_at text_at number_at own_at append_at append_body_at retry_at has_kind
 moments_cut = refl
 
--- an append with types: a recipient that is no address of Internet mail, and a diagnostic that is no reply of an
--- SMTP server; the body of a version 3 append, and what it asks
+-- an append with types: a recipient that isn't an Internet mail address, and a diagnostic that
+-- isn't an SMTP reply; the body of a version 3 append, and its request
 abbrev typed_body : ℕ → List ℕ → List ℕ → List ℕ
 typed_body version diagnostic types =
     (version ∷ 1 ∷ 0 ∷ 0 ∷ 0 ∷ 0 ∷ 1 ∷ 0 ∷ 2 ∷ []) ++ codes "K1" ++ (0 ∷ 3 ∷ []) ++ codes "/C=" ++ (0 ∷ 3 ∷ []) ++ codes "x@y"
@@ -432,7 +433,7 @@ typed_is_written :
 unfolding request_body fields_written append_written_as body_bytes own_bytes head_bytes append_bytes retry_bytes type_bytes text_bytes number_bytes
 typed_is_written = refl
 
--- types belong to version 3; a type that is no atom, and one of a text that isn't there
+-- types belong to version 3; a type that isn't an atom, and a type of an absent text
 types_in_version_two : refused (typed_body 2 busy fax_x400_postfix) ≡ Some 24
 unfolding first_body_fault first_own_fault body_at head_at text_at number_at own_at append_at append_body_at retry_at types_at has_kind
 types_in_version_two = refl
@@ -453,7 +454,7 @@ type_of_no_diagnostic : refused (typed_body 3 (0 ∷ 0 ∷ []) ((0 ∷ 0 ∷ 0 �
 unfolding first_body_fault first_own_fault body_at head_at text_at number_at own_at append_at append_body_at retry_at types_at has_kind first_outcome_fault are_extension_lines
 type_of_no_diagnostic = refl
 
--- extension fields: what an append of version 3 ends with, after its types
+-- extension fields: the last field of a version 3 append, after its types
 abbrev usual_and : List ℕ → List ℕ
 usual_and extensions = replicate 6 0 ++ extensions
 
@@ -493,7 +494,7 @@ extended_is_written :
 unfolding request_body fields_written append_written_as body_bytes own_bytes head_bytes append_bytes retry_bytes type_bytes text_bytes number_bytes
 extended_is_written = refl
 
--- statuses that are none, and one of a class that a failure can't have
+-- malformed statuses, and a status of a class that a failure can't have
 abbrev append_with_status : ℕ → List ℕ → List ℕ
 append_with_status size status =
     (1 ∷ 1 ∷ 0 ∷ 0 ∷ 0 ∷ 0 ∷ 1 ∷ 0 ∷ 2 ∷ []) ++ codes "K1" ++ (0 ∷ 0 ∷ 0 ∷ 3 ∷ []) ++ codes "x@y" ++ (1 ∷ 0 ∷ size ∷ []) ++ status

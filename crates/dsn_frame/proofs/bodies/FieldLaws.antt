@@ -1,4 +1,5 @@
--- A field that was written is read again, whatever follows it; and what is read is what was written.
+-- A field that was written is read again, whatever follows it; and a field that is read had been
+-- written so.
 use Rattle.std.proofs.Common.{◌≡◌, ℕ, ◌+◌, ◌^◌, ◌<◌, ◌≤◌, Bool, true, false, cond, ltb, List, ◌++◌, length, get_or, take, drop, Option, Some, None, refl, sym, ap, subst, ◌∙◌, append_assoc, arith, inl, inr}
 use Rattle.std.specs.Int.{Width, w16, w32, w64, byte_len, from_be_bytes, to_be_bytes}
 use Rattle.std.proofs.lemmas.Bool.{cases_lt, ltb-false, le-ltb}
@@ -6,11 +7,11 @@ use Rattle.std.proofs.lemmas.List.{take_at, drop_at, take-append-drop, length-ap
 use Rattle.std.proofs.lemmas.Nat.{be_bytes_2, be_bytes_4, be_bytes_8, from_be_bytes-to_be_bytes_2, from_be_bytes-to_be_bytes_4, from_be_bytes-to_be_bytes_8}
 use Rattle.dsn_frame.specs.bodies.Wire.{number_bytes, text_bytes, FitsText, ◌>>=◌, number_at, text_at}
 
--- each of them is below 256
+-- each number is below 256
 abbrev pub IsBytes : List ℕ → Type 0
 IsBytes bytes = (i : ℕ) → get_or bytes i 0 < 256
 
--- what follows a front
+-- the bytes after a front
 pub IsBytes-after : (front rest : List ℕ) → IsBytes (front ++ rest) → IsBytes rest
 IsBytes-after front rest h i = subst (λ (n : ℕ). n < 256) (get_or-append-add front rest i 0) (h (length front + i))
 
@@ -40,7 +41,7 @@ there x = Some x
 pub some_is : {A : Type 0} (x y : A) → there x ≡ there y → x ≡ y
 some_is x y e = cc
 
--- what a reader took from the front
+-- the bytes that a reader took from the front
 pub record Takes (bytes text rest : List ℕ) : Type 0 where
   pub parts : bytes ≡ text ++ rest
   pub rest_fits : IsBytes rest

@@ -1,5 +1,5 @@
--- Requests in bytes: some bytes encode one request at most, and none of those that are refused; and what a decoder
--- has read encodes what it made of it.
+-- Requests in bytes: bytes encode one request at most, and none if they are refused; and what a
+-- decoder has read encodes its result.
 use Rattle.std.proofs.Common.{◌≡◌, ℕ, List, [], Bool, true, false, cond, Option, Some, None, refl, sym, ap, subst, ◌∙◌}
 use Rattle.std.specs.Prelude.{slice_get}
 use Rattle.std.proofs.lemmas.Bool.{and_parts}
@@ -36,7 +36,7 @@ pub encoded_is_whole : (bytes : List ℕ) (number : ℕ) (body : Body) (encoded 
 encoded_is_whole bytes number body encoded =
     subst (λ (b : List ℕ). IsWhole b encoded.wire) (sym encoded.laid_out) (body_is_whole encoded.wire encoded.known encoded.fits)
 
--- whole bytes are refused where their fields are
+-- the fault of whole bytes is that of their fields
 pub whole_fault : (bytes : List ℕ) (wire : WireBody) → IsWhole bytes wire → first_body_fault bytes ≡ first_field_fault wire
 unfolding first_body_fault
 whole_fault bytes wire whole = rw (whole.accepted, whole.read) refl
@@ -105,7 +105,7 @@ same_append : (head : Head) (fields : Fields) (i j : List ℕ) (a b : Outcome) �
 same_append head fields i j a b p q =
     ap (λ (id : List ℕ). Append id a) (p.id_is ∙ sym q.id_is) ∙ ap (λ (o : Outcome). Append j o) (same_outcome_of head fields i j a b p q)
 
--- fields stand for one body
+-- fields encode one body
 pub same_body : (wire : WireBody) (a b : Body) → StandsFor wire a → StandsFor wire b → a ≡ b
 unfolding StandsFor
 same_body (AppendFields head fields) (Append i a) (Append j b) p q = same_append head (undated_fields fields) i j a b p q
@@ -180,7 +180,7 @@ same_wire bytes a b p q =
     let y : WireBody × List ℕ = (b, []) in
     ap (λ (read : WireBody × List ℕ). read.0) (some_is x y (sym p ∙ q))
 
--- some bytes encode one number and one body
+-- bytes encode one number and one body
 pub encodes_one : (bytes : List ℕ) (number other : ℕ) (body elsewise : Body) → Encodes bytes number body → Encodes bytes other elsewise → (number ≡ other) × (body ≡ elsewise)
 encodes_one bytes number other body elsewise p q =
     let wire = same_wire bytes p.wire q.wire (encoded_is_whole bytes number body p).read (encoded_is_whole bytes other elsewise q).read in
@@ -193,7 +193,7 @@ passed : {F : Type 0} (b : Bool) (fault : F) (later : Option F) → cond b later
 passed true fault later e = (refl, e)
 passed false fault later e = absurd cc
 
--- the layout's checks are of its version and its kind
+-- the checks of the layout include the version and the kind
 whole_is_known : (wire : WireBody) → first_failed (layout_checks (body_bytes wire)) ≡ None → is_known wire ≡ true
 unfolding body_bytes has_kind
 whole_is_known wire accepted =
@@ -201,7 +201,7 @@ whole_is_known wire accepted =
     let kind = passed (is_kind (head_of wire).version (kind_of wire)) faults.Kind _ version.1 in
     rw (version.0, kind.0) refl
 
--- what was read encodes what was made of it
+-- the bytes that were read encode the result
 pub whole_encodes : (bytes : List ℕ) (wire : WireBody) (body : Body) → IsBytes bytes → IsWhole bytes wire → first_field_fault wire ≡ None → StandsFor wire body → Encodes bytes (head_of wire).number body
 whole_encodes bytes wire body fits whole accepted stands =
     let taken = body_takes bytes (wire, []) fits whole.read in
@@ -228,6 +228,6 @@ no_goodbye_for (CountedFlushFields head fields wishes) stands = stands
 no_goodbye_for (DiscardFields head) stands = stands
 no_goodbye_for (ForgetFields head) stands = stands
 
--- what bytes encode is no goodbye
+-- no bytes encode a goodbye
 pub encoded_no_goodbye : (bytes : List ℕ) (number : ℕ) (body : Body) → Encodes bytes number body → body ≡ Bye → ⊥
 encoded_no_goodbye bytes number body encoded is = no_goodbye_for encoded.wire (subst (λ (b : Body). StandsFor encoded.wire b) is encoded.stands_for)

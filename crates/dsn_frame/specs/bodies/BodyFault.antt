@@ -26,12 +26,12 @@ body_fault_code Wording = wording_code
 body_fault_code Extensions = extension_code
 body_fault_code NoMemory = no_memory_code
 
--- how an outcome's refusal refuses the body that carries it
+-- the refusal of a body whose outcome is refused
 abbrev pub outcome_refusal : OutcomeFault → BodyFault
 outcome_refusal outcome.NoMemory = NoMemory
 outcome_refusal fault = Outcome fault
 
--- how a draft's refusal refuses the body that carries its texts
+-- the refusal of a body whose draft is refused
 abbrev pub draft_refusal : DraftFault → BodyFault
 draft_refusal draft.Header = Header
 draft_refusal draft.ReturnPath = ReturnPath

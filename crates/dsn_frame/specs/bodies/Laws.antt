@@ -1,9 +1,9 @@
--- What holds of all bodies: each is one request or is refused.
+-- Laws of all bodies: each is one request or is refused.
 use Rattle.std.specs.Prelude.{◌≡◌, ℕ, ◌<◌, List, None, slice_index}
 use Rattle.dsn_outcome.specs.Request.{Body}
 use Rattle.dsn_frame.specs.bodies.Request.{Encodes, first_body_fault}
 
--- each number is one of a byte
+-- each number is a byte
 abbrev pub IsBytes : List ℕ → Type 0
 IsBytes bytes = (i : ℕ) → slice_index bytes i < 256
 
@@ -17,7 +17,7 @@ abbrev pub IsNotRefused : List ℕ → Type 0
 IsNotRefused bytes =
     (number : ℕ) (body : Body) → Encodes bytes number body → first_body_fault bytes ≡ None
 
--- bytes are one request at most
+-- bytes encode one request at most
 abbrev pub IsOneRequest : List ℕ → Type 0
 IsOneRequest bytes =
     (number other_number : ℕ) (body other_body : Body) → Encodes bytes number body

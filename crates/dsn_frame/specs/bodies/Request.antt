@@ -1,5 +1,5 @@
--- Requests in bytes: which body some bytes stand for, and why they are refused where they stand for
--- none (this project's profile, versions 1 to 3).
+-- Requests in bytes: the body that some bytes encode, and why bytes are refused (this project's
+-- profile, versions 1 to 3).
 use Rattle.std.specs.Prelude.{◌≡◌, ℕ, Bool, true, false, ◌&&◌, ◌==◌, nat_le, List, [], ◌∷◌, length, Option, Some, None, is_none, is_some, if◌then◌else◌, slice_get, option_and_then, unwrap_or}
 use Rattle.std.specs.Option.{option_map, option_map_or}
 use Rattle.dsn_text.specs.Action.{action_byte}
@@ -25,14 +25,13 @@ use Rattle.dsn_frame.specs.declared.bodies.body_fault.BodyFault.TheVariants as f
 
 -- ---- refusals
 
--- the second byte, if there is one, is a kind of the version that the first byte is
+-- the second byte, if there is one, is a kind of the version in the first byte
 unfoldable pub has_kind : List ℕ → Bool
 has_kind bytes =
     option_map_or (λ version. option_map_or (is_kind version) (slice_get bytes 1) true)
     (slice_get bytes 0) true
 
--- a first and a second byte that there are must be right; then the fields must end where the body
--- does
+-- the first and the second byte, if present, must be valid; then the fields must end with the body
 abbrev pub layout_checks : List ℕ → List (Bool × BodyFault)
 layout_checks bytes =
     (option_map_or is_version (slice_get bytes 0) true, faults.Version)
@@ -63,24 +62,24 @@ abbrev pub or_else : {F : Type 0} → Option F → Option F → Option F
 or_else (Some fault) later = Some fault
 or_else None later = later
 
--- the number that stands for no moment: all ones
+-- the number that means no moment: all ones
 abbrev pub no_moment : ℕ
 no_moment = 18_446_744_073_709_551_615
 
--- the moment that a number of an append stands for
+-- the moment that a number of an append means
 abbrev pub moment_if_any : ℕ → Option ℕ
 moment_if_any seconds = if seconds == no_moment then None else Some seconds
 
--- the number that stands for any number of outcomes: all ones
+-- the number that means any number of outcomes: all ones
 abbrev pub any_count : ℕ
 any_count = 4_294_967_295
 
--- how many outcomes a number of a version 3 flush stands for
+-- the number of outcomes that a version 3 flush expects, by its number field
 abbrev pub count_if_any : ℕ → Option ℕ
 count_if_any count = if count == any_count then None else Some count
 
--- what a flush asks for besides where it is of version 1 or 2: any number of outcomes, a header,
--- words by the service, and no extension field
+-- the further terms of a flush of version 1 or 2: any number of outcomes, a header, words by the
+-- service, and no extension field
 abbrev pub usual_wishes : WishFields
 usual_wishes = record { expected = any_count; returned = 0; wording = 0; extensions = [] }
 
@@ -92,11 +91,11 @@ retry_checks dates = (
 )
     ∷ []
 
--- the usual types of an append's texts, which say none, and no extension field
+-- the usual types of an append's texts: all of them absent, and no extension field
 abbrev pub usual_types : TypeFields
 usual_types = record { recipient = []; original = []; diagnostic = []; extensions = [] }
 
--- the outcome's fields of an append with these types and extension fields, and these moments
+-- the outcome's fields of an append with these types, extension fields and moments
 abbrev pub outcome_fields : RecipientFields → TypeFields → Option ℕ → Option ℕ → Fields
 outcome_fields fields types last_attempt retry_until = record {
   recipient = fields.recipient;
@@ -125,13 +124,13 @@ typed_fields fields dates types =
 abbrev pub dated_fields : RecipientFields → RetryFields → Fields
 dated_fields fields dates = typed_fields fields dates usual_types
 
--- the first fault of an append's outcome, which is one of its service
+-- the first fault of the outcome of an append, given its service
 abbrev pub first_append_fault : Head → Fields → Option BodyFault
 first_append_fault head fields =
     option_and_then (λ service. option_map outcome_refusal (first_outcome_fault service fields))
     (service_of_byte head.service)
 
--- the first fault of the fields of a body's kind; an append's moments are judged before its outcome
+-- the first fault of the fields after the head; an append's moments are checked before its outcome
 unfoldable pub first_own_fault : WireBody → Option BodyFault
 first_own_fault (AppendFields head fields) = first_append_fault head (undated_fields fields)
 first_own_fault (DatedAppendFields head fields dates) =
@@ -146,19 +145,19 @@ first_own_fault (CountedFlushFields head fields wishes) =
 first_own_fault (DiscardFields head) = None
 first_own_fault (ForgetFields head) = None
 
--- the first fault of a body's fields: those of its key come first
+-- the first fault of a body's fields; those of its key come first
 abbrev pub first_field_fault : WireBody → Option BodyFault
 first_field_fault wire = or_else (first_failed (head_checks (head_of wire))) (first_own_fault wire)
 
--- the first fault of a body, if it has one: its layout is judged before its fields
+-- the first fault of a body, if it has one; its layout is checked before its fields
 unfoldable pub first_body_fault : List ℕ → Option BodyFault
 first_body_fault bytes =
     or_else (first_failed (layout_checks bytes))
     (option_and_then (λ read. first_field_fault read.0) (body_at bytes))
 
--- ---- what a body stands for
+-- ---- the meaning of a body
 
--- the draft that a flush's fields stand for
+-- the draft that a flush's fields encode
 abbrev pub draft_of : FlushFields → WishFields → Draft
 draft_of fields wishes = record {
   moment = fields.moment;
@@ -182,8 +181,8 @@ pub record IsAppendOf (head : Head) (fields : Fields) (id : List ℕ)
   pub id_is : id ≡ head.id
   pub outcome_is : IsOutcomeOf outcome.service fields outcome
 
--- the request that fields stand for; the values are theirs, but that an outcome's diagnostic and
--- reason are cleaned
+-- the request that fields encode, with their values, except that an outcome's diagnostic and reason
+-- are cleaned
 unfoldable pub StandsFor : WireBody → Body → Type 0
 StandsFor (AppendFields head fields) (Append id outcome) =
     IsAppendOf head (undated_fields fields) id outcome
@@ -199,8 +198,8 @@ StandsFor (DiscardFields head) (Discard key) = IsKeyOf head key
 StandsFor (ForgetFields head) (Forget key) = IsKeyOf head key
 StandsFor wire body = ⊥
 
--- bytes that are laid out as a request with this number and body, in a version that has its kind; a
--- goodbye has no bytes
+-- bytes that are laid out as a request with this number and body, in a version that has its kind;
+-- no bytes encode a goodbye
 pub record Encodes (bytes : List ℕ) (number : ℕ) (body : Body) : Type 0 where
   pub wire : WireBody
   pub laid_out : bytes ≡ body_bytes wire
@@ -221,7 +220,7 @@ abbrev pub head_for : ℕ → ℕ → Service → List ℕ → Head
 head_for version number service id =
     record { version = version; number = number; service = service_byte service; id = id }
 
--- an outcome's texts are written as it keeps them, so its diagnostic and its reason clean
+-- an outcome's texts are written as it keeps them, so its diagnostic and reason are clean
 abbrev pub fields_for : Outcome → RecipientFields
 fields_for outcome = record {
   recipient = outcome.recipient;
@@ -252,16 +251,16 @@ type_fields_for outcome = record {
   extensions = outcome.extensions;
 }
 
--- no type of an outcome's texts is said, and it has no extension field: an append of version 2 can
--- say it
+-- no text of an outcome has a type, and it has no extension field: version 2 of an append can
+-- express it
 abbrev pub has_usual_types : Outcome → Bool
 has_usual_types outcome =
     is_none outcome.recipient_type
     && (is_none outcome.original_type
     && (is_none outcome.diagnostic_type && (length outcome.extensions == 0)))
 
--- an append is written in version 1 where its outcome has neither of the two moments nor a type
--- nor an extension field, and in version 2 where it has no type and no extension field
+-- An append is written in version 3 if its outcome has a type or an extension field. Otherwise it
+-- is written in version 2 if it has a moment, and in version 1 if it has none.
 unfoldable pub append_written_as : ℕ → List ℕ → Outcome → WireBody
 append_written_as number id outcome =
     if has_usual_types outcome
@@ -281,7 +280,7 @@ flush_fields_for draft = record {
   header = draft.header;
 }
 
--- a number of outcomes that is expected, or all ones
+-- the expected number of outcomes, or all ones
 abbrev pub count_or_any : Option ℕ → ℕ
 count_or_any None = any_count
 count_or_any (Some expected) = expected
@@ -294,13 +293,13 @@ wish_fields_for draft = record {
   extensions = draft.extensions;
 }
 
--- nothing unusual is asked for
+-- all further terms are the usual ones
 abbrev pub are_usual : WishFields → Bool
 are_usual wishes =
     (wishes.expected == any_count)
     && ((wishes.returned == 0) && ((wishes.wording == 0) && (length wishes.extensions == 0)))
 
--- a flush is written in version 1 where it asks for nothing unusual
+-- a flush is written in version 1 if all its further terms are the usual ones
 unfoldable pub flush_written_as : ℕ → Key → Draft → WireBody
 flush_written_as number key draft =
     if are_usual (wish_fields_for draft)
@@ -308,8 +307,8 @@ flush_written_as number key draft =
     else CountedFlushFields (head_for 3 number key.service key.id) (flush_fields_for draft)
     (wish_fields_for draft)
 
--- the fields that are written of a body with this number, in the lowest version that can say it; a
--- goodbye has none
+-- the fields that a body with this number is written as, in the lowest version that can express it;
+-- a goodbye has none
 unfoldable pub fields_written : ℕ → Body → Option WireBody
 fields_written number (Append id outcome) = Some (append_written_as number id outcome)
 fields_written number (Flush key draft) = Some (flush_written_as number key draft)
@@ -317,7 +316,7 @@ fields_written number (Discard key) = Some (DiscardFields (head_for 1 number key
 fields_written number (Forget key) = Some (ForgetFields (head_for 2 number key.service key.id))
 fields_written number Bye = None
 
--- the bytes that are written of a body; of a goodbye none
+-- the bytes that a body is written as; none for a goodbye
 unfoldable pub request_body : ℕ → Body → List ℕ
 request_body number body = option_map_or body_bytes (fields_written number body) []
 

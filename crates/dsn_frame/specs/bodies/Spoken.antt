@@ -1,5 +1,5 @@
--- Answers in bytes: which bytes stand for an answer, and why some bytes stand for none (this
--- project's profile).
+-- Answers in bytes: the bytes that encode an answer, and why bytes are refused (this project's
+-- profile).
 use Rattle.std.specs.Prelude.{◌≡◌, ℕ, suc, ◌<◌, ◌^◌, Bool, true, false, ◌&&◌, ◌||◌, not, ◌==◌, nat_le, List, [], ◌∷◌, ◌++◌, length, drop, Option, None, IfSome, slice_get, if◌then◌else◌}
 use Rattle.std.specs.Int.{w32, w64, to_be_bytes, from_be_bytes}
 use Rattle.std.specs.Option.{option_map_or}
@@ -46,7 +46,7 @@ reply_value Forgotten = 0
 reply_value NotClosed = 0
 reply_value (Differs count) = count
 
--- a refusal has a byte of its own, and its number as value
+-- a refusal has its own kind byte, and its number as the value
 abbrev pub spoken_kind : Spoken → ℕ
 spoken_kind (spoken.Reply replied) = reply_kind replied.reply
 spoken_kind (spoken.Refused code) = 10
@@ -55,7 +55,7 @@ abbrev pub spoken_value : Spoken → ℕ
 spoken_value (spoken.Reply replied) = reply_value replied.reply
 spoken_value (spoken.Refused code) = code
 
--- the serial of the notice that is told of, if one is
+-- the serial of the reported notice, if there is one
 abbrev pub spoken_serial : Spoken → Option ℕ
 spoken_serial (spoken.Reply replied) = replied.serial
 spoken_serial (spoken.Refused code) = None
@@ -64,8 +64,8 @@ spoken_serial (spoken.Refused code) = None
 abbrev pub serial_bytes : Option ℕ → List ℕ
 serial_bytes serial = option_map_or (to_be_bytes w64) serial []
 
--- an answer's body: version 1, the byte of what is said, the place of the frame that is answered,
--- the value, and the serial, if one is told
+-- an answer's body: version 1, the kind byte, the place of the frame that is answered, the value,
+-- and the serial, if there is one
 unfoldable pub answer_body : ℕ → Spoken → List ℕ
 answer_body number said =
     1 ∷ spoken_kind said
@@ -82,30 +82,31 @@ answer_frames_from place [] = []
 answer_frames_from place (answer ∷ rest) =
     answer_bytes place answer ++ answer_frames_from (suc place) rest
 
--- the byte of an answer that tells of a notice
+-- the kind byte of an answer that reports a notice
 abbrev pub sealed_kind : ℕ
 sealed_kind = 7
 
--- both numbers fit four bytes, and a serial eight; and only an answer that tells of a notice has one
+-- both numbers fit four bytes, and a serial fits eight; only an answer that reports a notice has
+-- one
 pub record FitsAnswer (number : ℕ) (said : Spoken) : Type 0 where
   pub number_fits : number < 2 ^ 32
   pub value_fits : spoken_value said < 2 ^ 32
   pub serial_fits : IfSome (spoken_serial said)
       (λ serial. (spoken_kind said ≡ sealed_kind) × (serial < 2 ^ 64))
 
--- ---- what frames are told
+-- ---- the answer that a frame gets
 
--- whether the answer to a frame with this body says a serial: where it is of version 3
+-- whether the answer to a frame with this body includes a serial: only in version 3
 abbrev pub says_serial : List ℕ → Bool
 says_serial bytes = option_map_or (λ version. version == 3) (slice_get bytes 0) false
 
--- what a frame with this body is told of an answer
+-- an answer, as a frame with this body gets it
 abbrev pub told_to : List ℕ → Spoken → Spoken
 told_to bytes (spoken.Reply replied) =
     spoken.Reply (if says_serial bytes then replied else plain replied.reply)
 told_to bytes (spoken.Refused code) = spoken.Refused code
 
--- what frames with these bodies are told of these answers, each of its own
+-- these answers, as frames with these bodies get them, one for each frame
 abbrev pub told_each : List (List ℕ) → List Spoken → List Spoken
 told_each [] answers = []
 told_each (bytes ∷ frames) [] = []
@@ -120,29 +121,29 @@ reply_of (spoken.Refused code) = []
 
 -- ---- refusals
 
--- the bytes of replies and of a refusal
+-- the kind bytes of replies and of a refusal
 abbrev pub is_spoken_kind : ℕ → Bool
 is_spoken_kind kind = nat_le 1 kind && nat_le kind 13
 
--- the bytes of replies that have no value: closed, table full, log full, nothing, gone, forgotten,
--- and not closed
+-- the kind bytes of replies that have no value: closed, table full, log full, nothing, gone,
+-- forgotten, and not closed
 abbrev pub is_without_value : ℕ → Bool
 is_without_value kind =
     (nat_le 2 kind && nat_le kind 5) || ((kind == 9) || (nat_le 11 kind && nat_le kind 12))
 
--- the value of an answer that tells of no notice: the last four of ten bytes
+-- the value of an answer without a serial: the last four of ten bytes
 abbrev pub value_at : List ℕ → ℕ
 value_at bytes = from_be_bytes w32 (drop 6 bytes)
 
--- whether nothing stands behind an answer's body: it has ten bytes, or eighteen where it tells of a
--- notice and its serial
+-- whether no byte follows an answer's body: it has at most 10 bytes, or 18 if it reports a notice
+-- and its serial
 abbrev pub is_without_rest : List ℕ → Bool
 is_without_rest bytes =
     nat_le (length bytes) 10
     || ((length bytes == 18) && option_map_or (λ kind. kind == sealed_kind) (slice_get bytes 1) false)
 
--- a first and a second byte that there are must be right; then there must be ten bytes, or eighteen;
--- then a reply without a value must have none
+-- the checks in order: the first and the second byte, if present, are valid; there are 10 bytes, or
+-- 18; and the value is 0 if the reply has none
 abbrev pub answer_checks : List ℕ → List (Bool × AnswerFault)
 answer_checks bytes =
     (option_map_or (λ version. version == 1) (slice_get bytes 0) true, faults.Version)

@@ -1,17 +1,17 @@
--- The fields of a request's body as they stand in it, from left to right, before any is judged
--- (this project's profile, versions 1 to 3).
+-- The fields of a request's body in their order, before they are checked (this project's profile,
+-- versions 1 to 3).
 use Rattle.std.specs.Prelude.{◌≡◌, ℕ, ◌<◌, ◌^◌, List, [], ◌∷◌, ◌++◌, length, take, drop, Option, Some, None, Bool, true, false, ◌&&◌, nat_lt, nat_le, ◌==◌, if◌then◌else◌}
 use Rattle.std.specs.Int.{Width, w16, w32, w64, byte_len, to_be_bytes, from_be_bytes}
 
--- what every body begins with: its version, and after its kind its number on the connection, the
--- byte of its service, and the queue id of its message
+-- the head of a body: its version and, after its kind, its number on the connection, the byte of
+-- its service, and the queue id of its message
 pub record Head : Type 0 where
   pub version : ℕ
   pub number : ℕ
   pub service : ℕ
   pub id : List ℕ
 
--- what an append says of its recipient in each version; an empty text means that there is none
+-- the recipient's fields of an append in each version; an empty text means that the text is absent
 pub record RecipientFields : Type 0 where
   pub recipient : List ℕ
   pub original : List ℕ
@@ -21,22 +21,22 @@ pub record RecipientFields : Type 0 where
   pub diagnostic : List ℕ
   pub reason : List ℕ
 
--- what an append of version 2 or 3 goes on with: when delivery was last tried, and until when it is
--- tried again, in seconds since 1970; all ones mean that it isn't said
+-- The moments of an append of version 2 or 3, in seconds since 1970: the last attempt at delivery,
+-- and the end of further attempts. All ones mean that a moment is absent.
 pub record RetryFields : Type 0 where
   pub last_attempt : ℕ
   pub retry_until : ℕ
 
--- what an append of version 3 goes on with: of which types its recipients and its diagnostic are, an
--- empty text meaning the usual type, and its extension fields
+-- the further fields of a version 3 append: the types of its recipients and its diagnostic, with an
+-- empty text for the usual type, and its extension fields
 pub record TypeFields : Type 0 where
   pub recipient : List ℕ
   pub original : List ℕ
   pub diagnostic : List ℕ
   pub extensions : List ℕ
 
--- what a flush goes on with: moment and arrival in seconds since 1970, the return path, the
--- envelope id and the returned header; an empty text means that there is none
+-- The fields of a flush: moment and arrival in seconds since 1970, the return path, the envelope id
+-- and the returned header. An empty text means that the text is absent.
 pub record FlushFields : Type 0 where
   pub moment : ℕ
   pub arrival : ℕ
@@ -44,18 +44,18 @@ pub record FlushFields : Type 0 where
   pub envelope_id : List ℕ
   pub header : List ℕ
 
--- what a flush of version 3 goes on with: how many outcomes it expects (all ones mean any number),
--- the byte of what its header field holds, the byte of its notice's wording, and the extension fields
--- of its message
+-- The further terms of a version 3 flush: the expected number of outcomes, what its header field
+-- holds, how its notice is worded, and its message's extension fields. An expected number of all
+-- ones means any number.
 pub record WishFields : Type 0 where
   pub expected : ℕ
   pub returned : ℕ
   pub wording : ℕ
   pub extensions : List ℕ
 
--- a body's fields: of an append those of its recipient, after version 1 with its two moments, in
--- version 3 with the types of its texts and its extension fields, of a flush its own, in version 3
--- with what it asks for besides, of a discard and of a Forget no more
+-- A body's fields after its head. An append has its recipient's fields; from version 2 on its two
+-- moments; in version 3 its types and extension fields. A flush has its own fields, and in version
+-- 3 its further terms. A discard and a Forget have no further field.
 pub data WireBody : Type 0 where
   AppendFields : Head → RecipientFields → WireBody
   DatedAppendFields : Head → RecipientFields → RetryFields → WireBody
@@ -76,7 +76,7 @@ head_of (ForgetFields head) = head
 
 -- ---- how fields are written
 
--- a number of a fixed width, its highest byte first
+-- a number of a fixed width, highest byte first
 unfoldable pub number_bytes : Width → ℕ → List ℕ
 number_bytes w number = to_be_bytes w number
 
@@ -112,7 +112,7 @@ wish_bytes wishes =
     number_bytes w32 wishes.expected
     ++ (wishes.returned ∷ wishes.wording ∷ text_bytes wishes.extensions)
 
--- a flush's fields, and what it asks for besides
+-- a flush's fields, and its further terms
 unfoldable pub counted_flush_bytes : FlushFields → WishFields → List ℕ
 counted_flush_bytes fields wishes = flush_bytes fields ++ wish_bytes wishes
 
@@ -130,17 +130,17 @@ kind_of (ForgetFields head) = 4
 abbrev pub is_version : ℕ → Bool
 is_version version = nat_le 1 version && nat_le version 3
 
--- the kinds of a version: a Forget is of versions 2 and 3 alone, whose discards are those of
--- version 1, as the flushes of version 2 are
+-- The kinds of a version: a Forget needs version 2 or 3. Discards of versions 2 and 3 are laid out
+-- as in version 1, and so are flushes of version 2.
 abbrev pub is_kind : ℕ → ℕ → Bool
 is_kind version kind =
     if version == 1 then nat_le 1 kind && nat_le kind 3 else nat_le 1 kind && nat_le kind 4
 
--- a body's version is one, and its kind one of it
+-- a body's version is valid, and its kind is one of that version
 abbrev pub is_known : WireBody → Bool
 is_known wire = is_version (head_of wire).version && is_kind (head_of wire).version (kind_of wire)
 
--- the fields that a kind of body goes on with
+-- the fields after the head
 unfoldable pub own_bytes : WireBody → List ℕ
 own_bytes (AppendFields head fields) = append_bytes fields
 own_bytes (DatedAppendFields head fields dates) = append_bytes fields ++ retry_bytes dates
@@ -215,7 +215,7 @@ Fits wire = FitsHead (head_of wire) × FitsOwn wire
 
 -- ---- how fields are read
 
--- what follows a field that was read, unless the bytes ended before it did
+-- the next field, unless the bytes ended within the one before
 infixl 10 ◌>>=◌
 abbrev pub ◌>>=◌ : {A B : Type 0} → Option A → (A → Option B) → Option B
 None >>= next = None
@@ -287,8 +287,8 @@ types_at bytes = do
     extensions.1,
   )
 
--- an append that begins with this head: after version 1 its two moments follow, and in version 3 the
--- types of its texts and its extension fields
+-- an append with this head: from version 2 on its two moments follow, and in version 3 its types
+-- and extension fields
 unfoldable pub append_body_at : Head → List ℕ → Option (WireBody × List ℕ)
 append_body_at head bytes =
     if head.version == 1
@@ -333,7 +333,7 @@ wishes_at bytes = do
     extensions.1,
   )
 
--- a flush that begins with this head: in version 3 what it asks for besides follows
+-- a flush with this head: in version 3 its further terms follow
 unfoldable pub flush_body_at : Head → List ℕ → Option (WireBody × List ℕ)
 flush_body_at head bytes =
     if head.version == 3
@@ -341,7 +341,7 @@ flush_body_at head bytes =
     (CountedFlushFields head fields.0 wishes.0, wishes.1))
     else (flush_at bytes >>= λ fields. Some (FlushFieldsOf head fields.0, fields.1))
 
--- the body of this kind that begins with this head
+-- the body of this kind with this head
 unfoldable pub own_at : ℕ → Head → List ℕ → Option (WireBody × List ℕ)
 own_at kind head bytes =
     if kind == 1 then append_body_at head bytes

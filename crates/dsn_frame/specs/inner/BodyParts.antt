@@ -83,14 +83,14 @@ pub record IsWhole (bytes : List ℕ) (wire : WireBody) : Type 0 where
   pub accepted : first_failed (layout_checks bytes) ≡ None
   pub read : body_at bytes ≡ Some (wire, [])
 
--- the most bytes that follow the queue id of a written body: a flush's of version 3, whose two
--- moments, four lengths, count and two bytes take 30, and each of whose texts is as long as it may be
+-- The most bytes that follow the queue id of a body, those of a version 3 flush with texts of the
+-- greatest lengths. Its two moments, four lengths, count and two bytes take 30.
 abbrev pub longest_own : ℕ
 longest_own =
     30 + (longest_address + (longest_envelope_id + (longest_header + longest_extension_text)))
 
--- fields that are written of a body: no check fails, they stand for the body, and a frame holds
--- them
+-- the fields that a body is written as: they pass every check, they encode the body, and they fit a
+-- frame
 pub record IsWritten (number : ℕ) (body : Body) (wire : WireBody) : Type 0 where
   pub number_is : (head_of wire).number ≡ number
   pub known : is_known wire ≡ true

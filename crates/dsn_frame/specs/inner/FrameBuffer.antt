@@ -6,12 +6,12 @@ use Rattle.dsn_frame.specs.bodies.FrameBody.{frame, IsFrameBody, longest_body}
 use Rattle.dsn_frame.specs.declared.frame_fault.FrameFault.TheVariants.{NoMemory, TooLong, Empty, CutShort, Read}
 use Rattle.dsn_frame.specs.declared.frame_fault.FrameFault.{FrameFault}
 
--- bytes that are a frame, whose body stands after the first four
+-- bytes that are a frame, with the body after the first four
 pub record IsHeld (bytes : List ℕ) : Type 0 where
   pub legal : IsFrameBody (drop length_prefix bytes)
   pub whole : bytes ≡ frame (drop length_prefix bytes)
 
--- a frame's length could not be read, or is none that a frame has
+-- why a frame's length could not be read, or isn't valid, given the bytes that were read
 abbrev pub MissesLength : FrameFault → List ℕ → Type 0
 MissesLength TooLong part = (length part ≡ length_prefix) × (longest_body < declared_length part)
 MissesLength Empty part = (length part ≡ length_prefix) × (declared_length part ≡ 0)
@@ -19,7 +19,7 @@ MissesLength CutShort part = (0 < length part) × (length part < length_prefix)
 MissesLength Read part = length part < length_prefix
 MissesLength NoMemory part = ⊥
 
--- no length of a frame could be read: these bytes were
+-- the length of a frame could not be read, and these bytes were consumed
 pub record LengthMissing (old new : Option (List ℕ)) (fault : FrameFault) : Type 0 where
   pub part : List ℕ
   pub consumed : Consumes old new part
@@ -31,7 +31,7 @@ abbrev pub ReadsLength : Option (List ℕ) → Option (List ℕ) → Option ℕ 
 ReadsLength old new None = IsAtEnd old × IsAtEnd new
 ReadsLength old new (Some size) = ConsumesLength old new size
 
--- a body of this size could not be read: nothing of it, or less than all of it
+-- why a body of this size could not be read, given the part of it that was read
 abbrev pub MissesBody : FrameFault → ℕ → List ℕ → Type 0
 MissesBody NoMemory size part = part ≡ []
 MissesBody CutShort size part = length part < size
@@ -45,12 +45,12 @@ pub record BodyMissing (old new : Option (List ℕ)) (size : ℕ) (fault : Frame
   pub misses : MissesBody fault size part
   pub ends : fault ≡ CutShort → IsAtEnd new
 
--- the body of the frame at the front of these bytes, which has so many of them
+-- the body of the frame of this length at the front of these bytes
 abbrev pub body_at_front : List ℕ → Option ℕ → Option (List ℕ)
 body_at_front bytes None = None
 body_at_front bytes (Some whole) = Some (drop length_prefix (take whole bytes))
 
--- so many bytes at the front of these are a frame
+-- the first `whole` of these bytes are a frame
 abbrev pub IsAtFront : List ℕ → Option ℕ → Type 0
 IsAtFront bytes None = Unit {0}
 IsAtFront bytes (Some whole) = (whole ≤ length bytes) × IsHeld (take whole bytes)

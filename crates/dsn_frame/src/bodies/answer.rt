@@ -1,5 +1,5 @@
-//! Answers to frames, and back.
-//! Implements docs/FORMATS.md, "Answers".
+//! Answers to frames: how they are encoded and decoded.
+//! Implements noticed-protocol(5).
 ghost use Rattle.std.specs.Prelude.{◌≡◌, ◌≢◌, ◌⊎◌, ℕ, ◌≤◌, [], ◌∷◌, ◌++◌, length, true, IfOk, IfErr, IfSome, OnOk, Ok, Some, None};
 ghost use Rattle.std.specs.Int.{w32, to_be_bytes};
 ghost use Rattle.dsn_frame.specs.bodies.Spoken.{FitsAnswer, answer_body, answer_bytes, first_answer_fault, is_without_rest, is_without_value, reply_kind, reply_value, sealed_kind, serial_bytes, spoken_kind, spoken_serial, spoken_value};
@@ -10,23 +10,23 @@ use crate::bodies::spoken::Spoken;
 use crate::frame::number_in;
 use dsn_outcome::{Replied, Reply, ShortText};
 
-/// How many bytes an answer's body has.
+/// The length of an answer's body without a serial, in bytes.
 const BODY: usize = 10;
 
-/// How many bytes one has that says a serial.
+/// The length of an answer's body with a serial, in bytes.
 const SERIAL_BODY: usize = 18;
 
-/// The byte of a reply about a notice.
+/// The kind byte of a reply about a notice.
 const SEALED: u8 = 7;
 
-/// The byte of a refusal.
+/// The kind byte of a refusal.
 const REFUSED: u8 = 10;
 
-/// The last byte of a reply.
+/// The highest kind byte.
 const LAST: u8 = 13;
 
-/// The frame of an answer to the frame at this place: a length of 10, and the ten bytes of its
-/// body; or a length of 18, and eight bytes more, if there is a serial.
+/// The frame of the answer to the frame at this place. It has a length of 10 and a body of 10
+/// bytes; with a serial, a length of 18 and a body of 18 bytes.
 #[tactic(auto, unfolding(crate::specs::bodies::Spoken::answer_bytes, crate::specs::bodies::Spoken::answer_body))]
 pub fn encode_answer(number: u32, answer: &Spoken) -> ShortText
     ensures { result ≡ answer_bytes number answer.now }
@@ -55,8 +55,8 @@ fn first_bytes(length: u8, number: u32, answer: Spoken) -> [u8; 14]
     ]
 }
 
-/// The place of the frame that is answered, and the answer. A fault is the first one in the order
-/// of `AnswerFault`'s variants. It takes no memory.
+/// The place of the frame that is answered, and the answer. Returns the first fault in the order of
+/// `AnswerFault`'s variants. Allocates no memory.
 #[tactic(auto, unfolding(crate::specs::bodies::Spoken::first_answer_fault, crate::specs::bodies::Spoken::answer_body))]
 pub fn decode_answer(bytes: &[u8]) -> Result<(u32, Spoken), AnswerFault>
     ensures encoded { IfOk result (λ read. bytes.now ≡ answer_body read.0 read.1) }
@@ -84,7 +84,8 @@ pub fn decode_answer(bytes: &[u8]) -> Result<(u32, Spoken), AnswerFault>
     Ok((number, answer))
 }
 
-/// Whether an answer's body has ten bytes at most, or eighteen if it is about a notice.
+/// Whether no byte follows an answer's body: it has at most 10 bytes, or 18 if it is about a
+/// notice.
 fn is_without_rest(bytes: &[u8]) -> bool
     ensures { result ≡ is_without_rest bytes.now }
 {
@@ -92,7 +93,7 @@ fn is_without_rest(bytes: &[u8]) -> bool
         || bytes.len() == SERIAL_BODY && bytes.get(1).is_some_and(|kind| *kind == SEALED)
 }
 
-/// The byte and the value of an answer.
+/// The kind byte and the value of an answer.
 fn fields_of(answer: Spoken) -> (u8, u32)
     ensures kind { result.0 ≡ spoken_kind answer }
     ensures value { result.1 ≡ spoken_value answer }
@@ -103,10 +104,10 @@ fn fields_of(answer: Spoken) -> (u8, u32)
     }
 }
 
-/// The serial that an answer has, if it has one.
+/// The serial of an answer, if it has one.
 ///
-/// An agent with a log of its own names its notice by the Message-ID, of which it knows all but
-/// this.
+/// The serial is the only part of a notice's Message-ID that an agent with its own log doesn't
+/// know.
 fn serial_of(answer: Spoken) -> Option<u64>
     ensures { result ≡ spoken_serial answer }
 {
@@ -116,7 +117,7 @@ fn serial_of(answer: Spoken) -> Option<u64>
     }
 }
 
-/// The byte and the value of a reply.
+/// The kind byte and the value of a reply.
 fn reply_fields(reply: Reply) -> (u8, u32)
     ensures kind { result.0 ≡ reply_kind reply }
     ensures value { result.1 ≡ reply_value reply }
@@ -137,8 +138,8 @@ fn reply_fields(reply: Reply) -> (u8, u32)
     }
 }
 
-/// The answer with this byte, this value and this serial; none where the byte's reply has no value
-/// and this is one.
+/// The answer with this kind byte, value and serial. Returns `None` if the kind's reply has no
+/// value and this one isn't 0.
 fn answer_from(kind: u8, value: u32, serial: Option<u64>) -> Option<Spoken>
     requires low { 1 ≤ kind }
     requires high { kind ≤ LAST }
@@ -168,7 +169,7 @@ fn answer_from(kind: u8, value: u32, serial: Option<u64>) -> Option<Spoken>
     Some(Spoken::Reply(Replied { reply, serial }))
 }
 
-/// The serial that eight bytes are, the highest first; none where there are no bytes.
+/// The serial in eight bytes, highest byte first, or `None` if there are no bytes.
 fn serial_in(bytes: &[u8]) -> Option<u64>
     requires { (bytes.now ≡ []) ⊎ (length bytes.now ≡ 8) }
     ensures { bytes.now ≡ serial_bytes result }

@@ -1,12 +1,12 @@
-//! Why bytes are no answer.
-//! Implements docs/FORMATS.md, "Answers".
+//! Why bytes aren't an answer.
+//! Implements noticed-protocol(5).
 ghost use Rattle.std.specs.Prelude.{◌≡◌};
 ghost use Rattle.dsn_frame.specs.bodies.AnswerFault.{answer_fault_code};
 
 use dsn_text::fault_code;
 use thiserror::Error;
 
-/// Why an answer's body is refused; the first reason in this order is given.
+/// Why an answer's body is refused. The first reason in this order is given.
 #[derive(Clone, Copy, Debug, PartialEq, Eq, Error)]
 pub enum AnswerFault {
     /// The first byte isn't version 1.
@@ -18,10 +18,10 @@ pub enum AnswerFault {
     /// The body has fewer than 10 bytes.
     #[error("the answer ends before its fields do")]
     Short,
-    /// The body has more than 10 bytes.
+    /// The body has more than 10 bytes. An answer about a notice may have 18.
     #[error("bytes follow the answer")]
     Extra,
-    /// A reply that has no value comes with one that isn't 0.
+    /// The value isn't 0, but the reply has no value.
     #[error("the reply has no value")]
     Value,
 }

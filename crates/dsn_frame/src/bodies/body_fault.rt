@@ -1,5 +1,5 @@
 //! Why a body is refused.
-//! Implements docs/FORMATS.md, "Which refusal a body gets".
+//! Implements noticed-protocol(5).
 ghost use Rattle.std.specs.Prelude.{◌≡◌};
 ghost use Rattle.dsn_frame.specs.bodies.BodyFault.{body_fault_code};
 
@@ -7,7 +7,7 @@ use dsn_outcome::{DraftFault, OutcomeFault};
 use dsn_text::fault_code;
 use thiserror::Error;
 
-/// Why a body is refused; the first reason in this order is given.
+/// Why a body is refused. The first reason in this order is given.
 #[derive(Clone, Copy, Debug, PartialEq, Eq, Error)]
 pub enum BodyFault {
     /// The version is unknown.
@@ -26,7 +26,7 @@ pub enum BodyFault {
     #[error("the service is unknown")]
     Service,
     /// The queue id is malformed.
-    #[error("the queue id is none")]
+    #[error("the queue id is malformed")]
     QueueId,
     /// A moment of a flush or of an append is after the year 9999.
     #[error("a moment is after the year 9999")]
@@ -49,9 +49,9 @@ pub enum BodyFault {
     /// The wording of a flush's notice is unknown.
     #[error("the wording of the notice is unknown")]
     Wording,
-    /// The extension fields of a flush are neither empty nor 1 to 8 lines of a name that begins with
-    /// `X-` and a value, each ended by LF alone.
-    #[error("the extension fields of the message are none")]
+    /// The extension fields of a flush are malformed. They must be empty, or 1 to 8 lines of a name
+    /// that begins with `X-` and a value, each ended by LF alone.
+    #[error("the extension fields of the message are malformed")]
     Extensions,
     /// Memory for the request was refused.
     #[error("out of memory")]

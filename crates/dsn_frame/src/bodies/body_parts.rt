@@ -1,7 +1,7 @@
-//! The fields of a body before any is judged. Implements docs/FORMATS.md, "Requests".
+//! The fields of a body before they are checked. Implements noticed-protocol(5).
 use dsn_outcome::Types;
 
-/// What every body begins with; its kind is after its version.
+/// The head of a body. Its kind follows its version.
 #[derive(Clone, Copy)]
 pub(crate) struct HeadParts<'a> {
     /// The version.
@@ -14,7 +14,7 @@ pub(crate) struct HeadParts<'a> {
     pub(crate) id: &'a [u8],
 }
 
-/// What an append says of its recipient. An empty text means that there is none.
+/// The recipient's fields of an append. An empty text means that the text is absent.
 #[derive(Clone, Copy)]
 pub(crate) struct RecipientParts<'a> {
     /// The final recipient.
@@ -33,22 +33,22 @@ pub(crate) struct RecipientParts<'a> {
     pub(crate) reason: &'a [u8],
 }
 
-/// What an append of a later version than the first goes on with, in seconds since 1970;
-/// [`NO_MOMENT`] means that it isn't said.
+/// The moments of an append of the second or third version, in seconds since 1970. [`NO_MOMENT`]
+/// means that a moment is absent.
 #[derive(Clone, Copy)]
 pub(crate) struct RetryParts {
-    /// When delivery was last tried.
+    /// The last attempt at delivery.
     pub(crate) last_attempt: u64,
-    /// Until when delivery is tried again.
+    /// The end of further attempts at delivery.
     pub(crate) retry_until: u64,
 }
 
-/// What an append of the third version goes on with.
+/// The types and extension fields of an append of the third version.
 #[derive(Clone, Copy)]
 pub(crate) struct TypeParts<'a> {
     /// The types of its texts.
     pub(crate) types: Types<'a>,
-    /// The extension fields. Empty for none.
+    /// The extension fields, or the empty text.
     pub(crate) extensions: &'a [u8],
 }
 
@@ -74,12 +74,12 @@ pub(crate) const NO_MOMENT: u64 = u64::MAX;
 /// The number that means any number of outcomes.
 pub(crate) const ANY_COUNT: u32 = u32::MAX;
 
-/// What a flush goes on with. An empty text means that there is none.
+/// The fields of a flush. An empty text means that the text is absent.
 #[derive(Clone, Copy)]
 pub(crate) struct FlushParts<'a> {
-    /// When the flush was asked for, in seconds since 1970.
+    /// The time of the flush, in seconds since 1970.
     pub(crate) moment: u64,
-    /// When the message arrived, in seconds since 1970.
+    /// The arrival of the message, in seconds since 1970.
     pub(crate) arrival: u64,
     /// The return path.
     pub(crate) return_path: &'a [u8],
@@ -89,16 +89,16 @@ pub(crate) struct FlushParts<'a> {
     pub(crate) header: &'a [u8],
 }
 
-/// What a flush of the third version goes on with.
+/// The further terms of a flush of the third version.
 #[derive(Clone, Copy)]
 pub(crate) struct WishParts<'a> {
-    /// How many outcomes it expects; [`ANY_COUNT`] means any number.
+    /// The number of outcomes that it expects; [`ANY_COUNT`] means any number.
     pub(crate) expected: u32,
-    /// The byte of what its header field holds.
+    /// The byte that says what its header field holds.
     pub(crate) returned: u8,
-    /// The byte of how its notice's words are chosen.
+    /// The byte that says how the notice is worded.
     pub(crate) wording: u8,
-    /// The extension fields of the message. Empty for none.
+    /// The extension fields of the message, or the empty text.
     pub(crate) extensions: &'a [u8],
 }
 
@@ -107,7 +107,7 @@ impl WishParts<'_> {
     ghost use Rattle.dsn_frame.specs.inner.BodyParts.{wish_fields_in};
     ghost use Rattle.dsn_frame.specs.bodies.Request.{are_usual, usual_wishes};
 
-    /// What a flush of an earlier version asks for.
+    /// The further terms of a flush of an earlier version.
     pub(crate) fn usual() -> WishParts<'static>
         ensures { wish_fields_in result ≡ usual_wishes }
     {
@@ -119,7 +119,7 @@ impl WishParts<'_> {
         }
     }
 
-    /// Whether an earlier version can say it.
+    /// Whether an earlier version can express these terms.
     pub(crate) fn are_usual(self) -> bool
         ensures { result ≡ are_usual (wish_fields_in self.entry) }
     {
@@ -137,12 +137,12 @@ pub(crate) enum BodyParts<'a> {
     Append(HeadParts<'a>, RecipientParts<'a>),
     /// An outcome to be logged, with its two moments.
     DatedAppend(HeadParts<'a>, RecipientParts<'a>, RetryParts),
-    /// An outcome to be logged, with its two moments, the types of its texts and its extension
+    /// An outcome to be logged, with its two moments, the types of its texts, and its extension
     /// fields.
     TypedAppend(HeadParts<'a>, RecipientParts<'a>, RetryParts, TypeParts<'a>),
     /// A notice to be made.
     Flush(HeadParts<'a>, FlushParts<'a>),
-    /// A notice to be made, with what is asked for besides.
+    /// A notice to be made, with its further terms.
     CountedFlush(HeadParts<'a>, FlushParts<'a>, WishParts<'a>),
     /// A log to be dropped.
     Discard(HeadParts<'a>),
@@ -155,7 +155,7 @@ impl<'a> BodyParts<'a> {
     ghost use Rattle.dsn_frame.specs.inner.BodyParts.{head_in, wire_body_in};
     ghost use Rattle.dsn_frame.specs.bodies.Wire.{head_of, kind_of};
 
-    /// What the body begins with.
+    /// The head of the body.
     pub(crate) fn head(self) -> HeadParts<'a>
         ensures { head_in result ≡ head_of (wire_body_in self.entry) }
     {
@@ -170,7 +170,7 @@ impl<'a> BodyParts<'a> {
         }
     }
 
-    /// The byte of the body's kind.
+    /// The kind byte of the body.
     pub(crate) fn kind(self) -> u8
         ensures { result ≡ kind_of (wire_body_in self.entry) }
     {

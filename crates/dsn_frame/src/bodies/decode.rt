@@ -1,5 +1,5 @@
-//! Bodies to requests.
-//! Implements docs/FORMATS.md, "Requests" and "Which refusal a body gets".
+//! Requests from bodies.
+//! Implements noticed-protocol(5).
 ghost use Rattle.std.specs.Prelude.{◌≡◌, ◌≢◌, ◌&&◌, nat_le, [], true, false, IsTrue, IfOk, IfErr, OnOk, Some, None, unwrap_or};
 ghost use Rattle.std.specs.Option.{option_map};
 ghost use Rattle.dsn_outcome.specs.Body.{body_of};
@@ -25,9 +25,9 @@ use dsn_outcome::{
 };
 use std::alloc::Global;
 
-/// The request that a body encodes, with its number on the connection. It is never a goodbye. A
-/// fault is the first one in the order of `BodyFault`'s variants; memory is taken once none is
-/// left, so `NoMemory` is returned only if a body without a fault met a refused growth.
+/// The request that a body encodes, with its number on the connection. It is never a goodbye.
+/// Returns the first fault in the order of `BodyFault`'s variants. Memory is allocated after all
+/// other checks, so `NoMemory` means that a body without a fault met a refused allocation.
 #[tactic(auto, unfolding(crate::specs::bodies::Request::first_body_fault))]
 pub fn decode_request(alloc: Global, bytes: &[u8]) -> Result<(u32, Body), BodyFault>
     ensures encoded { IfOk result (λ read. Encodes bytes.now read.0 (body_of read.1)) }
@@ -43,7 +43,7 @@ pub fn decode_request(alloc: Global, bytes: &[u8]) -> Result<(u32, Body), BodyFa
     Ok((head.number, body))
 }
 
-/// The fields that are all of a body.
+/// The fields of a body, if nothing follows them.
 fn whole_body(bytes: &[u8]) -> Result<BodyParts<'_>, BodyFault>
     ensures accepted { OnOk result (first_failed (layout_checks bytes.now) ≡ None) }
     ensures read { IfOk result (λ parts. body_at bytes.now ≡ Some (wire_body_in parts, [])) }
@@ -65,7 +65,7 @@ fn whole_body(bytes: &[u8]) -> Result<BodyParts<'_>, BodyFault>
     Ok(parts)
 }
 
-/// Whether the second byte, if there is one, is a kind of the version that the first byte is.
+/// Whether the second byte, if there is one, is a kind of the version in the first byte.
 #[tactic(auto, unfolding(crate::specs::bodies::Request::has_kind))]
 fn has_kind(bytes: &[u8]) -> bool
     ensures { result ≡ has_kind bytes.now }
@@ -89,7 +89,7 @@ fn key_of(head: HeadParts<'_>) -> Result<Key, BodyFault>
     Ok(Key { service, id })
 }
 
-/// The body that fields encode, about their key.
+/// The body that these fields encode, about their key.
 #[tactic(auto, unfolding(crate::specs::bodies::Request::first_own_fault, crate::specs::bodies::Request::StandsFor))]
 fn body_about(alloc: Global, key: Key, parts: BodyParts<'_>) -> Result<Body, BodyFault>
     requires { IsKeyOf (head_of (wire_body_in parts)) key }
@@ -127,8 +127,8 @@ fn body_about(alloc: Global, key: Key, parts: BodyParts<'_>) -> Result<Body, Bod
     }
 }
 
-/// The outcome of a service that an append's fields, these types and extension fields, and these
-/// moments encode.
+/// The outcome of a service that these fields of an append encode, with these types, extension
+/// fields and moments.
 fn outcome_from(
     alloc: Global,
     service: Service,
@@ -171,7 +171,8 @@ fn outcome_from(
     Ok(Outcome::new(alloc, service, parts)?)
 }
 
-/// The two moments of an append, if each is a moment or none.
+/// The two moments of an append. Returns `Moment` if a number is neither a moment nor the number
+/// for no moment.
 fn checked_dates(dates: RetryParts) -> Result<(Option<Stamp>, Option<Stamp>), BodyFault>
     ensures last_attempt { IfOk result (λ moments. moments.0 ≡ moment_if_any dates.last_attempt) }
     ensures retry_until { IfOk result (λ moments. moments.1 ≡ moment_if_any dates.retry_until) }
@@ -184,7 +185,8 @@ fn checked_dates(dates: RetryParts) -> Result<(Option<Stamp>, Option<Stamp>), Bo
     Ok((last_attempt, retry_until))
 }
 
-/// The moment that a number encodes, if it encodes a moment or none.
+/// The moment that a number encodes, or `None` for [`NO_MOMENT`]. Returns `Moment` if it is
+/// neither.
 fn checked_date(seconds: u64) -> Result<Option<Stamp>, BodyFault>
     ensures moment { IfOk result (λ moment. moment ≡ moment_if_any seconds) }
     ensures accepted { OnOk result (is_none_or is_moment (moment_if_any seconds) ≡ true) }
@@ -200,7 +202,7 @@ fn checked_date(seconds: u64) -> Result<Option<Stamp>, BodyFault>
     }
 }
 
-/// How many outcomes a number of a flush means; none if it means any number.
+/// The number of outcomes that a flush expects, or `None` if it accepts any number.
 fn count_if_any(count: u32) -> Option<u32>
     ensures same { result ≡ count_if_any count }
     ensures counted { IsTrue (is_none_or is_count result) }
@@ -242,7 +244,7 @@ fn draft_from(
     Ok(Draft::read(alloc, moment, arrival, parts)?)
 }
 
-/// The moment and the arrival of a flush, if each is a moment.
+/// The moment and the arrival of a flush. Returns `Moment` if either is after the year 9999.
 fn checked_moments(moment: u64, arrival: u64) -> Result<(Stamp, Stamp), BodyFault>
     ensures moment { IfOk result (λ moments. moments.0 ≡ moment) }
     ensures arrival { IfOk result (λ moments. moments.1 ≡ arrival) }

@@ -1,5 +1,5 @@
 //! Requests to frames.
-//! Implements docs/FORMATS.md, "Requests".
+//! Implements noticed-protocol(5).
 ghost use Rattle.std.specs.Prelude.{◌≡◌, ◌≢◌, Some, IfOk, IsTrue};
 ghost use Rattle.std.specs.Option.{option_copied};
 ghost use Rattle.dsn_outcome.specs.Body.{body_of, body_lent};
@@ -27,12 +27,12 @@ use std::alloc::Global;
 
 /// The whole frame of a request: its length, and a body that encodes this number and this request.
 /// A diagnostic and a reason are written as the outcome keeps them, clean. Memory for the frame is
-/// taken at once, so `NoMemory` comes before a byte is written. It is for
-/// embedders and tests.
+/// allocated at once, so `NoMemory` is returned before a byte is written. This is for embedders and
+/// tests.
 ///
-/// Its contract has both the bytes and that they encode the request. The bytes alone wouldn't fix
-/// the format's meaning. The meaning alone wouldn't fix the bytes: a diagnostic's unprintable bytes
-/// are all read as `?`, so one request has several bodies.
+/// The contract states both the bytes and that they encode the request. The bytes alone wouldn't
+/// fix the format's meaning. The meaning alone wouldn't fix the bytes: a diagnostic's unprintable
+/// bytes are all read as `?`, so one request has several bodies.
 pub fn encode_request(alloc: Global, number: u32, body: &Body) -> Result<Vec<u8>, NoMemory>
     requires { body_of body.now ≢ Bye }
     ensures written { IfOk result (λ frame. frame.items ≡ request_bytes number (body_of body.now)) }
@@ -45,9 +45,10 @@ pub fn encode_request(alloc: Global, number: u32, body: &Body) -> Result<Vec<u8>
     }
 }
 
-/// The same of a request whose parts somebody else owns.
+/// The whole frame of a request whose parts another value owns. Otherwise like [`encode_request`].
 ///
-/// A journal's snapshot writes outcomes that a log or a letter keeps; a copy would take memory.
+/// A journal's snapshot writes outcomes that a log or a letter keeps. A copy of them would take
+/// memory.
 #[tactic(auto, using(crate::proofs::bodies::EncodingLaws::written_encodes, crate::proofs::bodies::EncodingLaws::written_fits), unfolding(crate::specs::bodies::Request::request_body, crate::specs::bodies::Request::request_bytes))]
 pub fn encode_lent(alloc: Global, number: u32, body: BodyRef<'_>) -> Result<Vec<u8>, NoMemory>
     ensures written { IfOk result
@@ -83,7 +84,7 @@ fn parts_of(number: u32, body: BodyRef<'_>) -> BodyParts<'_>
     }
 }
 
-/// What the body of a request about this message begins with.
+/// The head of a request about this message.
 fn head_parts(version: u8, number: u32, service: Service, id: &QueueId) -> HeadParts<'_>
     ensures same { head_in result ≡ head_for version number service id.now }
     ensures legal { IsQueueId id.now }
@@ -120,10 +121,10 @@ fn append_parts<'a>(number: u32, id: &'a QueueId, outcome: &'a Outcome) -> BodyP
     )
 }
 
-/// Whether no type of an outcome's texts is said, and it has no extension field: an append of the
-/// second version can say it.
+/// Whether an append of the second version can express the outcome: none of its texts has a type,
+/// and it has no extension field.
 ///
-/// A type that was named is kept, also `rfc822` and `smtp`, though its notice is the same.
+/// An explicit type is kept, also `rfc822` and `smtp`, though the notice is the same without it.
 fn has_usual_types(outcome: &Outcome) -> bool
     ensures { result ≡ has_usual_types outcome.now }
 {
@@ -182,7 +183,7 @@ fn recipient_parts(outcome: &Outcome) -> RecipientParts<'_>
     }
 }
 
-/// All fields of a flush: its further wishes are of the third version.
+/// All fields of a flush, in the third version if its further terms aren't the usual ones.
 #[tactic(auto, unfolding(crate::specs::bodies::Request::flush_written_as))]
 fn flush_body<'a>(number: u32, key: &'a Key, terms: &'a DraftTerms) -> BodyParts<'a>
     ensures same { wire_body_in result ≡ flush_written_as number key.now terms.now }
@@ -200,7 +201,7 @@ fn flush_body<'a>(number: u32, key: &'a Key, terms: &'a DraftTerms) -> BodyParts
     )
 }
 
-/// The number of outcomes, or the number that means any.
+/// The expected number of outcomes, or the number that means any.
 fn count_or_any(expected: Option<u32>) -> u32
     ensures { result ≡ count_or_any expected }
 {
@@ -210,7 +211,7 @@ fn count_or_any(expected: Option<u32>) -> u32
     }
 }
 
-/// The fields of a flush of each version, and its further wishes.
+/// The fields of a flush that each version has, and its further terms.
 fn flush_parts(terms: &DraftTerms) -> (FlushParts<'_>, WishParts<'_>)
     ensures same { flush_fields_in result.0 ≡ flush_fields_for terms.now }
     ensures wishes { wish_fields_in result.1 ≡ wish_fields_for terms.now }

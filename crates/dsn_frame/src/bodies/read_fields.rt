@@ -1,6 +1,6 @@
-//! Fields, read from the front of some bytes. Each reader answers the field and the bytes after
-//! it, or none where the bytes end before the field does.
-//! Implements docs/FORMATS.md, "Conventions".
+//! Fields, read from the front of some bytes. Each reader returns the field and the bytes after it,
+//! or `None` if the bytes end within the field.
+//! Implements noticed-protocol(5).
 ghost use Rattle.std.specs.Prelude.{◌≡◌};
 ghost use Rattle.std.specs.Int.{w16, w32, w64};
 ghost use Rattle.std.specs.Option.{option_map};
@@ -224,7 +224,7 @@ fn own_of<'a>(kind: u8, head: HeadParts<'a>, bytes: &'a [u8]) -> Option<(BodyPar
     }
 }
 
-/// The fields of a body of any kind, with what follows them.
+/// The fields of a body of any kind, and the bytes after them.
 #[tactic(auto, unfolding(crate::specs::bodies::Wire::body_at))]
 pub(crate) fn body_of(bytes: &[u8]) -> Option<(BodyParts<'_>, &[u8])>
     ensures { option_map (λ read. (wire_body_in read.0, read.1.now)) result ≡ body_at bytes.now }

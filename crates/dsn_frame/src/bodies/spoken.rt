@@ -1,29 +1,30 @@
-//! What a session says to a frame.
-//! Implements docs/FORMATS.md, "Answers".
+//! The answer to a frame.
+//! Implements noticed-protocol(5).
 ghost use Rattle.std.specs.Prelude.{◌≡◌};
 ghost use Rattle.dsn_frame.specs.bodies.Spoken.{says_serial, told_to};
 
 use crate::bodies::THIRD_VERSION;
 use dsn_outcome::Replied;
 
-/// What a frame is answered.
+/// The answer to a frame.
 #[derive(Clone, Copy, Debug, PartialEq, Eq)]
 pub enum Spoken {
-    /// What became of the request.
+    /// The reply to the request.
     Reply(Replied),
-    /// The number of the refusal: the frame's body is no request, has a number out of turn, or
-    /// can't be asked any more.
+    /// The number of the refusal: the body isn't a request, memory was refused, its number is out
+    /// of turn, or no further request is accepted.
     Refused(u32),
 }
 
 impl Spoken {
-    /// What the answer to a frame with this body says: the serial only where it is of version 3.
+    /// The answer as a frame with this body gets it: with a serial only if the frame is of version
+    /// 3.
     pub fn told_to(self, bytes: &[u8]) -> Spoken
         ensures { result ≡ told_to bytes.now self }
     {
         match self {
-            // A request doesn't say of which version it came, so the frame's first byte does.
-            // Clients of versions 1 and 2 read 14 bytes.
+            // A request doesn't keep its version, so the frame's first byte decides. Clients of
+            // versions 1 and 2 read 14 bytes.
             Spoken::Reply(Replied { reply, .. }) if !says_serial(bytes) => {
                 Spoken::Reply(Replied {
                     reply,
@@ -35,7 +36,7 @@ impl Spoken {
     }
 }
 
-/// Whether the answer to a frame with this body says a serial.
+/// Whether the answer to a frame with this body includes a serial.
 fn says_serial(bytes: &[u8]) -> bool
     ensures { result ≡ says_serial bytes.now }
 {

@@ -1,5 +1,5 @@
-//! Fields, written one after another at the end of a text that has room for them.
-//! Implements docs/FORMATS.md, "Conventions".
+//! Fields, appended one after another to a text that has room for them.
+//! Implements noticed-protocol(5).
 ghost use Rattle.std.specs.Prelude.{◌≡◌, ◌+◌, ◌<◌, ◌≤◌, ◌^◌, ◌++◌, length, vec_capacity};
 ghost use Rattle.std.specs.Int.{w32, w64};
 ghost use Rattle.dsn_frame.specs.inner.BodyParts.{head_in, recipient_fields_in, retry_fields_in, type_fields_in, flush_fields_in, wish_fields_in, wire_body_in};
@@ -11,28 +11,28 @@ use crate::bodies::body_parts::{
     BodyParts, FlushParts, HeadParts, RecipientParts, RetryParts, TypeParts, WishParts,
 };
 
-/// Bytes of what every body begins with, beside its queue id: the version, the kind, the number, the
+/// Bytes of the head of a body, apart from its queue id: the version, the kind, the number, the
 /// service and the id's length.
 const HEAD_LEN: usize = 9;
 
-/// Bytes of what an append goes on with, beside its texts: the action, and six texts' lengths.
+/// Bytes of an append after its head, apart from its texts: the action, and six texts' lengths.
 const APPEND_LEN: usize = 13;
 
-/// Bytes of the two moments of an append of a later version than the first.
+/// Bytes of the two moments of an append of the second or third version.
 const RETRY_LEN: usize = 16;
 
-/// Bytes of the types and the extension fields of an append of the third version, beside their texts:
-/// four texts' lengths.
+/// Bytes of the types and the extension fields of an append of the third version, apart from their
+/// texts: four texts' lengths.
 const TYPES_LEN: usize = 8;
 
-/// Bytes of what a flush goes on with, beside its texts: two moments, and three texts' lengths.
+/// Bytes of a flush after its head, apart from its texts: two moments, and three texts' lengths.
 const FLUSH_LEN: usize = 22;
 
-/// Bytes of what a flush of the third version asks for besides, beside its text: a number, two bytes,
-/// and a text's length.
+/// Bytes of the further terms of a flush of the third version, apart from their text: a number, two
+/// bytes, and a text's length.
 const WISHES_LEN: usize = 8;
 
-/// Adds bytes, and takes no memory.
+/// Appends bytes. Allocates no memory.
 fn push_bytes(out: &mut Vec<u8>, bytes: &[u8])
     requires room { length out.old.items + length bytes.now ≤ vec_capacity out.old }
     ensures added { out.new.items ≡ out.old.items ++ bytes.now }
@@ -44,7 +44,7 @@ fn push_bytes(out: &mut Vec<u8>, bytes: &[u8])
     }
 }
 
-/// Adds a text after its length.
+/// Appends a text after its length.
 #[tactic(auto, using(crate::proofs::bodies::EncodingLaws::text_length), unfolding(crate::specs::bodies::Wire::text_bytes, crate::specs::bodies::Wire::number_bytes))]
 fn push_text(out: &mut Vec<u8>, text: &[u8])
     requires fits { FitsText text.now }
@@ -56,7 +56,7 @@ fn push_text(out: &mut Vec<u8>, text: &[u8])
     push_bytes(out, text);
 }
 
-/// Adds what every body begins with after its version and its kind.
+/// Appends the head of a body after its version and its kind.
 #[tactic(auto, using(crate::proofs::bodies::EncodingLaws::head_length, crate::proofs::bodies::EncodingLaws::text_length), unfolding(crate::specs::bodies::Wire::head_bytes, crate::specs::bodies::Wire::number_bytes))]
 fn push_head(out: &mut Vec<u8>, head: HeadParts<'_>)
     requires fits { FitsHead (head_in head) }
@@ -70,7 +70,7 @@ fn push_head(out: &mut Vec<u8>, head: HeadParts<'_>)
     push_text(out, head.id);
 }
 
-/// Adds what an append goes on with.
+/// Appends the recipient's fields of an append.
 #[tactic(auto, using(crate::proofs::bodies::EncodingLaws::append_length, crate::proofs::bodies::EncodingLaws::text_length), unfolding(crate::specs::bodies::Wire::append_bytes))]
 fn push_append(out: &mut Vec<u8>, parts: RecipientParts<'_>)
     requires fits { FitsAppend (recipient_fields_in parts) }
@@ -89,7 +89,7 @@ fn push_append(out: &mut Vec<u8>, parts: RecipientParts<'_>)
     push_text(out, parts.reason);
 }
 
-/// Adds a moment, its highest byte first.
+/// Appends a moment, highest byte first.
 #[tactic(auto, unfolding(crate::specs::bodies::Wire::number_bytes))]
 fn push_moment(out: &mut Vec<u8>, moment: u64)
     requires room { length out.old.items + 8 ≤ vec_capacity out.old }
@@ -100,7 +100,7 @@ fn push_moment(out: &mut Vec<u8>, moment: u64)
     push_bytes(out, &moment.to_be_bytes());
 }
 
-/// Adds what an append of a later version than the first goes on with.
+/// Appends the two moments of an append of the second or third version.
 #[tactic(auto, using(crate::proofs::bodies::EncodingLaws::retry_length), unfolding(crate::specs::bodies::Wire::retry_bytes))]
 fn push_retry(out: &mut Vec<u8>, parts: RetryParts)
     requires room { length out.old.items + RETRY_LEN ≤ vec_capacity out.old }
@@ -111,7 +111,7 @@ fn push_retry(out: &mut Vec<u8>, parts: RetryParts)
     push_moment(out, parts.retry_until);
 }
 
-/// Adds all that an append of a later version than the first goes on with.
+/// Appends the fields of an append of the second version after its head.
 #[tactic(auto, using(crate::proofs::bodies::EncodingLaws::dated_length, crate::proofs::bodies::Rules::lengths))]
 fn push_dated_append(out: &mut Vec<u8>, fields: RecipientParts<'_>, dates: RetryParts)
     requires fits { FitsAppend (recipient_fields_in fields) }
@@ -128,7 +128,7 @@ fn push_dated_append(out: &mut Vec<u8>, fields: RecipientParts<'_>, dates: Retry
     push_retry(out, dates);
 }
 
-/// Adds the types and the extension fields of an append of the third version.
+/// Appends the types and the extension fields of an append of the third version.
 #[tactic(auto, using(crate::proofs::bodies::EncodingLaws::types_length, crate::proofs::bodies::EncodingLaws::text_length), unfolding(crate::specs::bodies::Wire::type_bytes))]
 fn push_types(out: &mut Vec<u8>, types: TypeParts<'_>)
     requires fits { FitsTypes (type_fields_in types) }
@@ -143,7 +143,7 @@ fn push_types(out: &mut Vec<u8>, types: TypeParts<'_>)
     push_text(out, types.extensions);
 }
 
-/// Adds all that an append of the third version goes on with.
+/// Appends the fields of an append of the third version after its head.
 #[tactic(auto, using(crate::proofs::bodies::EncodingLaws::typed_length, crate::proofs::bodies::EncodingLaws::dated_length, crate::proofs::bodies::Rules::lengths))]
 fn push_typed_append(
     out: &mut Vec<u8>,
@@ -167,7 +167,7 @@ fn push_typed_append(
     push_types(out, types);
 }
 
-/// Adds what a flush goes on with.
+/// Appends the fields of a flush that each version has.
 #[tactic(auto, using(crate::proofs::bodies::EncodingLaws::flush_length, crate::proofs::bodies::EncodingLaws::text_length), unfolding(crate::specs::bodies::Wire::flush_bytes))]
 fn push_flush(out: &mut Vec<u8>, parts: FlushParts<'_>)
     requires fits { FitsFlush (flush_fields_in parts) }
@@ -183,7 +183,7 @@ fn push_flush(out: &mut Vec<u8>, parts: FlushParts<'_>)
     push_text(out, parts.header);
 }
 
-/// Adds what a flush of the third version asks for besides.
+/// Appends the further terms of a flush of the third version.
 #[tactic(auto, using(crate::proofs::bodies::EncodingLaws::wishes_length, crate::proofs::bodies::EncodingLaws::text_length), unfolding(crate::specs::bodies::Wire::wish_bytes, crate::specs::bodies::Wire::number_bytes))]
 fn push_wishes(out: &mut Vec<u8>, wishes: WishParts<'_>)
     requires fits { FitsWishes (wish_fields_in wishes) }
@@ -197,7 +197,7 @@ fn push_wishes(out: &mut Vec<u8>, wishes: WishParts<'_>)
     push_text(out, wishes.extensions);
 }
 
-/// Adds all that a flush of the third version goes on with.
+/// Appends the fields of a flush of the third version after its head.
 #[tactic(auto, using(crate::proofs::bodies::EncodingLaws::counted_length, crate::proofs::bodies::Rules::lengths), unfolding(crate::specs::bodies::Wire::counted_flush_bytes))]
 fn push_counted_flush(out: &mut Vec<u8>, fields: FlushParts<'_>, wishes: WishParts<'_>)
     requires fits { FitsFlush (flush_fields_in fields) }
@@ -214,7 +214,7 @@ fn push_counted_flush(out: &mut Vec<u8>, fields: FlushParts<'_>, wishes: WishPar
     push_wishes(out, wishes);
 }
 
-/// Adds what a kind of body goes on with.
+/// Appends the fields of a body after its head.
 #[tactic(auto, unfolding(crate::specs::bodies::Wire::own_bytes, crate::specs::bodies::Wire::FitsOwn))]
 fn push_own(out: &mut Vec<u8>, parts: BodyParts<'_>)
     requires fits { FitsOwn (wire_body_in parts) }
@@ -235,7 +235,7 @@ fn push_own(out: &mut Vec<u8>, parts: BodyParts<'_>)
     }
 }
 
-/// Adds the frame of a body.
+/// Appends the frame of a body.
 pub(crate) fn push_frame(out: &mut Vec<u8>, parts: BodyParts<'_>)
     requires fits { Wire.Fits (wire_body_in parts) }
     requires small { length (body_bytes (wire_body_in parts)) ≤ longest_body }
@@ -248,7 +248,7 @@ pub(crate) fn push_frame(out: &mut Vec<u8>, parts: BodyParts<'_>)
     push_body(out, parts);
 }
 
-/// Adds a body.
+/// Appends a body.
 #[tactic(auto, using(crate::proofs::bodies::EncodingLaws::body_length, crate::proofs::bodies::EncodingLaws::head_length), unfolding(crate::specs::bodies::Wire::body_bytes))]
 fn push_body(out: &mut Vec<u8>, parts: BodyParts<'_>)
     requires fits { Wire.Fits (wire_body_in parts) }
@@ -262,7 +262,7 @@ fn push_body(out: &mut Vec<u8>, parts: BodyParts<'_>)
     push_own(out, parts);
 }
 
-/// How many bytes a body has.
+/// The length of a body, in bytes.
 #[tactic(auto, using(crate::proofs::bodies::EncodingLaws::body_length))]
 pub(crate) fn body_len(parts: BodyParts<'_>) -> usize
     requires fits { Wire.Fits (wire_body_in parts) }
@@ -271,7 +271,7 @@ pub(crate) fn body_len(parts: BodyParts<'_>) -> usize
     HEAD_LEN + parts.head().id.len() + own_len(parts)
 }
 
-/// How many bytes an append goes on with in the first version.
+/// The length of an append's recipient's fields, in bytes.
 #[tactic(auto, using(crate::proofs::bodies::EncodingLaws::append_length))]
 fn append_len(fields: RecipientParts<'_>) -> usize
     requires fits { FitsAppend (recipient_fields_in fields) }
@@ -287,7 +287,7 @@ fn append_len(fields: RecipientParts<'_>) -> usize
         + fields.reason.len()
 }
 
-/// How many bytes the types and the extension fields of an append take.
+/// The length of the types and the extension fields of an append, in bytes.
 #[tactic(auto, using(crate::proofs::bodies::EncodingLaws::types_length))]
 fn types_len(types: TypeParts<'_>) -> usize
     requires fits { FitsTypes (type_fields_in types) }
@@ -301,7 +301,7 @@ fn types_len(types: TypeParts<'_>) -> usize
         + types.extensions.len()
 }
 
-/// How many bytes a flush goes on with before the third version.
+/// The length of the fields of a flush that each version has, in bytes.
 #[tactic(auto, using(crate::proofs::bodies::EncodingLaws::flush_length))]
 fn flush_len(fields: FlushParts<'_>) -> usize
     requires fits { FitsFlush (flush_fields_in fields) }
@@ -311,7 +311,7 @@ fn flush_len(fields: FlushParts<'_>) -> usize
     FLUSH_LEN + fields.return_path.len() + fields.envelope_id.len() + fields.header.len()
 }
 
-/// How many bytes what a flush asks for besides takes.
+/// The length of the further terms of a flush, in bytes.
 #[tactic(auto, using(crate::proofs::bodies::EncodingLaws::wishes_length))]
 fn wishes_len(wishes: WishParts<'_>) -> usize
     requires fits { FitsWishes (wish_fields_in wishes) }
@@ -321,7 +321,7 @@ fn wishes_len(wishes: WishParts<'_>) -> usize
     WISHES_LEN + wishes.extensions.len()
 }
 
-/// How many bytes a body goes on with.
+/// The length of the fields of a body after its head, in bytes.
 #[tactic(auto, using(crate::proofs::bodies::EncodingLaws::counted_length, crate::proofs::bodies::EncodingLaws::dated_length, crate::proofs::bodies::EncodingLaws::typed_length), unfolding(crate::specs::bodies::Wire::own_bytes, crate::specs::bodies::Wire::FitsOwn))]
 fn own_len(parts: BodyParts<'_>) -> usize
     requires fits { FitsOwn (wire_body_in parts) }

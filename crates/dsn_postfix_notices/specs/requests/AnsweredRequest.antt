@@ -1,5 +1,5 @@
 -- What is done for a request, and before it for the bounce log of a message that Postfix removes after it.
-use Rattle.std.specs.Prelude.{◌≡◌, ℕ, ◌+◌, ◌*◌, ◌/◌, ◌%◌, ◌^◌, Bool, true, false, List, [], ◌∷◌, ◌++◌, Option, Some, None, Ok, Err, IsErr, MatchOption}
+use Rattle.std.specs.Prelude.{◌≡◌, ℕ, ◌*◌, ◌/◌, Bool, true, false, List, [], ◌∷◌, ◌++◌, Option, Some, None, Ok, Err, IsErr, MatchOption}
 use Rattle.dsn_text.specs.declared.service.Service.{Service}
 use Rattle.dsn_text.specs.declared.service.Service.TheVariants.{Bounce, Defer, Trace as TraceLog}
 use Rattle.dsn_postfix.specs.PostfixRequest.{IsRequestIn}
@@ -42,18 +42,13 @@ first_flush Bounce request = None
 first_flush Defer request = bounce_flush request
 first_flush TraceLog request = None
 
--- Letters of both logs are of one kind, about one message and of one moment. So those of the bounce log have other
--- serials.
-abbrev pub bounce_serial : ℕ → ℕ
-bounce_serial serial = (serial + 500000) % 2 ^ 64
-
 -- the terms of the flush of the bounce log
 abbrev pub bounce_terms : Terms → Terms
 bounce_terms terms = record {
   settings = terms.settings;
   service = Bounce;
   moment = terms.moment;
-  serial = bounce_serial terms.serial;
+  serial = terms.serial;
 }
 
 -- The flush of a bounce log is carried out on that log, and if it is passed on, then with its own bytes. Without memory

@@ -2,7 +2,7 @@
 -- them.
 use Rattle.std.specs.List.{flat_map, list_any}
 use Rattle.std.specs.Option.{is_some, unwrap_or}
-use Rattle.std.specs.Prelude.{◌≡◌, ℕ, ◌+◌, ◌%◌, ◌^◌, nat_lt, Bool, true, false, ◌&&◌, not, List, [], ◌∷◌, Option, Some, None, Result, Ok, Err, if◌then◌else◌}
+use Rattle.std.specs.Prelude.{◌≡◌, ℕ, ◌+◌, ◌*◌, ◌%◌, ◌^◌, nat_lt, Bool, true, false, ◌&&◌, not, List, [], ◌∷◌, length, Option, Some, None, Result, Ok, Err, if◌then◌else◌}
 use Rattle.dsn_outcome.specs.Letter.{Letter}
 use Rattle.dsn_text.specs.declared.service.Service.{Service}
 use Rattle.dsn_text.specs.declared.service.Service.TheVariants.{Bounce, Defer, Trace as TraceLog}
@@ -39,6 +39,25 @@ message_said task records = record {
   size_limit = task.terms.settings.size_limit;
 }
 
+-- ---- serials
+
+-- Letters of a bounce log and of a defer log may be of one kind and about one message. So they have other serials even
+-- if the logs are of one length.
+abbrev pub serial_of_service : Service → ℕ
+serial_of_service Bounce = 0
+serial_of_service Defer = 500000
+serial_of_service TraceLog = 0
+
+-- The first serial of a log's letters. A log only grows until it is removed, so the same log gives the same serial, and
+-- one that has grown gives another.
+abbrev pub serial_of_log : Service → List ℕ → ℕ
+serial_of_log service log = (length log * 1000000 + serial_of_service service) % 2 ^ 64
+
+-- a request without a log has the serial of its terms
+abbrev pub first_serial : Task → Option (List ℕ) → ℕ
+first_serial task None = task.terms.serial
+first_serial task (Some log) = serial_of_log task.terms.service log
+
 -- ---- letters
 
 -- a letter's serial follows that of the one before it; after 2^64 - 1 comes 0
@@ -66,7 +85,7 @@ pub record AreLettersAsked (task : Task) (found : MailRead) (letters : List Lett
   pub notices : List NoticeFacts
   pub planned : notices_of task.terms.settings.double_bounce task.terms.service task.request (recipients_of records)
       found.log ≡ Ok notices
-  pub each : AreLettersOf (message_said task records) task.terms.moment task.terms.serial notices letters
+  pub each : AreLettersOf (message_said task records) task.terms.moment (first_serial task found.log) notices letters
 
 -- ---- what no letter expresses
 

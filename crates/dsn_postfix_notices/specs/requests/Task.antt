@@ -11,7 +11,7 @@ pub record SettingsSaid : Type 0 where
   pub lifetime : ℕ
   pub size_limit : ℕ
 
--- `serial` is that of the first letter
+-- `serial` is that of the letter of a request without a log
 pub record Terms : Type 0 where
   pub settings : SettingsSaid
   pub service : Service

@@ -1,5 +1,5 @@
 //! Why no letter can be made of a planned notice. Postfix's own service then makes the notice.
-//! Implements docs/FORMATS.md, "The notice of a Postfix log".
+//! Implements docs/postfix-internals.md, "The notice of a Postfix log".
 ghost use Rattle.std.specs.Prelude.{◌≡◌};
 
 use dsn_outcome::{DraftFault, NoMemory, OutcomeFault};

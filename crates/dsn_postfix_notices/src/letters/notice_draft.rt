@@ -1,5 +1,5 @@
 //! The draft of a planned notice.
-//! Implements docs/FORMATS.md, "The notice of a Postfix log".
+//! Implements docs/postfix-internals.md, "The notice of a Postfix log".
 ghost use Rattle.std.specs.Prelude.{◌≡◌, ◌≤◌, ◌++◌, codes, IfErr, IfOk, IsSome, None, OnOk};
 ghost use Rattle.dsn_postfix_notices.specs.letters.LetterFault.{IsLetterFault};
 ghost use Rattle.dsn_postfix_notices.specs.letters.NoticeDraft.{IsDraftTold, first_draft_fault_told, is_returned_whole, is_said_sender, postfix_fields, returned_as, returned_text, sender_field, tried_until};

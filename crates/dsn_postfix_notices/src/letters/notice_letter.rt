@@ -1,5 +1,5 @@
 //! The letter of a planned notice.
-//! Implements docs/FORMATS.md, "The notice of a Postfix log".
+//! Implements docs/postfix-internals.md, "The notice of a Postfix log".
 ghost use Rattle.std.specs.Prelude.{◌≡◌, ◌≤◌, ℕ, IfErr, IfOk, None, OnOk, length, map};
 ghost use Rattle.dsn_outcome.specs.Outcomes.{most_outcomes};
 ghost use Rattle.dsn_postfix_files.specs.LogRecord.{logged_fields_in};

@@ -1,6 +1,6 @@
 //! Removes the leading zeros from the numbers of a log record's status.
 //! RFC 3463 section 2 allows no such zeros, but Postfix accepts them.
-//! Implements docs/FORMATS.md, "The notice of a Postfix log".
+//! Implements docs/postfix-internals.md, "The notice of a Postfix log".
 ghost use Rattle.std.specs.Prelude.{◌≡◌, IfOk};
 ghost use Rattle.dsn_postfix_notices.specs.letters.PlainStatus.{begins_with_digit, is_spare_zero, plain_status};
 

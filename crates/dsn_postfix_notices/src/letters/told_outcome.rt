@@ -1,5 +1,5 @@
 //! The outcome that a notice reports for a log's record.
-//! Implements docs/FORMATS.md, "The notice of a Postfix log".
+//! Implements docs/postfix-internals.md, "The notice of a Postfix log".
 //! If a text can't be reported as it is, Postfix's own service makes the notice: a cleaned address
 //! would name another recipient. Only a diagnostic or a reason is cut.
 ghost use Rattle.std.specs.Prelude.{◌≡◌, ◌≤◌, length, take, IfErr, IfOk, OnOk, None};

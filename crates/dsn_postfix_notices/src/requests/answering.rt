@@ -1,6 +1,6 @@
 //! Answers one request of Postfix's programs. A message's bounce log is flushed before its defer
 //! log.
-//! Implements docs/FORMATS.md, "A connection".
+//! Implements docs/postfix-internals.md, "A connection".
 ghost use Rattle.std.specs.Prelude.{◌≡◌};
 ghost use Rattle.dsn_postfix_notices.specs.requests.AnsweredRequest.{FlushesBounceLog, IsAnswered, IsBounceLogTold, IsFlushedInTurn, bounce_flush, bounce_terms, first_flush, without_flags};
 ghost use Rattle.dsn_postfix_notices.specs.requests.Gains.{Gains};
@@ -12,9 +12,6 @@ use crate::requests::request_terms::RequestTerms;
 use dsn_postfix::{NoticeRequest, PostfixRequest, encode_postfix_request};
 use dsn_text::{NoMemory, Service};
 use std::alloc::Global;
-
-/// The distance between the first serials of a request's two logs.
-const SERIALS_OF_LOG: u64 = 500_000;
 
 /// What a request says of its message, without CLEAN and DELRCPT.
 fn without_flags<'a>(notice: &NoticeRequest<'a>) -> NoticeRequest<'a>
@@ -73,7 +70,7 @@ fn bounce_terms<'a>(terms: &RequestTerms<'a>) -> RequestTerms<'a>
         settings: terms.settings,
         service: Service::Bounce,
         moment: terms.moment,
-        first_serial: terms.first_serial.wrapping_add(SERIALS_OF_LOG),
+        first_serial: terms.first_serial,
     }
 }
 
@@ -148,10 +145,12 @@ fn flush_in_turn<M: MailSystem>(
 ///
 /// Before a message's defer log is flushed, its bounce log is, if it has one. Postfix removes a
 /// message once its defer log is flushed, and nobody would then be notified of a bounce log that is
-/// left. So the same request is carried out on the bounce log first, with serials that begin
-/// 500,000 later, since the letters of both logs are of one kind. If that isn't answered 0, this is
-/// the answer, and the defer log is left as it is. If it can't be known whether there is a bounce
+/// left. So the same request is carried out on the bounce log first. If that isn't answered 0, this
+/// is the answer, and the defer log is left as it is. If it can't be known whether there is a bounce
 /// log, the status is 4,294,967,295 and nothing is done, even with CLEAN.
+///
+/// The letters' serials are made of the length of their log, and their moment is that of `terms`. So
+/// the same log, asked about again on the same terms, gives letters with the same Message-IDs.
 ///
 /// `bytes` are the request's own bytes, which are passed on.
 pub fn answer_request<M: MailSystem>(

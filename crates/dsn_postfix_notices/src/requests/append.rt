@@ -1,5 +1,5 @@
 //! A request to log the outcome of a recipient.
-//! Implements docs/FORMATS.md, "A connection".
+//! Implements docs/postfix-internals.md, "A connection".
 ghost use Rattle.std.specs.Prelude.{◌≡◌};
 ghost use Rattle.dsn_postfix_notices.specs.requests.AppendDeeds.{IsAppended};
 ghost use Rattle.dsn_postfix_notices.specs.requests.Gains.{Gains};

@@ -1,5 +1,5 @@
 //! Carrying out one request of Postfix's programs on the log of its service.
-//! Implements docs/FORMATS.md, "A connection".
+//! Implements docs/postfix-internals.md, "A connection".
 ghost use Rattle.std.specs.Prelude.{◌≡◌};
 ghost use Rattle.dsn_postfix_notices.specs.requests.CarriedOut.{Cleans, IsCarriedOut, IsDone, must_clean, queue_id_of};
 ghost use Rattle.dsn_postfix_notices.specs.requests.Gains.{Gains};

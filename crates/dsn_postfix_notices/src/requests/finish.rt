@@ -1,5 +1,5 @@
 //! What is done once all notices of a request are accepted.
-//! Implements docs/FORMATS.md, "A connection".
+//! Implements docs/postfix-internals.md, "A connection".
 ghost use Rattle.std.specs.Prelude.{◌≡◌};
 ghost use Rattle.std.specs.Option.{option_map};
 ghost use Rattle.dsn_postfix_notices.specs.requests.Finishing.{FinishesAt, RemovesLog, is_removal_due, removes_log};

@@ -1,5 +1,5 @@
 //! Submits letters, one after another.
-//! Implements docs/FORMATS.md, "A connection".
+//! Implements docs/postfix-internals.md, "A connection".
 ghost use Rattle.std.specs.Prelude.{◌≡◌};
 ghost use Rattle.dsn_postfix_notices.specs.requests.Gains.{Gains};
 ghost use Rattle.dsn_postfix_notices.specs.inner.HandingIn.{HandsInAll, HandsInOne};

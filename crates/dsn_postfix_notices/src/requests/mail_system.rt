@@ -11,7 +11,7 @@ use crate::requests::deed_fault::DeedFault;
 use crate::requests::pass_reason::PassReason;
 use dsn_postfix::{PostfixRequest, QueueName};
 use dsn_smtp::{HandInFault, ReplyBuffer};
-use dsn_text::{Address, QueueId, Service};
+use dsn_text::{Address, QueueId, Service, Stamp};
 use std::alloc::Global;
 
 /// What a request reads, writes and asks outside of the service. Each call is one deed: it ends
@@ -24,8 +24,9 @@ pub trait MailSystem {
     // doesn't expose them. A system over files and sockets exposes nothing; one in memory may.
     ghost deeds: { Self → Option (List Deed) };
 
-    /// Notifies the system which request comes next, for its event log. This is not a deed.
-    fn begin(&mut self, request: &PostfixRequest<'_>)
+    /// Notifies the system which request to a service comes next, for its event log. Returns when
+    /// the log that the request reports was last changed, if the system knows. This is not a deed.
+    fn begin(&mut self, service: Service, request: &PostfixRequest<'_>) -> Option<Stamp>
         ensures { deeds self.new ≡ deeds self.old };
 
     /// Whether a service has a log about a message: a file that isn't empty. Doesn't lock it.

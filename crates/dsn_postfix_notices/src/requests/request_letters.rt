@@ -1,5 +1,5 @@
 //! The letters of a request for notices, made of what was read for it.
-//! Implements docs/FORMATS.md, "The notice of a Postfix log".
+//! Implements docs/postfix-internals.md, "The notice of a Postfix log".
 ghost use Rattle.std.specs.Prelude.{◌≡◌, ◌<◌, [], List, length, map, true, IfOk, IfErr, IfSome, MatchOption, OnOk};
 ghost use Rattle.std.specs.List.{list_any};
 ghost use Rattle.std.specs.Option.{unwrap_or};
@@ -9,7 +9,7 @@ ghost use Rattle.dsn_postfix_files.specs.QueueRecipients.{BeginsRecipients, Reci
 ghost use Rattle.dsn_postfix_files.specs.QueueRecord.{PlacedBytes};
 ghost use Rattle.dsn_postfix_files.specs.QueueWalk.{first_place, steps_left};
 ghost use Rattle.dsn_postfix_notices.specs.letters.ReportedMessage.{message_said_in};
-ghost use Rattle.dsn_postfix_notices.specs.requests.RequestLetters.{AreLettersAsked, AreLettersOf, CantBeSaid, has_fault};
+ghost use Rattle.dsn_postfix_notices.specs.requests.RequestLetters.{AreLettersAsked, AreLettersOf, CantBeSaid, first_serial, has_fault, serial_of_log, serial_of_service};
 ghost use Rattle.dsn_postfix_notices.specs.inner.RequestLetters.{GainsLetter, IsReason};
 
 use crate::letters::{ReportedMessage, letter_of_notice};
@@ -24,12 +24,16 @@ use dsn_postfix_files::{
     LONGEST_FIELD_NAME, MessageFacts, QueueReader, QueuedRecipient, fronts_show_headers,
     queue_files_have_one_list, text_of_message,
 };
-use dsn_text::Stamp;
+use dsn_text::{Service, Stamp};
 use std::alloc::{AllocError, Global};
 
 /// How many bytes of a message's text letters need. A longer text isn't returned whole, and a
 /// header that doesn't end within these bytes isn't returned.
 const FRONT_OF_TEXT: usize = LONGEST_HEADER + LONGEST_FIELD_NAME + 1;
+
+/// The distance between the first serials of two logs whose lengths differ by one byte. Two logs of
+/// a message share a serial only if one of them has more than 500,000 notices, which nothing checks.
+const SERIALS: u64 = 1_000_000;
 
 /// The next recipient of a queue file. Returns `None` at its end, or at the place from which it
 /// can't be read.
@@ -129,6 +133,38 @@ fn letters_of(
     Ok(letters)
 }
 
+/// How far behind those of a bounce log of the same length the serials of a service's log begin.
+fn serial_of_service(service: Service) -> u64
+    ensures { result ≡ serial_of_service service }
+{
+    match service {
+        // A flush of either log gives notices of failure, so the service isn't seen in their
+        // Message-IDs.
+        Service::Defer => SERIALS / 2,
+        Service::Bounce | Service::Trace => 0,
+    }
+}
+
+/// The first serial of a log's letters, by the length of the log. So a notice that is submitted
+/// again has the same Message-ID as long as its log is the same, and another once the log has grown.
+fn serial_of_log(service: Service, log: &[u8]) -> u64
+    ensures { result ≡ serial_of_log service log.now }
+{
+    let first = (log.len() as u64).wrapping_mul(SERIALS);
+    first.wrapping_add(serial_of_service(service))
+}
+
+/// The first serial of a request's letters. A request that read no log has that of its terms.
+fn first_serial(task: &NoticeTask<'_>, found: &MailFound) -> u64
+    ensures { result ≡ first_serial task.now found.now.log }
+{
+    let terms: &RequestTerms<'_> = task.terms;
+    match found.log() {
+        Some(log) => serial_of_log(terms.service, log),
+        None => terms.first_serial,
+    }
+}
+
 /// The letters of all notices that a request has of what was read for it.
 pub(super) fn letters_asked(
     alloc: Global,
@@ -165,5 +201,11 @@ pub(super) fn letters_asked(
         &queued,
         found.log(),
     )?;
-    letters_of(alloc, &message, &notices, terms.moment, terms.first_serial)
+    letters_of(
+        alloc,
+        &message,
+        &notices,
+        terms.moment,
+        first_serial(task, found),
+    )
 }

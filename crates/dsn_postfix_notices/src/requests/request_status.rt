@@ -1,5 +1,5 @@
 //! The statuses that answer requests, and how one is passed on to Postfix's own service.
-//! Implements docs/FORMATS.md, "A connection".
+//! Implements docs/postfix-internals.md, "A connection".
 ghost use Rattle.std.specs.Prelude.{◌≡◌, Ok};
 ghost use Rattle.dsn_postfix_notices.specs.requests.Gains.{Gains};
 ghost use Rattle.dsn_postfix_notices.specs.requests.RequestStatus.{PassesOn};

@@ -12,8 +12,8 @@ pub struct RequestTerms<'a> {
     pub service: Service,
     /// The moment at which its letters are made.
     pub moment: Stamp,
-    /// The serial of its first letter, a part of its Message-ID. The letters after it have the next
-    /// serials.
+    /// The serial of the letter of a request about one recipient alone, which has no log. It is a
+    /// part of the letter's Message-ID. The serials of other requests are made of their logs.
     pub first_serial: u64,
 }
 

@@ -1,5 +1,5 @@
 //! Which queues keep their files in folders within their own folder.
-//! Implements docs/FORMATS.md, "Files".
+//! Implements docs/postfix-internals.md, "Files".
 ghost use Rattle.std.specs.Prelude.{◌≡◌};
 ghost use Rattle.std.specs.List.{list_any};
 ghost use Rattle.std.specs.Str.{str_eq_ignore_ascii_case};

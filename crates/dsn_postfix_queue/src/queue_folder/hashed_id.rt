@@ -1,5 +1,5 @@
 //! The text that names the folders in which a hashed queue keeps a message's file.
-//! Implements docs/FORMATS.md, "Files".
+//! Implements docs/postfix-internals.md, "Files".
 ghost use Rattle.std.specs.Prelude.{◌≡◌, ◌==◌, ◌<◌, get_or, length, true, IfSome};
 ghost use Rattle.std.specs.List.{position_or_len};
 ghost use Rattle.dsn_postfix_queue.specs.queue_folder.HashedId.{before_inode, folder_level, hexadecimal_digit, is_long, long_digit, long_number, microsecond_digits, number_or_zero, six_digits};

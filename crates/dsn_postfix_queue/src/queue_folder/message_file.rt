@@ -1,5 +1,5 @@
 //! The file of a message in one of Postfix's queues.
-//! Implements docs/FORMATS.md, "Files".
+//! Implements docs/postfix-internals.md, "Files".
 use std::fs::File;
 use std::io;
 use std::io::{Error, ErrorKind};

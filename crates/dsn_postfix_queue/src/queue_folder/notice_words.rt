@@ -1,5 +1,5 @@
 //! What a notice is called in Postfix's log.
-//! Implements docs/FORMATS.md, "Lines on standard error".
+//! Implements docs/postfix-internals.md, "Lines on standard error".
 use dsn_postfix::PostfixRequest;
 
 /// What Postfix's log calls a notice of failure, as bounce(8) does.

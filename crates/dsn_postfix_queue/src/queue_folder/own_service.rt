@@ -1,5 +1,5 @@
 //! A request that is passed on to Postfix's own service.
-//! Implements docs/FORMATS.md, "What Postfix's programs send".
+//! Implements docs/postfix-internals.md, "What Postfix's programs send".
 ghost use Rattle.std.specs.Prelude.{◌≡◌, ◌↔◌, IsTrue, IfErr, IfOk, OnOk};
 ghost use Rattle.dsn_postfix.specs.PostfixAnswer.{announcement_bytes, status_bytes};
 ghost use Rattle.dsn_postfix.specs.ListDialogue.{HearsList};

@@ -1,16 +1,13 @@
-//! The places of a Postfix's files and services, and the mail server for its notices.
-use crate::queue_folder::folder_hashing::FolderHashing;
+//! The queue folder of a Postfix, and the mail server for its notices.
+use crate::queue_folder::queue_folder::QueueFolder;
 use dsn_smtp::ServerAddress;
 use dsn_text::MtaName;
 
-/// The places of a Postfix's files and services, and the mail server to which its notices are
-/// submitted.
+/// The queue folder of a Postfix, and the mail server to which its notices are submitted.
 #[derive(Clone, Copy)]
 pub struct PostfixSetup<'a> {
     /// Its queue folder.
-    pub root: &'a str,
-    /// Which of its queues are hashed.
-    pub hashing: FolderHashing<'a>,
+    pub queues: QueueFolder<'a>,
     /// The address of that mail server.
     pub hand_in: &'a ServerAddress,
     /// The client's name in EHLO to that server.

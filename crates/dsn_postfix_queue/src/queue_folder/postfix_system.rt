@@ -12,7 +12,7 @@ use crate::queue_folder::message_file::{LARGE, mark_done, open_shared, read_larg
 use crate::queue_folder::notice_words::{FAILURE_NOTICE, is_discarded, notice_kind};
 use crate::queue_folder::own_service::ask_own_service;
 use crate::queue_folder::postfix_setup::PostfixSetup;
-use crate::queue_folder::queue_files::{log_elsewhere, log_path, path_of};
+use crate::queue_folder::queue_files::{log_elsewhere, log_path, path_of, reported_change};
 use crate::queue_folder::service_name::service_name;
 use dsn_device::{Connection, Plain};
 use dsn_postfix::{PostfixRequest, QueueName};
@@ -20,7 +20,7 @@ use dsn_postfix_notices::{DeedFault, MailSystem, PassReason, queue_id_of};
 use dsn_smtp::{
     HandInFault, KeptSessions, MailConnection, MailServer, ReplyBuffer, Submission, queue_id_in,
 };
-use dsn_text::{Address, QueueId, Service};
+use dsn_text::{Address, QueueId, Service, Stamp};
 use std::alloc::Global;
 use std::fmt::Display;
 use std::fs::File;
@@ -108,7 +108,7 @@ fn own_service(
     service: Service,
 ) -> io::Result<Connection<UnixStream>> {
     let name = service_name(service);
-    let path = format!(in rt.alloc(); "{}/private/{name}", place.root)?;
+    let path = format!(in rt.alloc(); "{}/private/{name}", place.queues.root)?;
     let stream = UnixStream::connect(rt, path.as_str())?;
     let limit = Duration::from_secs(SECONDS_FOR_OWN_SERVICE);
     stream.set_read_timeout(Some(limit))?;
@@ -188,7 +188,11 @@ impl<W: Wait + Clock> PostfixSystem<'_, W> {
     /// Whether a log of a message is where other settings would place it. Writes a line if so,
     /// since no notice reports that log.
     fn has_log_elsewhere(&self, service: Service, id: QueueId) -> Result<bool, DeedFault> {
-        let Some(path) = self.deed(PATH, log_elsewhere(self.rt, self.place, service, id))? else {
+        let Some(path) = self.deed(
+            PATH,
+            log_elsewhere(self.rt, &self.place.queues, service, id),
+        )?
+        else {
             return Ok(false);
         };
         let id = ascii_text(id.bytes());
@@ -222,15 +226,17 @@ impl<W: Wait + Clock> PostfixSystem<'_, W> {
 impl<W: Wait + Clock> MailSystem for PostfixSystem<'_, W> {
     ghost deeds = { λ _. None };
 
-    fn begin(&mut self, request: &PostfixRequest<'_>) {
+    fn begin(&mut self, service: Service, request: &PostfixRequest<'_>) -> Option<Stamp> {
         self.kind = notice_kind(request);
         self.is_discarded = is_discarded(request, self.double_bounce);
         self.asked = Some(queue_id_of(request));
+        let place: &PostfixSetup<'_> = self.place;
+        reported_change(self.rt, &place.queues, service, request)
     }
 
     fn has_log(&mut self, service: Service, id: QueueId) -> Result<bool, DeedFault> {
         let (rt, place): (&HostRuntime, &PostfixSetup<'_>) = (self.rt, self.place);
-        let path = self.deed(PATH, log_path(rt, place, service, id))?;
+        let path = self.deed(PATH, log_path(rt, &place.queues, service, id))?;
         if self.deed(path.as_str(), has_bytes(rt, path.as_str()))? {
             return Ok(true);
         }
@@ -246,7 +252,7 @@ impl<W: Wait + Clock> MailSystem for PostfixSystem<'_, W> {
     ) -> Result<Option<Vec<u8>>, DeedFault> {
         let (rt, place): (&HostRuntime, &PostfixSetup<'_>) = (self.rt, self.place);
         self.log = None;
-        let path = self.deed(PATH, log_path(rt, place, service, id))?;
+        let path = self.deed(PATH, log_path(rt, &place.queues, service, id))?;
         let Some(file) = self.deed(path.as_str(), open_locked(rt, path.as_str()))? else {
             self.has_log_elsewhere(service, id)?;
             return Ok(None);
@@ -263,7 +269,7 @@ impl<W: Wait + Clock> MailSystem for PostfixSystem<'_, W> {
         bytes: &[u8],
     ) -> Result<(), DeedFault> {
         let (rt, place): (&HostRuntime, &PostfixSetup<'_>) = (self.rt, self.place);
-        let path = self.deed(PATH, log_path(rt, place, service, id))?;
+        let path = self.deed(PATH, log_path(rt, &place.queues, service, id))?;
         let is_new = !self.deed(path.as_str(), is_there(rt, path.as_str()))?;
         // The queue manager would find the other log, and never request the notice of a new one.
         if is_new && self.has_log_elsewhere(service, id)? {
@@ -275,7 +281,7 @@ impl<W: Wait + Clock> MailSystem for PostfixSystem<'_, W> {
 
     fn remove_log(&mut self, service: Service, id: QueueId) -> Result<(), DeedFault> {
         let (rt, place): (&HostRuntime, &PostfixSetup<'_>) = (self.rt, self.place);
-        let path = self.deed(PATH, log_path(rt, place, service, id))?;
+        let path = self.deed(PATH, log_path(rt, &place.queues, service, id))?;
         let removed = self.deed(path.as_str(), remove_if_there(rt, path.as_str()));
         self.log = None;
         removed
@@ -290,7 +296,7 @@ impl<W: Wait + Clock> MailSystem for PostfixSystem<'_, W> {
         let (rt, place): (&HostRuntime, &PostfixSetup<'_>) = (self.rt, self.place);
         self.message = None;
         self.end_turn();
-        let path = self.deed(PATH, path_of(rt, place, queue.bytes(), id))?;
+        let path = self.deed(PATH, path_of(rt, &place.queues, queue.bytes(), id))?;
         let Some(file) = self.deed(path.as_str(), open_shared(rt, path.as_str()))? else {
             // An empty file leads to passing on: bounce(8) reports what it can without the file. An
             // error would put the request off for ever.

@@ -1,7 +1,7 @@
 //! Whether the queues of a Postfix are hashed as the settings say, by the entries in them.
-//! Implements docs/FORMATS.md, "Files".
-use crate::queue_folder::postfix_setup::PostfixSetup;
+//! Implements docs/postfix-internals.md, "Files".
 use crate::queue_folder::queue_entry::depth_against;
+use crate::queue_folder::queue_folder::QueueFolder;
 use std::fs::DirEntry;
 use std::io::ErrorKind;
 use std::{fs, io};
@@ -49,9 +49,9 @@ struct Folder {
 
 /// Checks the entries in the queues. Returns `Differs` if one contradicts the settings, and
 /// `Unread` if a queue's folder can't be read.
-pub fn check_queues(rt: &HostRuntime, place: &PostfixSetup<'_>) -> Result<(), QueueFault> {
+pub fn check_queues(rt: &HostRuntime, queues: &QueueFolder<'_>) -> Result<(), QueueFault> {
     for queue in QUEUES {
-        match first_against(rt, place, queue) {
+        match first_against(rt, queues, queue) {
             Ok(None) => {}
             Ok(Some(other)) => return Err(QueueFault::Differs(other)),
             Err(error) => return Err(QueueFault::Unread(queue, error)),
@@ -63,7 +63,7 @@ pub fn check_queues(rt: &HostRuntime, place: &PostfixSetup<'_>) -> Result<(), Qu
 /// The first entry of a queue that contradicts the settings, if there is one.
 fn first_against(
     rt: &HostRuntime,
-    place: &PostfixSetup<'_>,
+    queues: &QueueFolder<'_>,
     queue: &str,
 ) -> io::Result<Option<OtherDepth>> {
     let mut folders = Vec::new(rt.alloc());
@@ -75,7 +75,7 @@ fn first_against(
         let Some(folder) = folders.pop() else {
             break;
         };
-        if let Some(other) = look_into(rt, place, queue, &folder, &mut folders)? {
+        if let Some(other) = look_into(rt, queues, queue, &folder, &mut folders)? {
             return Ok(Some(other));
         }
     }
@@ -86,12 +86,12 @@ fn first_against(
 /// it to those that must still be checked.
 fn look_into(
     rt: &HostRuntime,
-    place: &PostfixSetup<'_>,
+    queues: &QueueFolder<'_>,
     queue: &str,
     folder: &Folder,
     folders: &mut Vec<Folder>,
 ) -> io::Result<Option<OtherDepth>> {
-    let (root, path) = (place.root, folder.path.as_str());
+    let (root, path) = (queues.root, folder.path.as_str());
     let read = fs::read_dir(rt, format!(in rt.alloc(); "{root}/{path}")?.as_str());
     let entries = match read {
         Err(error) if error.kind() == ErrorKind::NotFound => return Ok(None),
@@ -104,7 +104,7 @@ fn look_into(
         };
         let name = entry.file_name();
         let against = depth_against(
-            &place.hashing,
+            &queues.hashing,
             queue.as_bytes(),
             folder.above,
             name.as_bytes(),
@@ -117,7 +117,7 @@ fn look_into(
             return Ok(Some(OtherDepth {
                 path: below,
                 found,
-                wanted: place.hashing.depth_of(queue.as_bytes()),
+                wanted: queues.hashing.depth_of(queue.as_bytes()),
             }));
         }
         if folder.above < MOST_DEPTH {

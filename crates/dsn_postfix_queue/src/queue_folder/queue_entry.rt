@@ -1,5 +1,5 @@
 //! What the entries of a queue's folder show about the depth to which the queue is hashed.
-//! Implements docs/FORMATS.md, "Files".
+//! Implements docs/postfix-internals.md, "Files".
 ghost use Rattle.std.specs.Prelude.{◌↔◌, ℕ, IsTrue, MatchOption};
 ghost use Rattle.dsn_postfix_queue.specs.queue_folder.FolderHashing.{depth_of};
 ghost use Rattle.dsn_postfix_queue.specs.queue_folder.QueueEntry.{IsAgainst, IsFileName, IsFolderName};

@@ -1,5 +1,5 @@
 //! The paths of files in Postfix's queues.
-//! Implements docs/FORMATS.md, "Files".
+//! Implements docs/postfix-internals.md, "Files".
 ghost use Rattle.std.specs.Prelude.{◌≡◌, ◌++◌, ◌∷◌, [], IfOk, OnOk};
 ghost use Rattle.dsn_postfix_queue.specs.queue_folder.PathInQueue.{folder_levels, path_in_queue};
 

@@ -29,7 +29,7 @@ pub data DoesAsked (terms : Terms) (list : List ℕ) (answer : RequestAnswer) (g
   other : (fault : RequestFault) → postfix_request_at list ≡ Err fault → PassesOn terms.service list answer gained
       → DoesAsked terms list answer gained
 
--- what a list asks was done, at some moment; this is the status that answers it
+-- what a list asks was done, at some moment, and this is the status that answers it
 pub record IsDoneFor {M : Type 0} (deeds : M → Option (List Deed)) (settings : SettingsSaid) (service : Service)
     (list : List ℕ) (serial : ℕ) (before after : M) (status : ℕ) : Type 0 where
   pub moment : ℕ
@@ -50,7 +50,7 @@ SaysStatus drain old new status (Err fault) = (fault ≡ Unsaid status) × SaysN
 pub data AnswersClient {S M : Type 0} (drain : Drain.Ghosts S) (deeds : M → Option (List Deed)) (settings : SettingsSaid)
     (service : Service) (serial : ℕ) (list : List ℕ) (old new : S) (before after : M)
     (end : Result ℕ ClientFault) : Type 0 where
-  no_moment : end ≡ Err NoMoment → new ≡ old → after ≡ before
+  no_moment : end ≡ Err NoMoment → new ≡ old → deeds after ≡ deeds before
       → AnswersClient drain deeds settings service serial list old new before after end
   done : (status : ℕ) → IsDoneFor deeds settings service list serial before after status
       → SaysStatus drain old new status end

@@ -1,5 +1,5 @@
 //! Receives a client's list, before anything is done for it.
-//! Implements docs/FORMATS.md, "A connection".
+//! Implements docs/postfix-internals.md, "A connection".
 ghost use Rattle.std.specs.Prelude.{IfErr, IfOk, OnOk};
 ghost use Rattle.dsn_postfix.specs.PostfixAnswer.{announcement_bytes};
 ghost use Rattle.dsn_postfix_service.specs.clients.HeardClient.{HearsClient, HearsNoClient, IsUnannounced};

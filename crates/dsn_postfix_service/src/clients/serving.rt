@@ -1,8 +1,8 @@
 //! Answers a client whose list was received.
-//! Implements docs/FORMATS.md, "A connection".
-ghost use Rattle.std.specs.Prelude.{◌≡◌, IfErr, IfOk};
+//! Implements docs/postfix-internals.md, "A connection".
+ghost use Rattle.std.specs.Prelude.{◌≡◌, MatchOption};
 ghost use Rattle.dsn_postfix.specs.PostfixAnswer.{status_bytes};
-ghost use Rattle.dsn_postfix_service.specs.clients.ServedClient.{AnswersClient, DoesAsked, SaysNoStatus, SaysStatus, status_said};
+ghost use Rattle.dsn_postfix_service.specs.clients.ServedClient.{AnswersClient, IsDoneFor, SaysNoStatus, SaysStatus, status_said};
 ghost use Rattle.dsn_smtp.specs.Dialogue.{Says};
 ghost use Rattle.dsn_postfix_notices.specs.requests.Gains.{Gains};
 ghost use Rattle.dsn_postfix_notices.specs.requests.RequestStatus.{not_carried_out};
@@ -20,11 +20,14 @@ use std::alloc::Global;
 use std::time::{Clock, SystemTime};
 
 /// Does what a client of a service asks, and sends and returns the status. Passes a list that is
-/// not a valid request on to Postfix's own service. Returns `NoMoment` if the clock gives no valid
-/// time, and `Unsaid` if the status couldn't be sent.
+/// not a valid request on to Postfix's own service. Returns `NoMoment` if neither the system knows
+/// when the request's log was last changed nor the clock gives a valid time, and `Unsaid` if the
+/// status couldn't be sent.
 ///
-/// The letters of its notices are made at the moment of this call, with serials from `first_serial`
-/// on.
+/// The letters of its notices are made at the moment when their log was last changed. So they have
+/// the same bytes if the client asks again, as long as the log is the same. If the system doesn't
+/// know it, they are made at the moment of this call. The letter of a request without a log has the
+/// serial `first_serial`.
 pub fn answer_client<R: Clock, S: Stream, M: MailSystem>(
     rt: &R,
     alloc: Global,
@@ -39,17 +42,11 @@ pub fn answer_client<R: Clock, S: Stream, M: MailSystem>(
         result }
     ensures kept { client.new.list ≡ client.old.list }
 {
-    let Some(moment) = moment_now(rt) else {
-        return Err(ClientFault::NoMoment);
-    };
-    let terms = RequestTerms {
-        settings,
-        service,
-        moment,
-        first_serial,
-    };
-    let answer = answer_list(alloc, &terms, &client.list, system);
-    say_status(alloc, &mut client.stream, status_said(answer))
+    let list = &client.list;
+    match answer_list(rt, alloc, settings, service, list, first_serial, system) {
+        Some(status) => say_status(alloc, &mut client.stream, status),
+        None => Err(ClientFault::NoMoment),
+    }
 }
 
 /// Sends a client the status of a request that isn't carried out, and does nothing for it. Returns
@@ -64,22 +61,33 @@ pub fn refuse_client<S: Stream>(
     say_status(alloc, &mut client.stream, NOT_CARRIED_OUT)
 }
 
-/// Does what a list asks, and returns the answer.
-fn answer_list<M: MailSystem>(
+/// Does what a list asks, and returns the status. Returns `None`, and does nothing, if the moment of
+/// its letters can't be known.
+fn answer_list<R: Clock, M: MailSystem>(
+    rt: &R,
     alloc: Global,
-    terms: &RequestTerms<'_>,
+    settings: &ServiceSettings<'_>,
+    service: Service,
     list: &[u8],
+    first_serial: u64,
     system: &mut M,
-) -> Result<u32, NoMemory>
-    ensures { Gains M.deeds system.old system.new
-        (DoesAsked terms.now list.now result) }
+) -> Option<u32>
+    ensures { MatchOption result (M.deeds system.new ≡ M.deeds system.old)
+        (IsDoneFor M.deeds settings.now service list.now first_serial system.old system.new) }
 {
     match decode_postfix_request(list) {
         Ok(request) => {
-            system.begin(&request);
-            answer_request(alloc, terms, &request, list, system)
+            let moment = system.begin(service, &request).or_else(|| moment_now(rt))?;
+            let terms = RequestTerms {
+                settings,
+                service,
+                moment,
+                first_serial,
+            };
+            let answer = answer_request(alloc, &terms, &request, list, system);
+            Some(status_said(answer))
         }
-        Err(fault) => Ok(pass_on(system, terms.service, list, PassReason::NoRequest(fault))),
+        Err(fault) => Some(pass_on(system, service, list, PassReason::NoRequest(fault))),
     }
 }
 

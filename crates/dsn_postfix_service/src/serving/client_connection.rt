@@ -1,5 +1,5 @@
 //! A client's connection, with a deadline for the client's list.
-//! Implements docs/FORMATS.md, "A connection".
+//! Implements docs/postfix-internals.md, "A connection".
 use std::io;
 use std::io::{Error, ErrorKind, Read, Write};
 use std::os::unix::net::UnixStream;

@@ -1,7 +1,7 @@
 //! The lock of a Postfix's folder.
 //! The sockets can't keep a second process out: it must replace those of an ended process, so it
 //! would also replace those of a running one. A lock ends with its process.
-//! Implements docs/FORMATS.md, "Files".
+//! Implements docs/postfix-internals.md, "Files".
 use std::fs::File;
 use std::io;
 use std::os::unix::fs::OpenOptionsExt;

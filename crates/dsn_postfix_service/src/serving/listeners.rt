@@ -1,5 +1,5 @@
 //! The sockets at which Postfix's programs connect.
-//! Implements docs/FORMATS.md, "Files".
+//! Implements docs/postfix-internals.md, "Files".
 use crate::serving::account::{check_owner, own_account, owner_of_sockets};
 use crate::serving::folder_lock::FolderLock;
 use crate::serving::start_fault::StartFault;
@@ -33,7 +33,7 @@ impl Listeners {
     /// has the lock.
     pub fn make(rt: &HostRuntime, place: &PostfixSetup<'_>) -> Result<Listeners, StartFault> {
         check_place(rt, place)?;
-        let folder = place.root;
+        let folder = place.queues.root;
         let lock = FolderLock::take(rt, folder)?;
         Ok(Listeners {
             bounce: made(rt, folder, Service::Bounce)?,
@@ -55,7 +55,7 @@ impl Listeners {
         place: &PostfixSetup<'_>,
     ) -> Result<Listeners, StartFault> {
         check_place(rt, place)?;
-        let folder = place.root;
+        let folder = place.queues.root;
         // An option, and not the environment: another service's `LISTEN_FDS` would be taken for
         // this one's.
         let bounce = UnixListener::from_raw_fd(3);
@@ -81,8 +81,8 @@ impl Listeners {
 
 /// Checks the account of the process, and that the queues are hashed as `place` says.
 fn check_place(rt: &HostRuntime, place: &PostfixSetup<'_>) -> Result<(), StartFault> {
-    check_owner(owner_of_sockets(rt, place.root)?, own_account())?;
-    check_queues(rt, place)?;
+    check_owner(owner_of_sockets(rt, place.queues.root)?, own_account())?;
+    check_queues(rt, &place.queues)?;
     Ok(())
 }
 

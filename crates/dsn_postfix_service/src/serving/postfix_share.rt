@@ -8,9 +8,10 @@ use std::alloc::{AllocError, Global};
 use std::sync::atomic::{AtomicBool, AtomicU64, Ordering};
 use std::sync::{Arc, Wait};
 
-/// The distance between the first serials of two requests; those of a request's two logs are half
-/// as far apart. So two logs share a serial only if one of them has more than 500,000 notices,
-/// which nothing checks.
+/// The first serial of a request without a log, and the distance between two of these. They lie
+/// between the serials of logs, which begin at multiples of 500,000.
+const FIRST_SERIAL: u64 = 750_000;
+
 const SERIALS: u64 = 1_000_000;
 
 /// What all threads share.
@@ -30,7 +31,7 @@ pub(super) struct PostfixShare<'a> {
     bounce: ServiceQueue<'a>,
     defer: ServiceQueue<'a>,
     trace: ServiceQueue<'a>,
-    /// The first serial of the next request's notices.
+    /// The serial of the next request's notice, if that request has no log.
     serial: AtomicU64,
     /// Whether the run must end, since a service has no thread.
     ending: AtomicBool,
@@ -57,7 +58,7 @@ impl<'a> PostfixShare<'a> {
             bounce: ServiceQueue::new(alloc)?,
             defer: ServiceQueue::new(alloc)?,
             trace: ServiceQueue::new(alloc)?,
-            serial: AtomicU64::new(0),
+            serial: AtomicU64::new(FIRST_SERIAL),
             ending: AtomicBool::new(false),
             accept_failed: AtomicBool::new(false),
         })
@@ -72,7 +73,7 @@ impl<'a> PostfixShare<'a> {
         }
     }
 
-    /// The first serial of a request's notices, which no other request gets.
+    /// The serial of the notice of a request without a log, which no other request gets.
     pub(super) fn next_serial(&self) -> u64 {
         self.serial.fetch_add(SERIALS, Ordering::SeqCst)
     }

@@ -1,5 +1,5 @@
 //! The clients of a service that wait for one of the threads that make notices.
-//! Implements docs/FORMATS.md, "In front of Postfix".
+//! Implements docs/postfix-internals.md, "In front of Postfix".
 use crate::clients::HeardClient;
 use crate::serving::client_connection::ClientConnection;
 use crossbeam_channel::{Receiver, Sender, bounded};

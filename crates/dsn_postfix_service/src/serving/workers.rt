@@ -1,6 +1,6 @@
 //! The threads that serve the programs of a Postfix. Some receive lists and append; others make
 //! notices, so that no append waits for a mail server.
-//! Implements docs/FORMATS.md, "In front of Postfix".
+//! Implements docs/postfix-internals.md, "In front of Postfix".
 use crate::clients::{answer_client, hear_client, refuse_client};
 use crate::serving::client_connection::ClientConnection;
 use crate::serving::listeners::{Listeners, wake};
@@ -134,7 +134,10 @@ fn start_round<'s, 'a: 's, E: 's, R: Threads + Wait + Clock + Sync>(
 
 /// Writes the line that the sockets are ready.
 fn say_start<R: Wait>(waiting: &R, share: &PostfixShare<'_>) {
-    let (root, host) = (share.place.root, ascii_text(share.settings.site.bytes()));
+    let (root, host) = (
+        share.place.queues.root,
+        ascii_text(share.settings.site.bytes()),
+    );
     share
         .events
         .say(waiting, format_args!("listening in {root} for {host}"));
@@ -147,7 +150,7 @@ fn end_without<R: Wait>(rt: &HostRuntime, waiting: &R, share: &PostfixShare<'_>,
         // The process ends before its event log might write it.
         let _ = eprintln!(rt; "a thread was refused: 0 threads a service");
         share.end(waiting);
-        wake(rt, share.place.root);
+        wake(rt, share.place.queues.root);
     } else {
         let line = format_args!("a thread was refused: {round} threads a service");
         share.events.say(waiting, line);

@@ -17,6 +17,7 @@ abbrev pub words_in : Words → notice.Words
 words_in words = record {
   subject = words.subject.now;
   opening = words.opening.now;
+  consequence = words.consequence.now;
   header = words.header.now;
   message = words.message.now;
 }

@@ -1,4 +1,4 @@
--- Runs over memory: a run over devices that tell their bytes is one over these bytes.
+-- Runs over memory: a run over devices that expose their bytes is one over these bytes.
 use Rattle.std.proofs.Common.{◌≡◌, ℕ, Bool, List, [], ◌∷◌, refl, subst, arith}
 use Rattle.std.specs.Prelude.{Option, None, Some}
 use Rattle.std.specs.Io.KnownBytes.{Appends}
@@ -30,7 +30,7 @@ none_marked (first ∷ rest) = none_marked rest
 none_left : (start end : Memory) (letters : List Letter) → MarksAllOf memory_drain start end letters
 none_left start end letters = (λ begun. record { later = omega arith; each = λ left since. absurd since; before = λ t left le since. absurd since }, λ begun left since. absurd since)
 
--- a drain that tells its bytes, as memory
+-- a drain that exposes its bytes, as memory
 abbrev pub memory_of : {W : Type 0} → Drain W → List ℕ → W → Memory
 memory_of drain bytes device = record { bytes = bytes; failures = drain.failures device; flushes = drain.flushes device; unflushed = drain.unflushed device }
 

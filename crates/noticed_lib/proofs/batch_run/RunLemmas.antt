@@ -103,7 +103,7 @@ unfolding history_after letters_after
 letters-none limits = refl
 
 module _ {W : Type 0} (outbox_device : Drain W) (limits : Limits) (host : List ℕ) (start : W) where
-  -- the next request was applied, and the letter that it sealed was handed on
+  -- the next request was applied, and the letter that it sealed was passed on
   pub asked-next : (book next : Book) (outgoing later : Outgoing W) (accepted : ℕ) (requests : List Request) (body : Body) (applied : Request) (answer : Answer) (letter : Option Letter) (handed : List Letter)
       → Stands outbox_device limits host start (record { book = book; outgoing = outgoing; accepted = accepted }) requests
       → next.limits ≡ book.limits
@@ -133,7 +133,7 @@ module _ {W : Type 0} (outbox_device : Drain W) (limits : Limits) (host : List �
         };
       }
 
-  -- a book with no key and no letters on their way stand for no requests
+  -- a book with no key, and no letters on their way, model no requests
   pub stands-nothing : (book : Book) (outgoing : Outgoing W) → book.limits ≡ limits → Represents book [] → Delivered outbox_device host start outgoing []
       → Stands outbox_device limits host start (record { book = book; outgoing = outgoing; accepted = 0 }) (requests_of [])
   unfolding batch_requests_from

@@ -186,7 +186,7 @@ next place (x ∷ xs) (Some rest) body fits legal_body consumed =
     let heads = same_front (answer_body place x) body (answer_frames_from (suc place) xs) rest (legal place x) legal_body consumed in
     record { answer = x; fits = fits.0; body_is = sym heads.0 }
 
--- a frame of them can be read, but for want of memory or a read that fails
+-- a frame of them can be read, unless memory is refused or a read fails
 readable : (place : ℕ) (more : List Spoken) (now : Option (List ℕ)) (fault : FrameFault) → ReadsNone (Some (answer_frames_from place more)) now fault → IsBlameless (Some (AnswerFrame fault))
 unfolding answer_frames_from answer_bytes
 readable place more now cuts.NoMemory none = tt

@@ -73,7 +73,7 @@ one_untold = record {
 one_untold_seen : Sees (Refused 23 ∷ []) [] (Some NotesLost)
 one_untold_seen = record { first = (Refused 23 ∷ [], refl); blameless = tt; none_left = λ same. cc }
 
--- where no frame may be sent, the first one is read and not sent
+-- if no frame may be sent, the first one is read and not sent
 one_too_many : Sends 0 (bytes_of frame_of_seven [] refused_23 []) (bytes_of [] [] refused_23 []) [] [] (Some TooMany)
 unfolding frame_of_seven refused_23 bytes_of answer_frames_from answer_lines_from
 one_too_many = record {

@@ -103,7 +103,7 @@ others-good place bytes sent later unread left NotesLost asked = absurd asked
 -- ---- a send over devices
 
 module _ {R S N : Type 0} (input_device : Source R) (source : Source S) (drain : Drain S) (notes_device : Drain N) where
-  -- so many frames were answered, and nothing failed
+  -- `count` frames were answered, and nothing failed
   pub record SentSoFar (count : ℕ) (input now : R) (stream later : S) (notes last : N) : Type 0 where
     pub frames : List (List ℕ)
     pub answers : List Spoken

@@ -4,14 +4,11 @@ use Rattle.std.specs.Prelude.{Err, IsErrOf, Ok, OnOk, Option, Some, None, Result
 use Rattle.std.proofs.lemmas.Bool.{false≢true}
 use Rattle.std.proofs.Math.Nat.{min-eq_left}
 use Rattle.std.proofs.lemmas.List.{append-nil}
-use Rattle.dsn_device.specs.declared.drain.Drain.{Ghosts as Drain}
 use Rattle.dsn_outcome.specs.History.{Limits, Exchange, answers_to, sealed_letters}
 use Rattle.dsn_outcome.specs.Letter.{Letter}
 use Rattle.dsn_outcome.specs.Request.{Request}
-use Rattle.dsn_book.specs.Book.{ReleasingBook}
 use Rattle.dsn_book.specs.Keeper.{MayCrash}
 use Rattle.dsn_book.specs.Release.{history_under}
-use Rattle.dsn_book.proofs.ReleaseLemmas.{under-none}
 use Rattle.dsn_crew.specs.KeeperHistory.{BeginsWith}
 use Rattle.dsn_ledger.specs.EarlierRuns.{HaveHistoryOfLedger, of_earlier_run}
 use Rattle.dsn_journal.specs.Behind.{HasMoreBehind}
@@ -19,12 +16,14 @@ use Rattle.dsn_ledger.specs.Compacted.{compacted, raised}
 use Rattle.dsn_ledger.specs.Header.{AreReplayedUnder, MayBeRaised, StandsForFile, base_limit, with_header}
 use Rattle.dsn_ledger.specs.InPlace.{AreRecordsInPlaceOf, IsLedgerInPlaceOf, ReopensTo}
 use Rattle.dsn_journal.specs.Journal.{IsSettled}
-use Rattle.dsn_ledger.specs.KeepError.{settled_once_kept}
+use Rattle.dsn_ledger.specs.KeepError.{keep_error_code, settled_once_kept}
 use Rattle.dsn_ledger.specs.KeptBook.{HasKept, ledger_keeper}
 use Rattle.dsn_ledger.specs.Ledger.{AreKept, earlier_agent, records_of}
 use Rattle.dsn_ledger.specs.OpenLedger.{AwaitsInPlaceOf, AwaitsRequests, Ledger, rules_of}
 use Rattle.dsn_journal.specs.MarkedOutbox.{MarkedOutbox}
-use Rattle.dsn_journal.specs.Marks.{IsForeignToMarks, IsTooShortForMarks, LeavesTheMark, SayMark, SayNoMark}
+use Rattle.dsn_report.specs.Outgoing.{Delivered, Outgoing}
+use Rattle.dsn_device.specs.declared.drain.Drain.{Ghosts as Drain}
+use Rattle.dsn_journal.specs.Marks.{IsForeignToMarks, IsTooShortForMarks, LeavesTheMark, Marks, SayMark, SayNoMark}
 use Rattle.dsn_ledger.specs.Posting.{AreToPost}
 use Rattle.dsn_journal.specs.Moments.{LeavesOnly}
 use Rattle.dsn_ledger.specs.Opening.{IsLeftByOpening}
@@ -40,9 +39,9 @@ use Rattle.dsn_ledger.proofs.KeptBooks.{has_kept, nothing_kept, some_kept}
 use Rattle.dsn_ledger.proofs.LedgersInPlace.{headed}
 use Rattle.dsn_ledger.proofs.ReplayLimits.{one_replay, replay_header, replay_in_place, replay_opened}
 use Rattle.dsn_journal.proofs.Moments.{joined, started, weaker}
-use Rattle.dsn_report.specs.Outgoing.{Delivered, Outgoing}
-use Rattle.noticed_lib.specs.inner.Daemon.{BeginsAnew, IsNoStartOverLedger, IsStartOverLedger, WhyNoStart, of_journal, of_letters, of_outbox}
-use Rattle.noticed_lib.specs.daemon.Journaled.{HasPostedFirst, IsNoStart, IsPostedFirst, IsMarkOfJournal, IsStartOver, LeavesMarksOpened, LeavesStart, StartsWith, marking_drain, no_outbox, not_put_away, too_many_letters}
+use Rattle.noticed_lib.specs.inner.Daemon.{BeginsAnew}
+use Rattle.noticed_lib.specs.daemon.Journaled.{IsFolderOpened, IsLedgerBegun, IsNotBegun, IsPostedFirst, LeavesMarksOpened, LeavesStart, StartsWith, marking_drain, not_replaced, too_many_letters}
+use Rattle.dsn_text.specs.FaultCode.{journal_full_code}
 use Rattle.dsn_ledger.specs.JournalFolder.{AreMarksRefusedFor, IsOnlyRead, IsOpenedToRaise}
 use Rattle.dsn_ledger.specs.declared.opening.Opened.{Opened}
 
@@ -64,13 +63,7 @@ module _ {D : Type 0} (disk : Disk.Ghosts D) (ledger : Ledger D) (settled : ledg
       })
       settled durable
 
-  -- a crash leaves what it stands for
-  pub stands_now : IsSettled disk ledger.journal.disk ledger.journal.used → ((left : List ℕ) → disk.left_since ledger.journal.disk (disk.moment ledger.journal.disk) left → disk.may_leave ledger.journal.disk left) → (long : List Exchange) → IsLedgerInPlaceOf ledger.book ledger.base (recovered (disk.seen ledger.journal.disk)) long
-      → LeavesOnly disk ledger.journal.disk ledger.journal.disk (λ left. ReopensTo ledger.book.book.limits left long)
-  stands_now durable now long in_place =
-      started disk ledger.journal.disk _ (λ left since. subst (λ (h : List Exchange). ReopensTo ledger.book.book.limits left h) (under-none (rules_of ledger) long) ((has durable long in_place).leaves left (now left since)))
-
-  -- its book and its base stand for all of its file
+  -- its book and its base model all of its file
   pub stands_for_all : StandsForFile ledger.book ledger.base (recovered (disk.seen ledger.journal.disk))
   stands_for_all = subst (StandsForFile ledger.book ledger.base) (sym (awaits.file ∙ append-nil awaits.front)) awaits.stands
 
@@ -129,12 +122,12 @@ starts_in_place limits own left long may is = record {
   in_place = subst (λ (rs : List (List ℕ)). AreRecordsInPlaceOf own rs long) (sym (headed own (recovered left) long is)) is;
 }
 
--- what is handed back
+-- the book that is returned
 pub handed : {B : Type 0} (book : Option B) → is_some book ≡ true → (left : B) × (book ≡ Some left)
 handed None some = absurd (false≢true some)
 handed (Some left) some = (left, refl)
 
--- what an opened ledger's start comes to, over the disks and the outbox that were given
+-- what a run over a journal gets from its opened ledger
 module _ {D : Type 0} (disk : Disk.Ghosts D) (limits : Limits) (mark : ℕ) (journal : D) (opened : Opened D) (allowed : MayBeRaised limits limits) (is : IsOpenedToRaise disk limits mark journal opened) where
   -- a history that the start begins with is one of the opened ledger
   begun_in : (long : List Exchange) → StartsWith limits (disk.seen journal) long → IsLedgerInPlaceOf opened.ledger.book opened.ledger.base (recovered (disk.seen opened.ledger.journal.disk)) long
@@ -144,99 +137,97 @@ module _ {D : Type 0} (disk : Disk.Ghosts D) (limits : Limits) (mark : ℕ) (jou
       (subst (λ (rs : List (List ℕ)). AreRecordsInPlaceOf own rs long) (sym is.same)
       (subst (λ (l : Limits). AreRecordsInPlaceOf l (with_header l (recovered (disk.seen journal))) long) (one_replay limits starts.own own (recovered (disk.seen journal)) starts.replayed is.own) starts.in_place))
 
-  -- what a crash leaves later on
-  pub once_opened : (last : D)
-      → ((long : List Exchange) → IsLedgerInPlaceOf opened.ledger.book opened.ledger.base (recovered (disk.seen opened.ledger.journal.disk)) long
-      → LeavesOnly disk opened.ledger.journal.disk last (λ left. ReopensTo opened.ledger.book.book.limits left long ⊎ ReopensTo limits left long))
-      → LeavesStart disk limits journal last
-  once_opened last later long starts =
-      joined disk journal opened.ledger.journal.disk last _ (while_opened disk limits journal allowed opened.ledger.journal.disk is.any_moment long starts)
-      (weaker disk opened.ledger.journal.disk last _ _
-      (λ left or. inr (⊎_elim (λ old. starts_in_place limits opened.ledger.book.book.limits left long is.higher old) (λ new. starts_in_place limits limits left long allowed new) or))
-      (later long (begun_in long starts)))
-
   stands : StandsForFile opened.ledger.book opened.ledger.base (with_header opened.ledger.book.book.limits (recovered (disk.seen journal)))
   stands = subst (StandsForFile opened.ledger.book opened.ledger.base) is.same (stands_for_all disk opened.ledger is.settled is.awaits)
 
-  -- the mark under which the journal was opened is one of it
-  mark_of_opened : IsMarkOfJournal opened.ledger.book.book.limits (disk.seen journal) mark
-  mark_of_opened =
-      let sealed : opened.ledger.book.book.sealed ≡ length (sealed_letters stands.history) = stands.stands.represents.sealed in
-      record {
+  -- a crash before a call of the ledger leaves what one leaves while it is opened
+  pub at_opening : LeavesStart disk limits journal opened.ledger.journal.disk
+  at_opening = while_opened disk limits journal allowed opened.ledger.journal.disk is.any_moment
+
+  -- the marks under which it was opened, and its letters
+  pub folder_is : {M : Type 0} (marks_disk : Disk.Ghosts M) (marks : M) (opened_marks : Marks M) → opened_marks.mark ≡ mark → SayMark (recovered (marks_disk.seen marks)) opened_marks.mark → LeavesTheMark marks_disk opened_marks → LeavesMarksOpened marks_disk marks opened_marks.journal.disk
+      → IsFolderOpened disk marks_disk limits journal marks opened_marks opened.letters.items
+  folder_is marks_disk marks opened_marks same mark_is leaves crash =
+      let own = opened.ledger.book.book.limits in
+      let sealed : opened.ledger.book.book.sealed ≡ length (sealed_letters stands.history) = stands.stands.represents.sealed in record {
+        mark_is = mark_is;
+        leaves = leaves;
+        crash = crash;
+        own = own;
+        replayed = is.own;
         base = opened.ledger.base;
         history = stands.history;
-        has = record { own = is.not_foreign; whole = is.whole; said = stands.said; reached = is.reached; sealed = omega (arith, is.counted, sealed) };
+        of_journal_is = record { own = is.not_foreign; whole = is.whole; said = stands.said; reached = omega (arith, is.reached, same); sealed = omega (arith, is.counted, sealed, same) };
+        letters_are =
+            subst (λ (m : ℕ). AreToPost own m (with_header own (recovered (disk.seen journal))) opened.letters.items) (sym same)
+            (subst (λ (rs : List (List ℕ)). AreToPost own mark rs opened.letters.items) is.same is.letters);
       }
 
-  module _ {M W : Type 0} (marks_disk : Disk.Ghosts M) (drain : Drain W) (host : List ℕ) (marks : M) (outbox : W) (marked : MarkedOutbox W M) (outbox_is : marked.outbox ≡ outbox) (same_mark : marked.marks.mark ≡ mark)
-      (mark_is : SayMark (recovered (marks_disk.seen marks)) marked.marks.mark) (marks_opened : LeavesMarksOpened marks_disk marks marked.marks.journal.disk) (leaves : LeavesTheMark marks_disk marked.marks) where
-    -- all letters that were handed out were given to the poster
-    first_is : (poster : Outgoing (MarkedOutbox W M)) → Delivered (marking_drain drain marks_disk) host marked poster opened.letters.items → IsPostedFirst disk marks_disk drain host limits journal marks outbox poster
-    first_is poster delivered =
-        let own = opened.ledger.book.book.limits in record {
-          from = record { host = host; start = marked; first = opened.letters.items; outbox = poster.poster.outbox };
-          posted = record { delivered = delivered; outbox = refl };
-          host_is = refl;
-          outbox_is = outbox_is;
-          mark_is = mark_is;
-          own = own;
-          replayed = is.own;
-          opened = marks_opened;
-          leaves = leaves;
-          of_journal_is = subst (IsMarkOfJournal own (disk.seen journal)) (sym same_mark) mark_of_opened;
-          first_are =
-              subst (λ (m : ℕ). AreToPost own m (with_header own (recovered (disk.seen journal))) opened.letters.items) (sym same_mark)
-              (subst (λ (rs : List (List ℕ)). AreToPost own mark rs opened.letters.items) is.same is.letters);
-        }
+  module _ (last : D)
+      (later : (long : List Exchange) → IsLedgerInPlaceOf opened.ledger.book opened.ledger.base (recovered (disk.seen opened.ledger.journal.disk)) long
+      → LeavesOnly disk opened.ledger.journal.disk last (λ left. ReopensTo opened.ledger.book.book.limits left long ⊎ ReopensTo limits left long)) where
+    -- what a crash leaves later on
+    pub once_opened : LeavesStart disk limits journal last
+    once_opened long starts =
+        joined disk journal opened.ledger.journal.disk last _ (at_opening long starts)
+        (weaker disk opened.ledger.journal.disk last _ _
+        (λ left or. inr (⊎_elim (λ old. starts_in_place limits opened.ledger.book.book.limits left long is.higher old) (λ new. starts_in_place limits limits left long allowed new) or))
+        (later long (begun_in long starts)))
 
-    pub start_is : (ledger : Ledger D) (poster : Outgoing (MarkedOutbox W M)) → IsStartOverLedger disk marks_disk drain host marked opened.letters.items limits opened.ledger ledger poster
-        → IsStartOver disk marks_disk drain host limits journal marks outbox ledger poster
-    start_is ledger poster start = record {
-      limits_are = start.limits_are;
-      few = start.few;
-      all_sent = start.all_sent;
-      begins = start.begins;
-      begins_with = λ long starts. start.begins_with long (begun_in long starts);
-      crash = once_opened ledger.journal.disk start.crash;
-      first = first_is poster start.delivered;
-    }
+  -- the ledger under the run's limits, in place of each history that the opened one was in place of
+  pub begun_is : (ledger : Ledger D) → ledger.book.book.limits ≡ limits → ledger.base + ledger.book.book.sealed < 2 ^ 63 → BeginsAnew disk ledger
+      → ((long : List Exchange) → IsLedgerInPlaceOf opened.ledger.book opened.ledger.base (recovered (disk.seen opened.ledger.journal.disk)) long → IsLedgerInPlaceOf ledger.book ledger.base (recovered (disk.seen ledger.journal.disk)) long)
+      → LeavesStart disk limits journal ledger.journal.disk → IsLedgerBegun disk limits journal ledger
+  begun_is ledger limits_are few anew in_place crash = record {
+    limits_are = limits_are;
+    few = few;
+    begins = anew.some;
+    begins_with = λ long starts. anew.each long (in_place long (begun_in long starts));
+    crash = crash;
+  }
 
-    -- why a start over the opened ledger came to nothing is why the start did
-    module _ (last : D) (back : W) (last_marks : M) (code : ℕ) where
-      no_start_for : (failed : Bool) → WhyNoStart disk limits opened.ledger failed code → HasPostedFirst disk marks_disk drain host limits journal marks outbox failed back last_marks → IsNoStart disk marks_disk drain host limits journal last marks last_marks outbox back code
-      no_start_for failed (of_outbox fails code_is) posted = no_outbox code_is (subst (λ f. HasPostedFirst disk marks_disk drain host limits journal marks outbox f back last_marks) fails posted)
-      no_start_for failed (of_journal fails cause code_is settled longer) posted =
-          not_put_away cause code_is settled
-          (λ full. record {
-            book = opened.ledger.book;
-            base = opened.ledger.base;
-            replayed = is.own;
-            stands = stands;
-            longer = subst (λ n. n < length (encoded (compacted (raised limits opened.ledger.book) opened.ledger.base []))) is.size (longer full);
-          })
-          (subst (λ f. HasPostedFirst disk marks_disk drain host limits journal marks outbox f back last_marks) fails posted)
-      no_start_for failed (of_letters fails code_is many) posted =
-          too_many_letters code_is
-          (record {
-            own = opened.ledger.book.book.limits;
-            replayed = is.own;
-            base = opened.ledger.base;
-            history = stands.history;
-            said = stands.said;
-            many = subst (λ n. base_limit ≤ opened.ledger.base + n) stands.stands.represents.sealed many;
-          })
-          (subst (λ f. HasPostedFirst disk marks_disk drain host limits journal marks outbox f back last_marks) fails posted)
+  -- why its journal was not replaced
+  pub not_replaced_for : (waiting : List Letter) (cause : KeepError) (code : ℕ) → code ≡ keep_error_code cause → (cause ≡ Unsettled → ⊥)
+      → (cause ≡ Journal Full → length (disk.seen opened.ledger.journal.disk) < length (encoded (compacted (raised limits opened.ledger.book) opened.ledger.base waiting)))
+      → IsNotBegun limits (disk.seen journal) waiting code
+  not_replaced_for waiting cause code code_is settled longer =
+      not_replaced cause code_is settled
+      (λ full. record {
+        book = opened.ledger.book;
+        base = opened.ledger.base;
+        replayed = is.own;
+        stands = stands;
+        longer = subst (λ n. n < length (encoded (compacted (raised limits opened.ledger.book) opened.ledger.base waiting))) is.size (longer full);
+      })
 
-      pub no_start : IsNoStartOverLedger disk marks_disk drain host marked opened.letters.items limits opened.ledger back last_marks code → IsNoStart disk marks_disk drain host limits journal last marks last_marks outbox back code
-      no_start none =
-          no_start_for none.poster.poster.failed none.why
-          (record { poster = none.poster; first = first_is none.poster none.delivered; failed_is = refl; back_is = none.back_is; last_marks_are = none.last_marks_are })
+  pub too_many_for : (waiting : List Letter) (code : ℕ) → code ≡ journal_full_code → base_limit ≤ opened.ledger.base + opened.ledger.book.book.sealed → IsNotBegun limits (disk.seen journal) waiting code
+  too_many_for waiting code code_is many =
+      too_many_letters code_is
+      (record {
+        own = opened.ledger.book.book.limits;
+        replayed = is.own;
+        base = opened.ledger.base;
+        history = stands.history;
+        said = stands.said;
+        many = subst (λ n. base_limit ≤ opened.ledger.base + n) stands.stands.represents.sealed many;
+      })
 
--- where so many letters aren't all that a mark may count, they are too many
-pub many_sealed : (sealed all : ℕ) → all ≡ min sealed (2 ^ 64 - 1) → ((sealed ≡ all) × (all < base_limit) → ⊥) → base_limit ≤ sealed
-many_sealed sealed all is none =
-    let more : base_limit < sealed + 1 =
-    lt_of_not-le (λ (few : sealed + 1 ≤ base_limit). let same : min sealed (2 ^ 64 - 1) ≡ sealed = min-eq_left (omega (arith, few)) in none (omega (arith, is, same), omega (arith, few, is, same))) in
+-- the letters that a poster was given first, over an outbox that marks them
+pub posted_is : {D M W : Type 0} (disk : Disk.Ghosts D) (marks_disk : Disk.Ghosts M) (drain : Drain W) (host : List ℕ) (limits : Limits) (journal : D) (marks : M) (outbox : W) (opened : Marks M) (letters : List Letter) (marked : MarkedOutbox W M) (poster : Outgoing (MarkedOutbox W M))
+    → marked ≡ record { outbox = outbox; marks = opened; failures = 0 } → IsFolderOpened disk marks_disk limits journal marks opened letters → Delivered (marking_drain drain marks_disk) host marked poster letters
+    → IsPostedFirst disk marks_disk drain host limits journal marks outbox poster
+posted_is disk marks_disk drain host limits journal marks outbox opened letters marked poster is folder delivered = record {
+  start = marked;
+  first = letters;
+  opened = subst (λ (it : MarkedOutbox _ _). IsFolderOpened disk marks_disk limits journal marks it.marks letters) (sym is) folder;
+  posted = delivered;
+  outbox_is = ap (λ (it : MarkedOutbox _ _). it.outbox) is;
+}
+
+-- letters that aren't fewer than the limit are at least as many
+pub many_sealed : (sealed : ℕ) → (sealed < base_limit → ⊥) → base_limit ≤ sealed
+many_sealed sealed none =
+    let more : base_limit < sealed + 1 = lt_of_not-le (λ (few : sealed + 1 ≤ base_limit). none (omega (arith, few))) in
     omega (arith, more)
 
 -- marks that were not opened
@@ -267,7 +258,7 @@ forgot disk ledger new before kept requests only_now result bodies unchanged run
     (λ more. ⊎_elim (λ memory. nothing_kept disk ledger before kept requests new only_now (unchanged (inr (inl memory))))
     (λ last. ⊎_elim (λ full. nothing_kept disk ledger before kept requests new only_now (unchanged (inr (inr full)))) (λ are. some_kept disk ledger before kept requests new are run) last) more) bodies
 
--- once all of them are kept and carried out, it stands for the history with them
+-- once all requests are kept and carried out, the ledger models the history with them
 pub forgot_all : {D : Type 0} (disk : Disk.Ghosts D) (ledger new : Ledger D) (requests : List Request) (result : Result (Unit {0}) KeepError) → new.settled ≡ settled_once_kept result ledger.settled
     → OnOk result (IsSettled disk new.journal.disk new.journal.used) → OnOk result (AwaitsRequests disk new [])
     → OnOk result ((long : List Exchange) → IsLedgerInPlaceOf ledger.book ledger.base (recovered (disk.seen ledger.journal.disk)) long → IsLedgerInPlaceOf new.book new.base (recovered (disk.seen new.journal.disk)) (history_under (rules_of ledger) long requests))

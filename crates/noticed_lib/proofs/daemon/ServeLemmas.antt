@@ -1,9 +1,8 @@
 -- Serve: a run over ports of which nothing is seen but their uses.
 use Rattle.std.proofs.Common.{◌≡◌, ℕ, suc, ◌<◌, ◌≤◌, ◌⊎◌, List, [], ◌∷◌, All, length, replicate, false, inl, inr, refl, ap, sym, ◌∙◌, subst, arith}
-use Rattle.std.proofs.KnownBytes.{Appends-nil}
 use Rattle.std.proofs.lemmas.List.{append-nil, length-replicate}
 use Rattle.std.proofs.lemmas.List.Elements.{All-cons, All-head, All-nil, All-tail}
-use Rattle.std.specs.Prelude.{None}
+use Rattle.std.specs.Prelude.{Bool, Err, None, Ok, Result}
 use Rattle.dsn_book.proofs.ReleaseLemmas.{under-none}
 use Rattle.dsn_book.specs.Book.{Represents}
 use Rattle.dsn_book.specs.RuledBook.{book_of, has_by_rules, ruled_keeper}
@@ -14,28 +13,36 @@ use Rattle.dsn_book.specs.declared.keeper.Keeper.{Ghosts as Keeper}
 use Rattle.dsn_crew.specs.KeeperHistory.{IsEarlier}
 use Rattle.dsn_crew.specs.agents.Agent.{LaneHalves}
 use Rattle.dsn_crew.specs.agents.Port.{AreOverPort, Given, all_given}
-use Rattle.dsn_crew.specs.Crew.{Account, AreAgentAccounts, CrewFault, HasFault, IsAccountAfter, IsAgentAccount, IsFaultWith, PostedBefore, most_ports, none_posted}
+use Rattle.dsn_crew.specs.Crew.{Account, AreAgentAccounts, CrewFault, HasFault, IsAccountAfter, IsAgentAccount, IsFaultWith, most_ports}
 use Rattle.dsn_crew.specs.declared.crew_cause.CrewCause.{CrewCause}
 use Rattle.dsn_crew.specs.declared.crew_cause.CrewCause.TheVariants.{PortCount, Refused, Unkept}
 use Rattle.dsn_crew.specs.declared.agents.agent_line.AgentLine.{AgentLine}
 use Rattle.dsn_crew.specs.declared.agents.port.Port.{Ghosts as Port}
-use Rattle.dsn_device.proofs.ThroughoutLemmas.{stands_still}
+use Rattle.dsn_crew.specs.declared.post.outlet.Outlet.{Ghosts as Outlet}
+use Rattle.dsn_crew.specs.post.Outlet.{outbox_outlet}
 use Rattle.dsn_device.specs.declared.drain.Drain.{Ghosts as Drain}
-use Rattle.dsn_journal.specs.MarkedOutbox.{MarkedOutbox}
+use Rattle.dsn_device.specs.declared.source.Source.{Ghosts as Source}
+use Rattle.dsn_hand_in.specs.JournalMarks.{RaisesMark}
+use Rattle.dsn_hand_in.specs.MailOutlet.{mail_outlet}
+use Rattle.dsn_smtp.specs.declared.hand_in_fault.HandInFault.{HandInFault}
 use Rattle.dsn_ledger.specs.OpenLedger.{Ledger, rules_of}
 use Rattle.dsn_journal.specs.declared.disk.Disk
 use Rattle.dsn_outcome.specs.History.{Exchange, answers_after, answers_to, sealed_letters}
 use Rattle.dsn_outcome.specs.Letter.{Letter}
 use Rattle.dsn_outcome.specs.Request.{Request}
-use Rattle.dsn_report.specs.Outgoing.{Outgoing}
-use Rattle.noticed_lib.specs.daemon.Journaled.{IsRunOver, IsServeOver, IsSocketServeOver, marking_drain}
+use Rattle.dsn_report.specs.Outgoing.{begun}
+use Rattle.noticed_lib.specs.daemon.Journaled.{IsOverSocket, IsRunOver, IsServeOver, marking_drain}
 use Rattle.dsn_ledger.specs.KeptBook.{ledger_keeper}
 use Rattle.noticed_lib.specs.daemon.Serve.{IsServe, IsSocketServe, WritesFault}
 use Rattle.noticed_lib.specs.daemon.SocketUses.{IsWithin, socket_port}
+use Rattle.noticed_lib.specs.daemon.Submitting.{IsServeToServer}
+use Rattle.noticed_lib.specs.declared.daemon.journaled_end.JournaledEnd.{JournaledEnd}
+use Rattle.noticed_lib.specs.declared.daemon.serve_to_server.MailTerms.{MailTerms}
+use Rattle.noticed_lib.specs.declared.daemon.serve_to_server.Submitted.{Submitted}
 use Rattle.noticed_lib.specs.inner.Daemon.{HasNoPorts}
 use Rattle.noticed_lib.specs.declared.daemon.serve_end.ServeEnd.{ServeEnd}
 
--- a port that doesn't tell its connections, and may give no more than these uses have it
+-- a port that doesn't expose its connections, and may give no more than these uses allow
 module _ {P S : Type 0} (port : Port P S) (untold : (one : P) → port.conns one ≡ None) (may_end : Type 0) (uses : ℕ) where
   abbrev pub Fits : P → Type 0
   Fits one = (given : List Given) → port.may_give one given → IsWithin may_end uses given
@@ -72,9 +79,9 @@ module _ {P S : Type 0} (port : Port P S) (untold : (one : P) → port.conns one
     )
 
   -- the account of a run that ended well, over any keeper
-  account-uses : {B W : Type 0} (keeper : Keeper B) (drain : Drain W) (from : PostedBefore W) (rules : Rules) (before : List Exchange) (letters : List Letter) (ports : List P) (account : Account W B) → All Fits ports
-      → IsAccountAfter keeper port drain from rules before letters ports account → IsAccountAfter keeper (socket_port may_end) drain from rules before letters (replicate (length ports) uses) account
-  account-uses keeper drain from rules before letters ports account fit is = record {
+  account-uses : {B O L : Type 0} (keeper : Keeper B) (outlet : Outlet O L) (start : O) (first : List Letter) (rules : Rules) (before : List Exchange) (letters : List Letter) (ports : List P) (account : Account L B) → All Fits ports
+      → IsAccountAfter keeper port outlet start first rules before letters ports account → IsAccountAfter keeper (socket_port may_end) outlet start first rules before letters (replicate (length ports) uses) account
+  account-uses keeper outlet start first rules before letters ports account fit is = record {
     agents = agents-uses rules before account.taken 0 ports account.agents account.halves fit is.agents;
     only = rw (length-replicate (length ports)) is.only;
     book_rules = is.book_rules;
@@ -87,7 +94,7 @@ module _ {P S : Type 0} (port : Port P S) (untold : (one : P) → port.conns one
     pub serve-uses : IsServe port drain notes_device host rules ports start notes later end → IsServe (socket_port may_end) drain notes_device host rules (replicate (length ports) uses) start notes later end
     serve-uses (inl served) = inl (record {
       account = served.account;
-      crew = record { letters = served.crew.letters; sealed = served.crew.sealed; is = account-uses ruled_keeper drain (none_posted host start) rules [] served.crew.letters ports served.account fit served.crew.is };
+      crew = record { letters = served.crew.letters; sealed = served.crew.sealed; is = account-uses ruled_keeper (outbox_outlet drain) (begun host start) [] rules [] served.crew.letters ports served.account fit served.crew.is };
       count = rw (length-replicate (length ports)) served.count;
       noted = served.noted;
     })
@@ -100,42 +107,66 @@ module _ {P S : Type 0} (port : Port P S) (untold : (one : P) → port.conns one
     })
 
   -- and of a run over a journal
-  module _ {D M W N : Type 0} (disk : Disk.Ghosts D) (marks_disk : Disk.Ghosts M) (drain : Drain W) (notes_device : Drain N) (host : List ℕ) (rules : Rules) (ports : List P) (fit : All Fits ports) (journal : D) (marks : M) (outbox : W) (notes later : N) (end : ServeEnd W) (last : D) (last_marks : M) where
-    run-uses : (ledger : Ledger D) (poster : Outgoing (MarkedOutbox W M)) → IsRunOver disk marks_disk (λ _. Unit {0}) port drain notes_device ports ledger poster notes later end last last_marks
-        → IsRunOver disk marks_disk (λ _. Unit {0}) (socket_port may_end) drain notes_device (replicate (length ports) uses) ledger poster notes later end last last_marks
-    run-uses ledger poster (inl served) = inl (record {
+  module _ {D O L N : Type 0} (disk : Disk.Ghosts D) (outlet : Outlet O L) (notes_device : Drain N) (ports : List P) (fit : All Fits ports) (ledger : Ledger D) (given : O) (notes later : N) (end : ServeEnd L) (last : D) where
+    run-uses : IsRunOver disk (λ _. Unit {0}) port outlet notes_device ports ledger given notes later end last
+        → IsRunOver disk (λ _. Unit {0}) (socket_port may_end) outlet notes_device (replicate (length ports) uses) ledger given notes later end last
+    run-uses (inl served) = inl (record {
       account = served.account;
-      crew = λ from by before with_it.
-          let has = served.crew from by before with_it in
-          record { letters = has.letters; sealed = has.sealed; is = account-uses (ledger_keeper disk) (marking_drain drain marks_disk) from (rules_of ledger) before has.letters ports served.account fit has.is };
+      crew = λ start first by before with_it.
+          let has = served.crew start first by before with_it in
+          record { letters = has.letters; sealed = has.sealed; is = account-uses (ledger_keeper disk) outlet start first (rules_of ledger) before has.letters ports served.account fit has.is };
       count = rw (length-replicate (length ports)) served.count;
       noted = served.noted;
+      outbox_is = served.outbox_is;
       crash = served.crash;
       forgets = served.forgets;
-      last_marks_are = served.last_marks_are;
     })
-    run-uses ledger poster (inr faulted) = inr (record {
+    run-uses (inr faulted) = inr (record {
       fault = faulted.fault;
-      crew = λ from by before with_it. rw (length-replicate (length ports)) (faulted.crew from by before with_it);
+      crew = λ start first by before with_it. rw (length-replicate (length ports)) (faulted.crew start first by before with_it);
       counted = rw (length-replicate (length ports)) faulted.counted;
       noted = faulted.noted;
       left = faulted.left;
       left_is = faulted.left_is;
       last_is = faulted.last_is;
-      last_marks_are = faulted.last_marks_are;
       crash = rw (length-replicate (length ports)) faulted.crash;
     })
 
-    pub over-uses : IsServeOver disk marks_disk port drain notes_device host rules ports journal marks outbox notes later end last last_marks
-        → IsServeOver disk marks_disk (socket_port may_end) drain notes_device host rules (replicate (length ports) uses) journal marks outbox notes later end last last_marks
-    over-uses (inl none) = inl (record { code = none.code; back = none.back; why = none.why; noted = none.noted; crash = none.crash })
-    over-uses (inr started) = inr (record {
-      ledger = started.ledger;
-      poster = started.poster;
-      start = started.start;
-      rule = started.rule;
-      run = run-uses started.ledger started.poster started.run;
-    })
+  pub over-uses : {D M W N : Type 0} (disk : Disk.Ghosts D) (marks_disk : Disk.Ghosts M) (drain : Drain W) (notes_device : Drain N) (host : List ℕ) (rules : Rules) (ports : List P) (fit : All Fits ports) (journal : D) (marks : M) (outbox : W) (notes later : N) (end : ServeEnd W) (last : D) (last_marks : M)
+      → IsServeOver disk marks_disk port drain notes_device host rules ports journal marks outbox notes later end last last_marks
+      → IsServeOver disk marks_disk (socket_port may_end) drain notes_device host rules (replicate (length ports) uses) journal marks outbox notes later end last last_marks
+  over-uses disk marks_disk drain notes_device host rules ports fit journal marks outbox notes later end last last_marks (inl none) = inl (record { code = none.code; back = none.back; why = none.why; noted = none.noted; crash = none.crash })
+  over-uses disk marks_disk drain notes_device host rules ports fit journal marks outbox notes later end last last_marks (inr started) = inr (record {
+    ledger = started.ledger;
+    poster = started.poster;
+    begun = started.begun;
+    rule = started.rule;
+    first = started.first;
+    all_sent = started.all_sent;
+    left = started.left;
+    run = run-uses disk (outbox_outlet (marking_drain drain marks_disk)) notes_device ports fit started.ledger started.poster notes later started.left last started.run;
+    end_is = started.end_is;
+    last_marks_are = started.last_marks_are;
+  })
+
+  pub server-uses : {D M T C K N : Type 0} (disk : Disk.Ghosts D) (marks_disk : Disk.Ghosts M) (source : Source T) (drain : Drain T) (gives : C → C → Result T HandInFault → Type 0) (keeps : K → List ℕ → List ℕ → List ℕ → Bool → K → Type 0) (notes_device : Drain N) (host : List ℕ) (rules : Rules) (ports : List P) (fit : All Fits ports) (journal : D) (marks : M) (terms : MailTerms C K) (notes later : N) (result : Result (Submitted T C K D M) (JournaledEnd (MailTerms C K) D M))
+      → IsServeToServer disk marks_disk port source drain gives keeps notes_device host rules ports journal marks terms notes later result
+      → IsServeToServer disk marks_disk (socket_port may_end) source drain gives keeps notes_device host rules (replicate (length ports) uses) journal marks terms notes later result
+  server-uses disk marks_disk source drain gives keeps notes_device host rules ports fit journal marks terms notes later (Err end) none = record { code = none.code; why = none.why; noted = none.noted; crash = none.crash }
+  server-uses disk marks_disk source drain gives keeps notes_device host rules ports fit journal marks terms notes later (Ok end) started = record {
+    ledger = started.ledger;
+    opened = started.opened;
+    first = started.first;
+    given = started.given;
+    folder = started.folder;
+    begun = started.begun;
+    rule = started.rule;
+    passed = started.passed;
+    left = started.left;
+    run = run-uses disk (mail_outlet source drain gives keeps (RaisesMark marks_disk)) notes_device ports fit started.ledger started.given notes later started.left end.journal started.run;
+    left_is = started.left_is;
+    status_is = started.status_is;
+  }
 
 -- ports that have these uses, and this watch, may give no more than these uses have it
 module _ {P H : Type 0} (ends : H → Type 0) (watch_of : P → H) (left_of : P → ℕ) (watch : H) (uses : ℕ) where
@@ -161,7 +192,7 @@ represented (Releasing book) history has = has.represents
 abbrev nothing_done : {W : Type 0} → CrewCause → W → CrewFault W RuledBook
 nothing_done cause start = record { cause = cause; outbox = start; unsent = []; book = None; taken = []; behind = [] }
 
-fault_of_none : {W : Type 0} (drain : Drain W) (host : List ℕ) (rules : Rules) (agents : ℕ) (start : W) (cause : CrewCause) → IsFaultWith drain (none_posted host start) [] agents (nothing_done cause start) cause → HasFault ruled_keeper drain (none_posted host start) rules [] agents (nothing_done cause start)
+fault_of_none : {W : Type 0} (drain : Drain W) (host : List ℕ) (rules : Rules) (agents : ℕ) (start : W) (cause : CrewCause) → IsFaultWith (outbox_outlet drain) (begun host start) [] (begun host start) [] agents (nothing_done cause start) cause → HasFault ruled_keeper (outbox_outlet drain) (begun host start) [] (begun host start) rules [] agents (nothing_done cause start)
 fault_of_none drain host rules agents start cause is = record {
   sealed = [];
   are = record { are = ap sealed_letters (under-none rules []) ∙ sym (append-nil (sealed_letters [])) };
@@ -173,7 +204,7 @@ fault_of_none drain host rules agents start cause is = record {
 serve-refused : {W N : Type 0} (may_end : Type 0) (uses : ℕ) (drain : Drain W) (notes_device : Drain N) (host : List ℕ) (rules : Rules) (agents : ℕ) (start : W) (notes later : N) (end : ServeEnd W) → (agents ≡ 0) ⊎ (most_ports < agents) → WritesFault notes_device PortCount start [] notes later end → IsServe (socket_port may_end) drain notes_device host rules (replicate agents uses) start notes later end
 serve-refused may_end uses drain notes_device host rules agents start notes later end few noted = inr (record {
   fault = nothing_done PortCount start;
-  crew = fault_of_none drain host rules (length (replicate agents uses)) start PortCount (refl, refl, refl, refl);
+  crew = fault_of_none drain host rules (length (replicate agents uses)) start PortCount (record { taken = refl; behind = refl; unsent = refl; outbox = refl });
   counted = (λ is. rw (length-replicate agents) few, λ is. refl);
   kept = λ why same. let never : PortCount ≡ Unkept why = same in cc;
   noted = noted;
@@ -194,14 +225,14 @@ pub no-book : {P S W N : Type 0} (port : Port P S) (drain : Drain W) (notes_devi
     → IsServe port drain notes_device host rules ports start notes later end
 no-book port drain notes_device host rules ports start notes later end cause (inl count) noted = inr (record {
   fault = nothing_done PortCount start;
-  crew = fault_of_none drain host rules (length ports) start PortCount (refl, refl, refl, refl);
+  crew = fault_of_none drain host rules (length ports) start PortCount (record { taken = refl; behind = refl; unsent = refl; outbox = refl });
   counted = (λ is. count.1, λ is. refl);
   kept = λ why same. let never : PortCount ≡ Unkept why = same in cc;
   noted = subst (λ (it : CrewCause). WritesFault notes_device it start [] notes later end) count.0 noted;
 })
 no-book port drain notes_device host rules ports start notes later end cause (inr refused) noted = inr (record {
   fault = nothing_done Refused start;
-  crew = fault_of_none drain host rules (length ports) start Refused (inl (record { taken = refl; behind = refl; unsent = refl; outbox = record { nothing = Appends-nil (drain.contents start); failures = refl; flushes = refl; marked = refl; no_moment = stands_still } }));
+  crew = fault_of_none drain host rules (length ports) start Refused (inl (record { taken = refl; behind = refl; unsent = refl; outbox = refl }));
   counted = (λ is. absurd (let never : Refused ≡ PortCount = is in cc), λ few. absurd (no_crew (length ports) (refused.1, refused.2) few));
   kept = λ why same. let never : Refused ≡ Unkept why = same in cc;
   noted = subst (λ (it : CrewCause). WritesFault notes_device it start [] notes later end) refused.0 noted;
@@ -213,13 +244,13 @@ module _ {W N : Type 0} (may_end : Type 0) (uses : ℕ) (drain : Drain W) (notes
   no-ports cause (inl count) noted = inl (serve-refused may_end uses drain notes_device host rules agents start notes later end count.1 (subst (λ (it : CrewCause). WritesFault notes_device it start [] notes later end) count.0 noted))
   no-ports cause (inr refused) noted = inr ((refused.1, refused.2), subst (λ (it : CrewCause). WritesFault notes_device it start [] notes later end) refused.0 noted)
 
-  pub no-ports-over : {D M : Type 0} (disk : Disk.Ghosts D) (marks_disk : Disk.Ghosts M) (journal last : D) (marks last_marks : M) (cause : CrewCause) → HasNoPorts agents cause → WritesFault notes_device cause start [] notes later end → last ≡ journal → last_marks ≡ marks
-      → IsSocketServeOver disk marks_disk drain notes_device may_end host rules agents uses journal marks start notes later end last last_marks
-  no-ports-over disk marks_disk journal last marks last_marks cause (inl count) noted same same_marks = record {
-    crew = λ crew. absurd (no_crew agents crew count.1);
-    none = λ _. (subst (λ (it : CrewCause). WritesFault notes_device it start [] notes later end) count.0 noted, same, same_marks);
-  }
-  no-ports-over disk marks_disk journal last marks last_marks cause (inr refused) noted same same_marks = record {
-    crew = λ _. inr (subst (λ (it : CrewCause). WritesFault notes_device it start [] notes later end) refused.0 noted, same, same_marks);
-    none = λ few. absurd (no_crew agents (refused.1, refused.2) few);
-  }
+-- and so of any run over a socket
+pub no-ports-over : (run : List ℕ → Type 0) (nothing : CrewCause → Type 0) (agents uses : ℕ) (cause : CrewCause) → HasNoPorts agents cause → nothing cause → IsOverSocket run nothing agents uses
+no-ports-over run nothing agents uses cause (inl count) noted = record {
+  crew = λ crew. absurd (no_crew agents crew count.1);
+  none = λ _. subst nothing count.0 noted;
+}
+no-ports-over run nothing agents uses cause (inr refused) noted = record {
+  crew = λ _. inr (subst nothing refused.0 noted);
+  none = λ few. absurd (no_crew agents (refused.1, refused.2) few);
+}

@@ -10,7 +10,7 @@ two_connections = record { few = lit≤ tt; used_up = λ _. inl refl }
 a_failure : IsWithin ⊥ 2 (connection ∷ failed ∷ [])
 a_failure = record { few = lit≤ tt; used_up = λ is. inl refl }
 
--- where a watch may end the run it may be done before
+-- if a watch may end the run, the port may be done before
 ended : IsWithin (Unit {0}) 2 (connection ∷ done ∷ [])
 ended = record { few = lit≤ tt; used_up = λ _. inr tt }
 

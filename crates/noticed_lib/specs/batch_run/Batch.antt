@@ -35,8 +35,9 @@ pub record AppendsThenPart (old new : Option (List ℕ)) (text ending : List ℕ
   pub appended : Appends old new (text ++ part)
 
 -- what the notes gained, by whether the reading ended with a line that could not be written, and
--- whether any line was lost: all lines; the lines of all answers, and of the end's a part alone; or
--- the lines of all answers but the last, and of its line a part alone
+-- whether any line was lost. If no line was lost, they gained all lines. If the line of the end was
+-- lost, they gained the lines of all answers and a part of it. If the reading ended so, they gained
+-- the lines of all answers except the last, and a part of its line
 abbrev pub NotesSent : Bool → Bool → Option (List ℕ) → Option (List ℕ) → List Spoken → List ℕ
     → Type 0
 NotesSent false false old new answers ending =
@@ -48,12 +49,12 @@ NotesSent true true old new answers ending = LosesLast answer_line answer_lines_
 
 module _ {R W N : Type 0} (input_device : Source R) (outbox_device : Drain W)
     (notes_device : Drain N) where
-  -- a run over an input: its frames, the bodies asked among them and the answers are a session,
-  -- which ended so; the replies are those of the history of the requests that the bodies make, as
-  -- agent 0; the outbox has the notices of the letters that the requests' history sealed, or a
-  -- prefix of their text after a failure; the notes are the lines of the answers and of the end, or
-  -- a part of them after a failure; and each device failed once where the run says that it failed,
-  -- and else not
+  -- a run over an input. Its frames, the bodies asked among them and the answers are a session,
+  -- which ended with `reading`. The replies are those of the history of the requests that the
+  -- bodies make, as agent 0. The outbox has the notices of the letters that this history sealed, or
+  -- a prefix of their text after a failure. The notes are the lines of the answers and of the end,
+  -- or a part of them after a failure. Each device failed once if the run says that it failed, and
+  -- otherwise not
   pub record IsBatch (limits : Limits) (host : List ℕ) (input now : R) (start : W)
       (notes later : N) (end : BatchEnd W) : Type 0 where
     pub frames : List (List ℕ)

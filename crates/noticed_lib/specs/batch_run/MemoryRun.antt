@@ -1,5 +1,5 @@
 -- Runs over memory: what the bytes of an input put into an outbox and notes that are both empty
--- before. It is a run over devices that tell their bytes.
+-- before. It is a run over devices that expose their bytes.
 use Rattle.std.specs.Prelude.{◌≡◌, ℕ, Bool, false, List, [], Some, None}
 use Rattle.dsn_device.specs.declared.drain.Drain.{Ghosts as Drain}
 use Rattle.dsn_device.specs.declared.source.Source.{Ghosts as Source}
@@ -20,8 +20,9 @@ memory_source =
       steady = λ bytes. Unit {0};
     }
 
--- bytes in memory that are written, how many of the calls that wrote them failed, how often they
--- were flushed, and whether bytes were taken since the last flush; no flush fails
+-- bytes in memory that are written. `failures` is how many of the calls that wrote them failed,
+-- `flushes` how often they were flushed. `unflushed` says whether bytes were taken since the last
+-- flush. No flush fails
 pub record Memory : Type 0 where
   pub bytes : List ℕ
   pub failures : ℕ

@@ -1,4 +1,4 @@
--- Asks: what became of one frame that was handed to a daemon (this project's profile).
+-- Asks: the result of one frame that is sent to a daemon (this project's profile).
 use Rattle.std.specs.Prelude.{◌≡◌, ◌≢◌, ℕ, List, Option, Some, None, Result, Ok, Err}
 use Rattle.std.specs.Io.KnownBytes.{Appends, Consumes, Keeps}
 use Rattle.dsn_device.specs.Transfer.{AppendsPart}
@@ -28,9 +28,9 @@ pub record IsFaulty (unread left : Option (List ℕ)) (fault : AnswerFault) : Ty
   pub got : ReadsNext unread left (Some body)
   pub first : first_answer_fault body ≡ Some fault
 
--- the frame of this body was sent at its place, from what the daemon was `sent` to what it was sent
--- `later`; and of what the daemon had to say, `unread`, the rest is `left`. So it was answered, or
--- this fault was met
+-- the result of sending the frame of this body at its place: the answer to it, or a fault. `sent`
+-- and `later` are what the daemon was sent before and after. `unread` and `left` are what it had to
+-- say before and after
 abbrev pub IsAsked : ℕ → List ℕ → Option (List ℕ) → Option (List ℕ) → Option (List ℕ)
     → Option (List ℕ) → Result Spoken SendFault → Type 0
 IsAsked place bytes sent later unread left (Ok answer) =

@@ -1,5 +1,5 @@
--- Sends: what a client comes to that hands the frames of an input to a daemon, and notes what each
--- was answered (this project's profile).
+-- Sends: the result of a client that sends the frames of an input to a daemon, and notes the answer
+-- to each (this project's profile).
 use Rattle.std.specs.Prelude.{◌≡◌, ℕ, suc, ◌<◌, List, [], ◌∷◌, length, Option, Some, None, Result, Ok, Err, is_some, if◌then◌else◌}
 use Rattle.std.specs.Io.KnownBytes.{Appends, Consumes, Keeps}
 use Rattle.std.specs.List.{flat_map, AllByRecursion}
@@ -23,8 +23,9 @@ use Rattle.noticed_lib.specs.declared.client.send_fault.SendFault.TheVariants.{I
 abbrev pub most_frames : ℕ
 most_frames = 1000000
 
--- what the devices of a client tell of their bytes: what is left of the input, what the daemon was
--- sent, what is left of what it has to say, and what was noted
+-- what the devices of a client expose of their bytes. `input` is what is left of the input, `sent`
+-- what the daemon was sent. `unread` is what is left of what it has to say, and `lines` what was
+-- noted
 pub record Known : Type 0 where
   pub input : Option (List ℕ)
   pub sent : Option (List ℕ)
@@ -53,7 +54,7 @@ pub record IsSilent (left now : Known) : Type 0 where
   pub nothing_got : Keeps left.unread now.unread
   pub nothing_noted : Keeps left.lines now.lines
 
--- the next frame was read, and sent, and this is what became of it
+-- the next frame was read and sent, with this result
 pub record EndsAtFrame (limit count : ℕ) (left now : Known)
     (result : Result Spoken SendFault) : Type 0 where
   pub few : count < limit
@@ -79,8 +80,8 @@ pub record EndsBeyond (limit count : ℕ) (left now : Known) : Type 0 where
   pub read : ReadsNext left.input now.input (Some bytes)
   pub silent : IsSilent left now
 
--- how a send ends after so many frames, from what was left then to what is at last: well, at the
--- input's end; or with a fault
+-- how a send ends after `count` frames, from what was left then to what is left at last: well, at
+-- the input's end; or with a fault
 abbrev pub SendEnds : ℕ → ℕ → Known → Known → Option SendFault → Type 0
 SendEnds limit count left now None = ReadsNext left.input now.input None × IsSilent left now
 SendEnds limit count left now (Some (Input fault)) =
@@ -95,8 +96,8 @@ SendEnds limit count left now (Some (Answer fault)) =
 SendEnds limit count left now (Some OutOfTurn) = EndsUnanswered limit count left now OutOfTurn
 SendEnds limit count left now (Some NotesLost) = EndsUntold limit count left now
 
--- a send of at most so many frames: these are the frames that were answered and noted, and so it
--- ended
+-- a send of at most `limit` frames: these are the frames that were answered and noted, and how it
+-- then ended
 pub record Sends (limit : ℕ) (start now : Known) (frames : List (List ℕ)) (answers : List Spoken)
     (fault : Option SendFault) : Type 0 where
   pub left : Known
@@ -105,7 +106,7 @@ pub record Sends (limit : ℕ) (start now : Known) (frames : List (List ℕ)) (a
 
 module _ {R S N : Type 0} (input_device : Source R) (source : Source S) (drain : Drain S)
     (notes_device : Drain N) where
-  -- what three devices tell
+  -- what these three devices expose
   abbrev pub known : R → S → N → Known
   known input stream
       notes = record {

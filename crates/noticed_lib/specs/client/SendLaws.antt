@@ -10,8 +10,8 @@ use Rattle.noticed_lib.specs.client.Send.{FitFrom, Known, Sends}
 use Rattle.noticed_lib.specs.declared.client.send_fault.SendFault.{SendFault}
 use Rattle.noticed_lib.specs.declared.client.send_fault.SendFault.TheVariants.{Input, TooMany, NotSent, Unanswered, AnswerFrame, Answer, OutOfTurn, NotesLost}
 
--- no fault, or one for which no answer is to blame: an answer's frame meets want of memory or a
--- read that failed alone, its body is an answer, and to the frame's place
+-- no fault, or one that no answer is to blame for. An answer's frame fails only if memory is
+-- refused or a read fails, and its body is an answer to the frame's place
 abbrev pub IsBlameless : Option SendFault → Type 0
 IsBlameless None = Unit {0}
 IsBlameless (Some (Input fault)) = Unit {0}
@@ -44,8 +44,8 @@ SeesAnswers given =
     → Sends most start now frames noted fault
     → Sees given noted fault
 
--- and where they are what the frames of a session are told, over the bytes that the client wrote, it
--- notes all of them where it ends well
+-- the same for the answers of a session over the bytes that the client wrote. A send that ends well
+-- notes all of them, each as its frame's version has it
 abbrev pub SeesSession : List Spoken → Type 0
 SeesSession given =
     (limit before most : ℕ) (start now : Known) (earlier wrote : List ℕ) (left : Option (List ℕ))

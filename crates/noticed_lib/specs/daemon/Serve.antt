@@ -5,7 +5,8 @@ use Rattle.dsn_book.specs.RuledBook.{ruled_keeper}
 use Rattle.dsn_book.specs.Release.{Rules, history_under}
 use Rattle.dsn_book.specs.declared.ruled_book.RuledBook.{RuledBook}
 use Rattle.dsn_book.specs.declared.not_kept.NotKept.{NotKept}
-use Rattle.dsn_crew.specs.Crew.{Account, CrewFault, HasAccount, HasFault, crew_cause_code, most_ports, none_posted}
+use Rattle.dsn_crew.specs.Crew.{Account, CrewFault, HasAccount, HasFault, crew_cause_code, most_ports}
+use Rattle.dsn_crew.specs.post.Outlet.{outbox_outlet}
 use Rattle.dsn_crew.specs.declared.agents.agent_line.AgentLine.{AgentLine}
 use Rattle.dsn_crew.specs.declared.crew_cause.CrewCause.{CrewCause}
 use Rattle.dsn_crew.specs.declared.crew_cause.CrewCause.TheVariants.{Refused, PortCount, Unkept}
@@ -14,6 +15,7 @@ use Rattle.dsn_device.specs.UntilFailure.{WritesUntilFailure}
 use Rattle.dsn_device.specs.declared.drain.Drain.{Ghosts as Drain}
 use Rattle.dsn_outcome.specs.History.{Exchange}
 use Rattle.dsn_outcome.specs.Letter.{Letter}
+use Rattle.dsn_report.specs.Outgoing.{begun}
 use Rattle.dsn_notes.specs.OpenLogs.{AreOpenLines}
 use Rattle.noticed_lib.specs.daemon.AgentLines.{account_lines, number_lines, port_fault}
 use Rattle.noticed_lib.specs.daemon.SocketUses.{socket_port}
@@ -32,13 +34,13 @@ account_status lost account logs =
 module _ {W N : Type 0} (notes_device : Drain N) where
   -- a run with this history and account was written to the notes: each line, up to one that could not
   -- be written
-  pub record WritesAccount {V B : Type 0} (history : List Exchange) (account : Account V B)
-      (outbox : W) (notes later : N) (end : ServeEnd W) : Type 0 where
+  pub record WritesAccount {B : Type 0} (history : List Exchange) (account : Account W B)
+      (notes later : N) (end : ServeEnd W) : Type 0 where
     pub logs : Option (List OpenLine)
     pub logs_are : AreOpenLines history logs
     pub lost : Bool
     pub noted : WritesUntilFailure notes_device false lost notes later (account_lines account logs)
-    pub outbox_is : end.outbox ≡ outbox
+    pub outbox_is : end.outbox ≡ account.outbox
     pub status_is : end.status ≡ account_status lost account logs
 
   -- the number of a fault was written to the notes, and the letters that were not written: each line,
@@ -58,20 +60,21 @@ module _ {W N : Type 0} (notes_device : Drain N) where
 module _ {P S W N : Type 0} (port : Port P S) (drain : Drain W) (notes_device : Drain N)
     (host : List ℕ) (rules : Rules) (ports : List P) (start : W) (notes later : N)
     (end : ServeEnd W) where
-  -- a run by these rules that ended well, over a book that was empty: the account of its crew, and its
-  -- notes, over the logs that the requests taken leave open
+  -- a run by these rules that ended well, over a book that was empty. It has the account of its
+  -- crew, and its notes, over the logs that the requests taken leave open
   pub record IsDaemonServed : Type 0 where
     pub account : Account W RuledBook
-    pub crew : HasAccount ruled_keeper port drain (none_posted host start) rules [] ports account
+    pub crew : HasAccount ruled_keeper port (outbox_outlet drain) (begun host start) [] rules [] ports account
     pub count : (1 ≤ length ports) × (length ports ≤ most_ports)
     pub noted : WritesAccount notes_device (history_under rules [] account.taken) account
-        account.outbox notes later end
+        notes later end
 
   -- a run whose crew ended with a fault: what is left of it, and its notes. The cause is PortCount
   -- exactly if there are not 1 to `most_ports` ports, and never a request that was not kept
   pub record IsFaulted : Type 0 where
     pub fault : CrewFault W RuledBook
-    pub crew : HasFault ruled_keeper drain (none_posted host start) rules [] (length ports) fault
+    pub crew : HasFault ruled_keeper (outbox_outlet drain) (begun host start) [] (begun host start) rules []
+        (length ports) fault
     pub counted : (fault.cause ≡ PortCount) ↔ ((length ports ≡ 0) ⊎ (most_ports < length ports))
     pub kept : (why : NotKept) → fault.cause ≢ Unkept why
     pub noted : WritesFault notes_device fault.cause fault.outbox fault.unsent notes later end

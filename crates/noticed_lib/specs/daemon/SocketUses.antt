@@ -1,4 +1,4 @@
--- Uses: how much a port over a socket gives, of which so many uses are left.
+-- Uses: how much a port over a socket gives that has a given number of uses left.
 use Rattle.std.specs.Prelude.{◌≡◌, ℕ, ◌≤◌, ◌⊎◌, Bool, true, false, List, length, filter, None}
 use Rattle.std.specs.List.{list_any}
 use Rattle.dsn_crew.specs.agents.Port.{Given, connection, done, failed}
@@ -19,14 +19,14 @@ is_done failed = false
 abbrev pub uses_in : List Given → ℕ
 uses_in given = length (filter is_use given)
 
--- what a port with so many uses may give: no more than these, and it is done only once there were
--- just as many, or where its watch may end the run before
+-- what a port with this number of uses may give: no more than these. It is done only once it gave
+-- as many, or if its watch may end the run before
 pub record IsWithin (may_end : Type 0) (uses : ℕ) (given : List Given) : Type 0 where
   pub few : uses_in given ≤ uses
   pub used_up : list_any is_done given ≡ true → (uses_in given ≡ uses) ⊎ may_end
 
--- a port over a socket, of which nothing is seen but its uses: it doesn't tell what comes
--- the contract of `serve` speaks of these, one for each agent, since its ports are private
+-- a port over a socket, of which only its uses are seen: it doesn't expose its connections. The
+-- contract of `serve` speaks of these, one for each agent, since its ports are private
 abbrev pub socket_port : Type 0 → Port ℕ (Unit {0})
 socket_port may_end = record {
   conns = λ uses. None;

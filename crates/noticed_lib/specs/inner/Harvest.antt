@@ -21,7 +21,7 @@ use Rattle.dsn_frame.specs.declared.bodies.spoken.Spoken.{Spoken}
 
 module _ {R W N : Type 0} (input_device : Source R) (outbox_device : Drain W)
     (notes_device : Drain N) where
-  -- what came of the reading
+  -- the result of the reading
   pub record Harvested (limits : Limits) (host : List ℕ) (start : W) (input now : R)
       (notes later : N) (end : Option ℕ) (outgoing : Outgoing W)
       (logs : Option (List OpenLine)) : Type 0 where

@@ -1,4 +1,4 @@
--- Noted answers: what became of the lines of answers.
+-- Noted answers: what the notes have of the lines of answers.
 use Rattle.std.specs.Prelude.{◌≡◌, Bool, List}
 use Rattle.dsn_device.specs.Failures.{counted}
 use Rattle.dsn_device.specs.declared.drain.Drain.{Ghosts as Drain}

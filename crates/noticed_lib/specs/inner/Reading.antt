@@ -1,4 +1,4 @@
--- Readings: what became of an input that is read, of its run, and of the notes.
+-- Readings: the result of reading an input, of its run, and of the notes.
 use Rattle.std.specs.Prelude.{List, [], Bool, Option, ℕ}
 use Rattle.dsn_device.specs.Counts.{Counts}
 use Rattle.dsn_device.specs.declared.drain.Drain.{Ghosts as Drain}

@@ -1,4 +1,4 @@
--- The requests of an input that is read alone: which they are, and what they are answered (this
+-- The requests of an input that is read alone, and the answers to them (this project's profile).
 use Rattle.std.specs.Prelude.{List, length, ℕ, ◌≡◌, ◌+◌, [], ◌∷◌, ◌++◌}
 use Rattle.dsn_book.specs.Book.{Represents}
 use Rattle.dsn_device.specs.declared.drain.Drain.{Ghosts as Drain}
@@ -25,11 +25,11 @@ replied_next limits requests body =
     (answer_of (history_of limits requests)
     (exchange_of limits (history_of limits requests) (next_request requests body)))
 
--- how many requests a run takes at most: so many are counted in four bytes
+-- how many requests a run takes at most: they are counted in four bytes
 abbrev pub most_accepted : ℕ
 most_accepted = 4294967295
 
--- the book stands for the requests' history, and the letters of that history were handed on
+-- the book models the requests' history, and the letters of that history were passed on
 pub record Stands {W : Type 0} (outbox_device : Drain W) (limits : Limits) (host : List ℕ)
     (start : W) (run : Run W) (requests : List Request) : Type 0 where
   pub limits_kept : run.book.limits ≡ limits
@@ -38,19 +38,19 @@ pub record Stands {W : Type 0} (outbox_device : Drain W) (limits : Limits) (host
   pub letters : Delivered outbox_device host start run.outgoing
       (sealed_letters (history_of limits requests))
 
--- a request was taken, and the run stands for the requests with it
+-- a request was taken, and the run models the requests with it
 pub record Asks {W : Type 0} (outbox_device : Drain W) (limits : Limits) (host : List ℕ)
     (start : W) (run : Run W) (before : List Request) (body : Body) (reply : Replied) : Type 0 where
   pub reply_is : reply ≡ replied_next limits before body
   pub stands : Stands outbox_device limits host start run (before ++ next_request before body ∷ [])
 
--- the run stands for the requests that these bodies make, and their replies are among the answers
+-- the run models the requests that these bodies make, and their replies are among the answers
 pub record RunStands {W : Type 0} (outbox_device : Drain W) (limits : Limits) (host : List ℕ)
     (start : W) (run : Run W) (bodies : List Body) (answers : List Spoken) : Type 0 where
   pub replies : AreReplies limits answers (requests_of bodies)
   pub stands : Stands outbox_device limits host start run (requests_of bodies)
 
--- a frame was answered as a session answers it, and the run stands for the requests after it
+-- a frame was answered as a session answers it, and the run models the requests after it
 pub record Answered {W : Type 0} (outbox_device : Drain W) (old new : Run W) (position : ℕ)
     (bytes : List ℕ) (turn : Turn) : Type 0 where
   pub asked : List Body

@@ -10,8 +10,9 @@ use dsn_outcome::Letters;
 use dsn_report::Site;
 use std::alloc::Global;
 
-/// How a run of [`batch_bytes`] ended. Where memory for the outbox or for the notes was refused,
-/// the one has not all of its text and `whole` is false, or the other has not and `fault` is 33.
+/// How a run of [`batch_bytes`] ended. If memory for the outbox was refused, the outbox has not all
+/// of its text, and `whole` is false. If memory for the notes was refused, the notes have not all
+/// of theirs, and `fault` is 33.
 #[derive(Drop)]
 pub struct MemoryRun {
     /// The outbox.

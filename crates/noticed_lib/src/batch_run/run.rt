@@ -18,7 +18,7 @@ pub(crate) struct Run<W> {
 }
 
 impl<W: Drain> Run<W> {
-    /// Answers the frame that stands at this place of the input.
+    /// Answers the frame at this place of the input.
     pub(crate) fn answer(&mut self, alloc: Global, position: u32, bytes: &[u8]) -> Turn
         requires counted { self.old.accepted < most_accepted }
         requires few { self.old.accepted < self.old.book.limits.requests }

@@ -18,11 +18,13 @@ use dsn_report::{OutboxEnd, Outgoing, Site};
 use dsn_text::fault_code;
 use std::alloc::Global;
 
-/// Reads frames from `input` to its end, does what they ask as agent 0, posts a notice of each
-/// sealed log to `outbox`, and writes to `notes` what each frame was answered and how the run
-/// ended. Each line of the notes is written before the next frame is read, and a letter before
-/// its answer's line. Want of memory ends the run only where the book or a frame's memory was
-/// refused; a request that meets it is answered `refused 9`.
+/// Reads frames from `input` to its end, and does what they ask as agent 0. Posts a notice of each
+/// sealed log to `outbox`. Writes to `notes` the answer to each frame and how the run ended. Each
+/// line of the notes is written before the next frame is read, and a letter before its answer's
+/// line.
+///
+/// A refusal of memory ends the run only if it was for the book or for a frame. A request that
+/// meets it is answered `refused 9`.
 pub fn batch<R: Source, W: Drain, N: Drain>(
     alloc: Global,
     limits: &Limits,

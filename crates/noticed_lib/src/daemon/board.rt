@@ -1,8 +1,11 @@
 //! The counters of a run, which its threads write and whoever asks for its status reads.
 //! Nothing that is proved reads them.
 use crate::daemon::answer_counts::AnswerCounts;
+use crate::daemon::journal_use::JournalUse;
 use crate::daemon::key_gauge::{KeyChange, KeyCounts, KeyGauge};
 use crate::daemon::open_logs::{OpenLog, OpenLogs};
+use crate::daemon::request_counts::RequestCounts;
+use crate::daemon::submission_counts::SubmissionCounts;
 use dsn_outcome::{Key, Reply};
 use std::alloc::Global;
 use std::sync::atomic::{AtomicI32, AtomicU32, AtomicU64, Ordering};
@@ -18,12 +21,18 @@ const TRIES: u32 = 1_000_000;
 pub(crate) struct Board {
     pub(crate) keys: KeyGauge,
     pub(crate) answers: AnswerCounts,
+    pub(crate) requests: RequestCounts,
     /// How many connections were accepted.
     connections: AtomicU64,
     /// How many clients were cut off.
     cut_off: AtomicU64,
     /// How many notices were written and flushed.
     written: AtomicU64,
+    pub(crate) submissions: SubmissionCounts,
+    /// How many bytes of the journal's file have records.
+    journal_used: AtomicU64,
+    /// How many bytes the journal's file has; 0 without a journal.
+    journal_size: AtomicU64,
     /// The number of the last fault; 0 for none.
     fault: AtomicU32,
     /// The system's number of its error; 0 for none.
@@ -37,9 +46,13 @@ impl Board {
         Board {
             keys: KeyGauge::new(),
             answers: AnswerCounts::new(),
+            requests: RequestCounts::new(),
             connections: AtomicU64::new(0),
             cut_off: AtomicU64::new(0),
             written: AtomicU64::new(0),
+            submissions: SubmissionCounts::new(),
+            journal_used: AtomicU64::new(0),
+            journal_size: AtomicU64::new(0),
             fault: AtomicU32::new(0),
             fault_error: AtomicI32::new(0),
             open: Mutex::new(OpenLogs::new(alloc)),
@@ -114,6 +127,24 @@ impl Board {
         self.written.fetch_add(1, Ordering::SeqCst);
     }
 
+    /// Notes how much of the journal has records.
+    pub(crate) fn uses(&self, journal: JournalUse) {
+        self.journal_used
+            .store(journal.used as u64, Ordering::SeqCst);
+        self.journal_size
+            .store(journal.size as u64, Ordering::SeqCst);
+    }
+
+    /// How many bytes of the journal's file have records.
+    pub(crate) fn journal_used(&self) -> u64 {
+        self.journal_used.load(Ordering::SeqCst)
+    }
+
+    /// How many bytes the journal's file has; 0 without a journal.
+    pub(crate) fn journal_size(&self) -> u64 {
+        self.journal_size.load(Ordering::SeqCst)
+    }
+
     /// Notes a fault with its number, and the system's error.
     pub(crate) fn failed(&self, code: u32, error: &io::Error) {
         let number = error.raw_os_error().unwrap_or(0);
@@ -132,13 +163,18 @@ impl Board {
         self.keys.counts()
     }
 
-    /// How many connections were accepted, clients cut off, and notices written.
-    pub(crate) fn events(&self) -> [(&'static str, u64); 4] {
+    /// How many connections were accepted, clients cut off, and notices sealed, written to an outbox
+    /// or submitted.
+    pub(crate) fn events(&self) -> [(&'static str, u64); 7] {
+        let [accepted, refused, waiting] = self.submissions.named();
         [
             ("connections", self.connections.load(Ordering::SeqCst)),
             ("cut_off", self.cut_off.load(Ordering::SeqCst)),
             ("notices_sealed", self.answers.sealed()),
             ("notices_written", self.written.load(Ordering::SeqCst)),
+            accepted,
+            refused,
+            waiting,
         ]
     }
 

@@ -1,6 +1,9 @@
 //! A run that nobody looks after.
+use crate::daemon::journal_use::JournalUse;
+use crate::daemon::request_counts::RequestKind;
 use crate::daemon::watch::Watch;
 use dsn_outcome::{Key, Reply};
+use dsn_submission::Verdict;
 use std::io;
 use std::time::Duration;
 
@@ -57,9 +60,17 @@ impl Watch for NoWatch {
 
     fn holds(&self, _key: Key, _outcomes: Option<u32>) {}
 
-    fn carried_out(&self, _key: Option<Key>, _reply: Reply) {}
+    fn uses(&self, _journal: JournalUse) {}
+
+    fn carried_out(&self, _asked: Option<(RequestKind, Key)>, _reply: Reply) {}
 
     fn notice_written(&self, _line: &str) {}
+
+    fn notice_submitted(&self, _line: &str, _verdict: Verdict, _reply: &str) {}
+
+    fn notices_wait(&self, _notices: usize) {}
+
+    fn submission_stopped(&self, _why: &str) {}
 
     fn outbox_failed(&self, _error: &io::Error) {}
 }

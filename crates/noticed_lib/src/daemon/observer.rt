@@ -1,4 +1,6 @@
 //! Who hears of the requests that a run carries out.
+use crate::daemon::journal_use::JournalUse;
+use crate::daemon::request_counts::RequestKind;
 use crate::daemon::watch::Watch;
 use dsn_outcome::{Key, Reply};
 
@@ -7,8 +9,12 @@ pub(crate) trait Observer {
     /// Reports how many keys may be held.
     fn may_hold(&self, keys: u32);
 
-    /// Reports that a request was carried out: its key, if it has one, and its reply.
-    fn carried_out(&self, key: Option<Key>, reply: Reply);
+    /// Reports how much of the journal has records.
+    fn uses(&self, journal: JournalUse);
+
+    /// Reports that a request was carried out: what it asked of which log, unless it was a goodbye,
+    /// and its reply.
+    fn carried_out(&self, asked: Option<(RequestKind, Key)>, reply: Reply);
 }
 
 impl<H: Watch> Observer for &H {
@@ -16,7 +22,11 @@ impl<H: Watch> Observer for &H {
         (*self).may_hold(keys);
     }
 
-    fn carried_out(&self, key: Option<Key>, reply: Reply) {
-        (*self).carried_out(key, reply);
+    fn uses(&self, journal: JournalUse) {
+        (*self).uses(journal);
+    }
+
+    fn carried_out(&self, asked: Option<(RequestKind, Key)>, reply: Reply) {
+        (*self).carried_out(asked, reply);
     }
 }

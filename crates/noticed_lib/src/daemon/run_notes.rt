@@ -20,7 +20,7 @@ use crate::daemon::watched_keeper::Watched;
 use dsn_book::{Book, RuledBook};
 use dsn_crew::{Account, AgentLine};
 use dsn_device::{Drain, UntilFailure};
-use dsn_journal::{CountedOutbox, MarkCount, MarkedOutbox, Replaceable};
+use dsn_journal::{MarkCount, Replaceable};
 use dsn_ledger::KeptBook;
 use dsn_notes::{status_of, write_last_lines};
 use dsn_outcome::Letters;
@@ -34,7 +34,7 @@ pub(crate) fn write_account<W: Drop, O: Observer + Drop, N: Drain>(
     notes: &mut N,
 ) -> ServeEnd<W>
     ensures { (history : List Exchange) → Represents (book_of account.book) history
-        → WritesAccount N.Drain history account account.outbox notes.old notes.new result }
+        → WritesAccount N.Drain history account notes.old notes.new result }
 {
     let Account {
         agents,
@@ -49,30 +49,24 @@ pub(crate) fn write_account<W: Drop, O: Observer + Drop, N: Drain>(
     ServeEnd { outbox, status }
 }
 
-/// Writes the same of a run over a journal, whose outbox marked its letters. Then the journal forgets
-/// the closed keys, as a run without a journal does when it ends. If it can't, they stay closed, and
-/// nothing is lost: so no note says so.
+/// Writes the same of a run over a journal. Then the journal forgets the closed keys, as a run
+/// without a journal does when it ends. If it can't, they stay closed, and nothing is lost: so no
+/// note says so. Returns the run's end, and the journal's disk.
 ///
 /// At each moment a crash leaves the history of the journal's ledger, with the first of the requests
 /// that release the keys. Requires that the ledger awaits no request.
 pub(crate) fn write_kept_account<
-    W: Drop,
+    L: Drop,
     D: Replaceable + Drop,
-    M: Replaceable + Drop,
     C: MarkCount + Drop,
     O: Observer + Drop,
     N: Drain,
->(
-    alloc: Global,
-    account: Account<CountedOutbox<MarkedOutbox<W, M>, C>, Watched<KeptBook<D, C>, O>>,
-    notes: &mut N,
-) -> JournaledEnd<W, D, M>
+>(alloc: Global, account: Account<L, Watched<KeptBook<D, C>, O>>, notes: &mut N) -> (ServeEnd<L>, D)
     requires none { account.book.settled ≡ true → AwaitsRequests D.Disk account.book [] }
     ensures notes { (history : List Exchange) → Represents account.book.book.book history
-        → WritesAccount N.Drain history account account.outbox.outbox notes.old notes.new
-        result.end }
-    ensures crash { IsForgottenIn D.Disk account.book result.journal }
-    ensures marks { result.marks ≡ account.outbox.marks.journal.disk }
+        → WritesAccount N.Drain history account notes.old notes.new result.0 }
+    ensures outbox { result.0.outbox ≡ account.outbox }
+    ensures crash { IsForgottenIn D.Disk account.book result.1 }
 {
     let Account {
         agents,
@@ -94,12 +88,7 @@ pub(crate) fn write_kept_account<
     // Only at a clean end, when no request is in hand. After a crash a client asks again, and a key
     // that was forgotten would make a second notice.
     drop(ledger.forget_closed(alloc));
-    let (outbox, marks) = outbox.into_outbox().into_parts();
-    JournaledEnd {
-        end: ServeEnd { outbox, status },
-        journal: ledger.into_disk(),
-        marks: marks.into_disk(),
-    }
+    (ServeEnd { outbox, status }, ledger.into_disk())
 }
 
 /// Writes what each of these agents did, whether the outbox is whole, these letters, and the logs

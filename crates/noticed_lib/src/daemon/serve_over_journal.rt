@@ -1,43 +1,53 @@
-//! The run of the daemon over a journal.
-ghost use Rattle.std.specs.Prelude.{◌≡◌, true, All, IfSome, is_some};
-ghost use Rattle.noticed_lib.specs.daemon.Journaled.{IsRunOver, IsServeOver};
-ghost use Rattle.noticed_lib.specs.inner.Daemon.{MayRunOver};
+//! The run of the daemon over a journal, whose letters are written to an outbox.
+ghost use Rattle.std.specs.Prelude.{◌≡◌, ◌+◌, ◌^◌, ◌<◌, ℕ, List, [], All, IfErr, IfOk};
+ghost use Rattle.dsn_outcome.specs.History.{Exchange};
+ghost use Rattle.dsn_outcome.specs.Letter.{Letter};
+ghost use Rattle.dsn_crew.specs.KeeperHistory.{BeginsWith};
+ghost use Rattle.dsn_crew.specs.post.Outlet.{outbox_outlet};
+ghost use Rattle.dsn_ledger.specs.KeptBook.{ledger_keeper};
+ghost use Rattle.dsn_report.specs.Outgoing.{Delivered};
+ghost use Rattle.noticed_lib.specs.daemon.Journaled.{IsLedgerBegun, IsNoStart, IsPostedFirst, IsRunOver, IsServeOver, LeavesStart};
 
 use crate::daemon::journal_folder::JournalFolder;
-use crate::daemon::journal_start::{JournalStart, start_over};
+use crate::daemon::journal_run::run_over;
+use crate::daemon::journal_start::{JournalStart, NotStarted, begin_ledger, hand_first};
 use crate::daemon::journaled_end::JournaledEnd;
 use crate::daemon::observer::Observer;
-use crate::daemon::run_notes::{write_fault, write_kept_account, write_not_started};
+use crate::daemon::run_notes::write_not_started;
+use crate::daemon::serve_end::ServeEnd;
 use crate::daemon::watch::Watch;
-use crate::daemon::watched_keeper::Watched;
 use dsn_book::Limits;
-use dsn_crew::{CrewFault, Gate, Port, run_crew_over};
+use dsn_crew::{Gate, Port};
 use dsn_device::Drain;
-use dsn_journal::{MarkCount, Replaceable, SharedMarkCount};
-use dsn_ledger::KeptBook;
-use dsn_report::Site;
+use dsn_journal::{CountedOutbox, MarkCount, MarkedOutbox, Replaceable, SharedMarkCount};
+use dsn_ledger::{Opened, ledgers_have_one_history};
+use dsn_report::{Outgoing, Site};
+use dsn_text::fault_code;
 use std::alloc::Global;
 use std::sync::Wait;
 use std::thread::Threads;
 use std::time::Clock;
 
-/// Serves these ports as `serve_ports` does, over a journal: each request is
-/// kept on its disk before it is carried out and answered, and each letter is marked once its notice
-/// was written to `outbox` and flushed. It begins with what the disk holds: the open logs and the
-/// closed keys, and the letters that no mark counts, which are posted first.
+/// An outbox that marks its letters, and reports to a count how many are marked.
+type CountedMarks<W, M, C> = CountedOutbox<MarkedOutbox<W, M>, C>;
+
+/// Serves these ports as `serve_ports` does, over a journal. Each request is kept on its disk
+/// before it is carried out and answered. Each letter is marked once its notice was written to
+/// `outbox` and flushed. The run begins with what the disk holds: the open logs and the closed
+/// keys, and the letters that no mark counts, which are posted first.
 ///
 /// A journal that gets full is replaced by a shorter one within the run, once all letters that were
-/// sealed are marked; the run waits some seconds for that. The watch hears of the keys that are held
-/// at the start, and of each request that was carried out.
+/// sealed are marked; the run waits some seconds for that. The watch hears of the keys that are
+/// held at the start, and of each request that was carried out.
 ///
 /// Beside what `serve_ports` notes, it notes the number of a fault if a request was not kept (45),
-/// which ends the run. A run does not begin if a disk can't be opened (9, 71 to 77), or if one of the
-/// first letters could not be written or marked (31).
+/// which ends the run. A run does not begin if a disk can't be opened (9, 71 to 77), or if one of
+/// the first letters could not be written or marked (31).
 ///
-/// At each moment a crash leaves a journal that a later start begins with the history from before
-/// this run, and the first of the requests that were taken, and no other. Each request is among them
-/// before its answer is sent. Of the marks a crash leaves, once they are opened, a count of the first
-/// letters, all of which are written to `outbox` and flushed by the end of the run.
+/// At each moment a crash leaves a journal that a later start begins with. Its history is that from
+/// before this run, then a prefix of the requests that were taken, and no other. Each request is in
+/// that prefix before its answer is sent. The marks that a crash leaves, once opened, count the
+/// first letters, all of which are written to `outbox` and flushed by the end of the run.
 pub(crate) fn serve_ports_over<
     R: Threads + Wait + Clock + Sync,
     P: Port + Drop + Send,
@@ -68,67 +78,128 @@ pub(crate) fn serve_ports_over<
 {
     let count = SharedMarkCount::new(rt);
     match start_over(alloc, site, limits, releases, outbox, folder, &count, watch) {
-        Ok(start) => run_over(rt, alloc, start, ports, gate, watch, notes),
+        Ok(start) => {
+            let (end, journal) = run_outbox(rt, alloc, start, ports, gate, watch, notes);
+            JournaledEnd::of(end, journal)
+        }
         Err(not) => write_not_started(alloc, not, notes),
     }
 }
 
-/// Serves these ports over what was begun.
-fn run_over<
+/// Serves these ports over what was begun, and writes the letters to this outbox.
+// A poster may be sent to a thread if its outbox may be, which is a bound here.
+fn run_outbox<
     R: Threads + Wait + Sync,
     P: Port + Drop + Send,
     W: Drain + Drop + Send,
     D: Replaceable + Drop,
-    M: Replaceable + Drop + Send,
     C: MarkCount + Drop + Send,
     G: Gate + Sync,
-    O: Observer + Drop,
+    V: Observer + Drop,
     N: Drain,
 >(
     rt: &R,
     alloc: Global,
-    start: JournalStart<W, D, M, C>,
+    start: JournalStart<Outgoing<W>, D, C>,
     ports: Vec<P>,
     gate: &G,
-    observer: O,
+    observer: V,
     notes: &mut N,
-) -> JournaledEnd<W, D, M>
+) -> (ServeEnd<W>, D)
     requires asked { All P.may_be_asked ports.items }
-    requires start { MayRunOver D.Disk M.Disk W.Drain start.keeper start.outgoing }
-    ensures { IsRunOver D.Disk M.Disk C.may_reach P.Port W.Drain N.Drain ports.items start.keeper
-        start.outgoing notes.old notes.new result.end result.journal result.marks }
+    requires few { start.keeper.base + start.keeper.book.book.sealed < 2 ^ 63 }
+    requires begins { (before : List Exchange)
+        × BeginsWith (ledger_keeper D.Disk) start.keeper before }
+    requires posted { (host : List ℕ) × (from : W) × (first : List Letter)
+        × Delivered W.Drain host from start.outlet first }
+    requires all_sent { start.outlet.unsent ≡ [] }
+    ensures { IsRunOver D.Disk C.may_reach P.Port (outbox_outlet W.Drain) N.Drain ports.items
+        start.keeper start.outlet notes.old notes.new result.0 result.1 }
 {
-    let JournalStart { outgoing, keeper } = start;
-    let keeper = Watched::new(keeper, observer);
-    match run_crew_over(rt, alloc, keeper, ports, outgoing, gate) {
-        Ok(account) => write_kept_account(alloc, account, notes),
-        Err(fault) => {
-            let CrewFault {
-                cause,
+    run_over(rt, alloc, start, ports, gate, observer, notes)
+}
+
+/// Opens a folder, posts the letters of earlier runs that no mark counts, and begins the ledger. The
+/// count is notified of the mark, and of each letter that is marked then and in the run, the watch of
+/// the keys that are held then.
+///
+/// The numbers are those of [`JournalFolder::open`]; then 31 if the outbox fails, or a letter could
+/// not be marked; then those of [`begin_ledger`].
+fn start_over<
+    W: Drain + Drop + Send,
+    D: Replaceable + Drop,
+    M: Replaceable + Drop + Send,
+    C: MarkCount + Copy + Send,
+    H: Watch,
+>(
+    alloc: Global,
+    site: Site,
+    limits: Limits,
+    releases: bool,
+    outbox: W,
+    folder: JournalFolder<D, M>,
+    count: C,
+    watch: &H,
+) -> Result<JournalStart<Outgoing<CountedMarks<W, M, C>>, D, C>, NotStarted<W, D, M>>
+    ensures begun { IfOk result
+        (λ start. IsLedgerBegun D.Disk limits folder.journal start.keeper) }
+    ensures rule { IfOk result (λ start. start.keeper.releases ≡ releases) }
+    ensures first { IfOk result (λ start. IsPostedFirst D.Disk M.Disk W.Drain site limits
+        folder.journal folder.marks outbox start.outlet) }
+    ensures all_sent { IfOk result (λ start. start.outlet.unsent ≡ []) }
+    ensures fault { IfErr result (λ not. IsNoStart D.Disk M.Disk W.Drain site limits
+        folder.journal not.journal folder.marks not.marks outbox not.outbox not.code) }
+    ensures crash { IfErr result (λ not. LeavesStart D.Disk limits folder.journal not.journal) }
+{
+    let (marks, opened) = match folder.open(alloc, limits) {
+        Ok(opened) => opened,
+        Err(not) => {
+            return Err(NotStarted {
+                code: not.code,
                 outbox,
-                unsent,
-                book,
-                ..
-            } = fault;
-            let (outbox, marks) = outbox.into_outbox().into_parts();
-            JournaledEnd {
-                end: write_fault(alloc, cause.code(), outbox, unsent, notes),
-                journal: disk_of(book),
-                marks: marks.into_disk(),
-            }
+                journal: not.left.journal,
+                marks: not.left.marks,
+            });
         }
+    };
+    ledgers_have_one_history();
+    count.note(marks.mark());
+    let Opened { ledger, letters } = opened;
+    let outbox = CountedOutbox::new(MarkedOutbox::new(alloc, outbox, marks), count);
+    let outgoing = hand_first(Outgoing::new(site, outbox), letters);
+    // Before a client is served: else a daemon whose outbox fails would go on taking requests whose
+    // notices nobody gets, over all its starts.
+    if outgoing.has_failed() {
+        return Err(NotStarted::after(fault_code::OUTBOX_WRITE, outgoing, ledger.into_disk()));
+    }
+    // No letter waits any more.
+    match begin_ledger(alloc, ledger, &[], limits, releases, count, watch) {
+        Ok(keeper) => Ok(JournalStart {
+            outlet: outgoing,
+            keeper,
+        }),
+        Err(not) => Err(NotStarted::after(not.code, outgoing, not.left)),
     }
 }
 
-/// The disk of what kept a run's requests. Requires that it was returned.
-fn disk_of<D: Replaceable + Drop, C: MarkCount + Drop, O: Drop>(
-    book: Option<Watched<KeptBook<D, C>, O>>,
-) -> D
-    requires { is_some book ≡ true }
-    ensures { IfSome book (λ left. result ≡ left.journal.disk) }
-{
-    match book {
-        Some(book) => book.into_keeper().into_ledger().into_disk(),
-        None => unreachable!(),
+impl<W: Drain, D, M: Replaceable + Drop> NotStarted<W, D, M> {
+    /// The fault with this number, after letters were posted or not.
+    fn after<C: MarkCount + Drop>(
+        code: u32,
+        outgoing: Outgoing<CountedMarks<W, M, C>>,
+        journal: D,
+    ) -> NotStarted<W, D, M>
+        ensures code { result.code ≡ code }
+        ensures outbox { result.outbox ≡ outgoing.poster.outbox.outbox }
+        ensures journal { result.journal ≡ journal }
+        ensures marks { result.marks ≡ outgoing.poster.outbox.marks.journal.disk }
+    {
+        let (outbox, marks) = outgoing.into_outbox().into_outbox().into_parts();
+        NotStarted {
+            code,
+            outbox,
+            journal,
+            marks: marks.into_disk(),
+        }
     }
 }

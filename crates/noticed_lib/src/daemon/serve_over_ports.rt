@@ -21,13 +21,15 @@ use std::thread::Threads;
 /// The largest number of ports.
 const MOST_PORTS: usize = 16;
 
-/// Serves these ports by a crew, as [`run_crew_over`] does, which posts a notice of each sealed log to
-/// `outbox`. Closed keys make room for new ones if `releases` is true. Then it writes to `notes` what each agent did, and how the run ended: with a port that
-/// failed (61), with an outbox that failed (31), which letters were not written, and which logs are
-/// open, or that their list found no memory (9). If the crew ends with a fault (41, 42, 43) it writes
-/// the number and the letters alone. Nothing is written once a line could not be written. Requires
-/// that each port may be asked, which holds for every port that doesn't say when it can be. The observer
-/// hears of each request that was carried out.
+/// Serves these ports by a crew, as [`run_crew_over`] does, which posts a notice of each sealed log
+/// to `outbox`. Closed keys make room for new ones if `releases` is true. The observer hears of
+/// each request that was carried out. Requires that each port may be asked, which holds for every
+/// port that doesn't say when it can be.
+///
+/// Then it writes to `notes` what each agent did, and how the run ended: a port that failed (61),
+/// an outbox that failed (31), and which letters were not written. It also writes which logs are
+/// open, or that their list found no memory (9). If the crew ends with a fault (41, 42, 43) it
+/// writes the number and the letters alone. Nothing is written once a line could not be written.
 pub(crate) fn serve_ports<
     R: Threads + Wait + Sync,
     P: Port + Drop + Send,

@@ -4,6 +4,7 @@ ghost use Rattle.dsn_book.specs.Release.{releasing_none};
 ghost use Rattle.dsn_crew.specs.Crew.{most_ports};
 ghost use Rattle.noticed_lib.specs.daemon.Journaled.{IsSocketServeOver};
 ghost use Rattle.noticed_lib.specs.daemon.Serve.{IsSocketServe};
+ghost use Rattle.noticed_lib.specs.daemon.Submitting.{IsSocketServeToServer};
 ghost use Rattle.noticed_lib.specs.inner.Daemon.{HasNoPorts};
 
 use crate::daemon::journal_folder::JournalFolder;
@@ -14,16 +15,20 @@ use crate::daemon::run_notes::{write_fault, write_not_started};
 use crate::daemon::serve_end::ServeEnd;
 use crate::daemon::serve_over_journal::serve_ports_over;
 use crate::daemon::serve_over_ports::serve_ports;
+use crate::daemon::serve_to_server::{MailTerms, Submitted, serve_ports_to_server};
 use crate::daemon::serving::Serving;
 use crate::daemon::socket_port::SocketPort;
 use crate::daemon::watch::Watch;
 use crate::daemon::watch_gate::WatchGate;
 use dsn_book::Limits;
 use dsn_crew::CrewCause;
-use dsn_device::Drain;
+use dsn_device::{Drain, Stream};
+use dsn_hand_in::SitedLetter;
 use dsn_journal::Replaceable;
 use dsn_outcome::Letters;
 use dsn_report::Site;
+use dsn_smtp::Connect;
+use dsn_submission::RefusedLetters;
 use std::alloc::Global;
 use std::os::unix::net::UnixListener;
 use std::sync::Wait;
@@ -142,6 +147,62 @@ pub fn serve_journaled<
                 marks: folder.marks,
             };
             write_not_started(alloc, not, notes)
+        }
+    }
+}
+
+/// Serves as [`serve_journaled`] does, but submits the letters to a mail server, as
+/// `serve_ports_to_server` has it. Returns what is left of a run that began; otherwise the terms and
+/// both disks, and nothing was submitted.
+pub fn serve_submitting<
+    's,
+    R: Threads + Wait + Clock + Sync,
+    H: Watch + Sync,
+    S: Stream + Drop + Send,
+    C: Connect<S> + Drop + Send,
+    K: RefusedLetters + Drop + Send,
+    D: Replaceable + Drop,
+    M: Replaceable + Drop + Send,
+    N: Drain,
+>(
+    rt: &R,
+    alloc: Global,
+    listener: &UnixListener,
+    watch: &H,
+    serving: &'s Serving,
+    terms: MailTerms<C, K>,
+    folder: JournalFolder<D, M>,
+    notes: &mut N,
+) -> Result<Submitted<'s, S, C, K, D, M>, JournaledEnd<MailTerms<C, K>, D, M>>
+    ensures { IsSocketServeToServer D.Disk M.Disk S.Source S.Drain C.gives K.keeps N.Drain
+        (H.may_end watch.now) serving.now folder.journal folder.marks terms notes.old notes.new
+        result }
+{
+    match socket_ports(alloc, listener, watch, serving.agents, serving.max_use) {
+        Ok(ports) => {
+            let gate = WatchGate { watch };
+            serve_ports_to_server(
+                rt,
+                alloc,
+                &serving.site,
+                serving.limits,
+                serving.releases,
+                ports,
+                terms,
+                folder,
+                &gate,
+                watch,
+                notes,
+            )
+        }
+        Err(cause) => {
+            let not = NotStarted {
+                code: cause.code(),
+                outbox: terms,
+                journal: folder.journal,
+                marks: folder.marks,
+            };
+            Err(write_not_started(alloc, not, notes))
         }
     }
 }

@@ -13,9 +13,11 @@ use std::io::ErrorKind;
 use std::os::unix::net::{UnixListener, UnixStream};
 
 /// A port that accepts connections on a listening socket, up to a number of them, or until its
-/// watch finds that the run is to end. If the watch looks up, it does so each second without a client.
-/// It exposes to contracts how much comes, and nothing of what comes: each call takes one of its uses,
-/// and it is done exactly with none left, or if its watch ends the run.
+/// watch finds that the run is to end. If the watch looks up, it does so each second without a
+/// client.
+///
+/// The port exposes to contracts how much comes, and nothing of what comes. Each call takes one of
+/// its uses, and it is done exactly with none left, or if its watch ends the run.
 #[derive(Drop)]
 pub(crate) struct SocketPort<'a, H> {
     pub(crate) listener: &'a UnixListener,

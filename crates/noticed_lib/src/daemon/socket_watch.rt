@@ -2,11 +2,14 @@
 //! The kit handles no signal, and a request that stops a daemon could be asked by whoever may log
 //! an outcome. Who may remove a file owns its folder.
 use crate::daemon::board::Board;
+use crate::daemon::journal_use::JournalUse;
+use crate::daemon::request_counts::RequestKind;
 use crate::daemon::service_manager::ServiceManager;
 use crate::daemon::severity::{Severity, is_journal_stream};
 use crate::daemon::status_text::{RunCounts, status_text};
 use crate::daemon::watch::{TICK, Watch};
 use dsn_outcome::{Key, Reply};
+use dsn_submission::Verdict;
 use dsn_text::{fault_code, fault_words};
 use std::alloc::{AllocError, AllocGlobal, Global};
 use std::fs::Files;
@@ -134,8 +137,8 @@ impl<R: Files + Eprint + Clock> SocketWatch<'_, R> {
         }
     }
 
-    /// The lines of the run's status, each a name, a space and a value (docs/FORMATS.md, "The status
-    /// of a daemon"). Returns an error if there is no memory for them.
+    /// The lines of the run's status, each a name, a space and a value (noticed-serve(8)). Returns
+    /// an error if there is no memory for them.
     pub fn status(&self, alloc: Global) -> Result<String, AllocError> {
         let run = RunCounts {
             agents: self.options.agents,
@@ -143,6 +146,15 @@ impl<R: Files + Eprint + Clock> SocketWatch<'_, R> {
             uptime: self.elapsed().as_secs(),
         };
         status_text(alloc, &self.board, run)
+    }
+
+    /// Logs how many notices wait for the mail server, if any do.
+    pub fn log_waiting(&self) {
+        let waiting = self.board.submissions.waiting();
+        if waiting > 0 && self.options.logs {
+            let prefix = self.prefix(Severity::Info);
+            let _ = eprintln!(self.rt; "{prefix}notices waiting for the mail server: {waiting}");
+        }
     }
 
     /// Logs how many keys are in use, if a line is due `now` seconds after the watch was made.
@@ -234,7 +246,7 @@ impl<R: Files + Eprint + Clock> SocketWatch<'_, R> {
     }
 }
 
-/// The device and the inode of the file at this path; those of no file if there is none.
+/// The device and the inode of the file at this path; `NO_FILE` if there is no file.
 fn identity_at<R: Files>(rt: &R, path: &str) -> io::Result<(u64, u64)> {
     match fs::symlink_metadata(rt, path) {
         Ok(file) => Ok((file.dev(), file.ino())),
@@ -351,11 +363,16 @@ impl<R: Files + Eprint + Clock> Watch for SocketWatch<'_, R> {
         self.board.holds(key, outcomes, now);
     }
 
-    fn carried_out(&self, key: Option<Key>, reply: Reply) {
+    fn uses(&self, journal: JournalUse) {
+        self.board.uses(journal);
+    }
+
+    fn carried_out(&self, asked: Option<(RequestKind, Key)>, reply: Reply) {
         let change = self.board.answered(reply);
-        let Some(key) = key else {
+        let Some((kind, key)) = asked else {
             return;
         };
+        self.board.requests.count(kind);
         let now = if change.takes_a_key() {
             self.elapsed().as_secs()
         } else {
@@ -371,6 +388,31 @@ impl<R: Files + Eprint + Clock> Watch for SocketWatch<'_, R> {
         self.board.written();
         if !line.is_empty() {
             self.log(line);
+        }
+    }
+
+    fn notices_wait(&self, notices: usize) {
+        self.board.submissions.wait(notices);
+    }
+
+    fn notice_submitted(&self, line: &str, verdict: Verdict, reply: &str) {
+        self.board.submissions.count(verdict);
+        if self.options.logs {
+            let (severity, became) = match verdict {
+                Verdict::Accepted => (Severity::Info, "accepted"),
+                Verdict::RefusedForGood => (Severity::Warning, "refused"),
+                Verdict::PutOff => (Severity::Info, "put off"),
+                Verdict::ServerAway => (Severity::Warning, "not taken now"),
+            };
+            let _ = eprintln!(self.rt; "{}{line} {became}: {reply}", self.prefix(severity));
+        }
+    }
+
+    fn submission_stopped(&self, why: &str) {
+        self.board.refused(fault_code::JOURNAL_FAILED);
+        self.note(Severity::Error, why);
+        if self.options.ends_on_fault {
+            self.end("ending: notices wait that are submitted after the next start");
         }
     }
 

@@ -1,5 +1,5 @@
 //! The text of a run's status.
-//! docs/FORMATS.md, "The status of a daemon", has its lines.
+//! noticed-serve(8), has its lines.
 use crate::daemon::board::Board;
 use crate::daemon::open_logs::OpenLog;
 use dsn_text::fault_words;
@@ -32,8 +32,13 @@ pub(crate) fn status_text(
     add(&mut text, "keys_open", u64::from(keys.open))?;
     add(&mut text, "keys_closed", u64::from(keys.closed))?;
     add(&mut text, "keys_released", keys.released)?;
+    add_all(&mut text, &board.requests.named())?;
     add_all(&mut text, &board.answers.named())?;
     add_all(&mut text, &board.events())?;
+    if board.journal_size() > 0 {
+        add(&mut text, "journal_used", board.journal_used())?;
+        add(&mut text, "journal_size", board.journal_size())?;
+    }
     add_fault(&mut text, board)?;
     add_open_logs(&mut text, board.open_logs(alloc), run.uptime)?;
     Ok(text)

@@ -1,7 +1,10 @@
 //! What looks after a run of the daemon over a socket.
 ghost use Rattle.std.specs.Prelude.{◌≡◌, true};
 
+use crate::daemon::journal_use::JournalUse;
+use crate::daemon::request_counts::RequestKind;
 use dsn_outcome::{Key, Reply};
+use dsn_submission::Verdict;
 use std::io;
 use std::time::Duration;
 
@@ -71,12 +74,26 @@ pub trait Watch {
     /// Reports a key that is held as the run begins, with its number of outcomes if its log is open.
     fn holds(&self, key: Key, outcomes: Option<u32>);
 
-    /// Reports that a request was carried out: its key, if it has one, and its reply.
-    fn carried_out(&self, key: Option<Key>, reply: Reply);
+    /// Reports how much of the journal's file has records.
+    fn uses(&self, journal: JournalUse);
+
+    /// Reports that a request was carried out: what it asked of which log, unless it was a goodbye,
+    /// and its reply.
+    fn carried_out(&self, asked: Option<(RequestKind, Key)>, reply: Reply);
 
     /// Reports that a notice was written and flushed, with the line for it, if lines are wanted and
     /// it has one.
     fn notice_written(&self, line: &str);
+
+    /// Reports that a notice was submitted to the mail server: the line for it, if lines are
+    /// wanted, the verdict, and the server's reply.
+    fn notice_submitted(&self, line: &str, verdict: Verdict, reply: &str);
+
+    /// Reports how many notices wait for the mail server now.
+    fn notices_wait(&self, notices: usize);
+
+    /// Reports that some notices aren't submitted before the next start, and why.
+    fn submission_stopped(&self, why: &str);
 
     /// Reports, once, that the outbox could not be written or flushed.
     fn outbox_failed(&self, error: &io::Error);

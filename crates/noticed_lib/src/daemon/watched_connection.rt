@@ -133,9 +133,9 @@ impl<'a, H: Watch> WatchedConnection<'a, H> {
         true
     }
 
-    /// Whether a read or a write goes on after a call: it ended since its second was over, and the
-    /// client has more of them, or the input ends here; or since the process was stopped for a
-    /// while, which ends each call that has a time limit.
+    /// Whether a read or a write goes on after a call. It does if the call ended since its second
+    /// was over, and the client has more of them, or the input ends here. It also does if the call
+    /// ended since the process was stopped for a while, which ends each call that has a time limit.
     fn goes_on<T>(&mut self, called: &io::Result<T>) -> bool {
         let Err(error) = called else {
             return false;

@@ -3,7 +3,9 @@
 //! that it does reaches a history.
 ghost use Rattle.std.specs.Prelude.{◌≡◌};
 
+use crate::daemon::journal_use::HasJournal;
 use crate::daemon::observer::Observer;
+use crate::daemon::request_counts::RequestKind;
 use crate::daemon::watch::Watch;
 use dsn_book::{Entry, Keeper, Limits, NotKept, Step};
 use dsn_outcome::Request;
@@ -37,17 +39,27 @@ impl<K, O> Watched<K, O> {
     }
 }
 
-impl<K: Keeper, O: Observer> Watched<K, O> {
-    /// The keeper under this observer, which gets its limit of keys.
+impl<K: Keeper + HasJournal, O: Observer> Watched<K, O> {
+    /// The keeper under this observer, which gets its limit of keys, and how much of its journal has
+    /// records.
     pub(crate) fn new(keeper: K, observer: O) -> Watched<K, O>
         ensures { result ≡ keeper }
     {
         observer.may_hold(keeper.limits().logs());
-        Watched { keeper, observer }
+        let watched = Watched { keeper, observer };
+        watched.report_use();
+        watched
+    }
+
+    /// Reports how much of the journal has records, if there is one.
+    fn report_use(&self) {
+        if let Some(journal) = self.keeper.journal_use() {
+            self.observer.uses(journal);
+        }
     }
 }
 
-impl<K: Keeper, O: Observer> Keeper for Watched<K, O> {
+impl<K: Keeper + HasJournal, O: Observer> Keeper for Watched<K, O> {
     ghost rules = { λ w. K.rules w };
 
     ghost has = { λ w. K.has w };
@@ -69,13 +81,15 @@ impl<K: Keeper, O: Observer> Keeper for Watched<K, O> {
     }
 
     fn keep(&mut self, requests: &[Request]) -> Result<(), NotKept> {
-        self.keeper.keep(requests)
+        let kept = self.keeper.keep(requests);
+        self.report_use();
+        kept
     }
 
     fn apply(&mut self, request: Request) -> Step {
-        let key = request.body.key();
+        let asked = RequestKind::of(&request.body).zip(request.body.key());
         let step = self.keeper.apply(request);
-        self.observer.carried_out(key, step.answer.reply);
+        self.observer.carried_out(asked, step.answer.reply);
         step
     }
 }

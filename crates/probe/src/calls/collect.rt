@@ -94,8 +94,8 @@ fn post_all(poster: Poster<Plain<Vec<u8>>>, letters: Letters) -> Option<u32> {
     None
 }
 
-/// Whether a collector runs to its end. (A fault is dropped by its letter: a fault as a whole takes long
-/// to prove.)
+/// Whether a collector runs to its end. A fault is dropped by its letter, since a proof about a
+/// whole fault takes long.
 fn runs(rt: &impl Wait, desk: &mut Desk, kept: &mut Kept) -> bool {
     match desk.run(rt, kept) {
         Ok(()) => true,
@@ -106,8 +106,8 @@ fn runs(rt: &impl Wait, desk: &mut Desk, kept: &mut Kept) -> bool {
     }
 }
 
-/// A collector answers an append and a flush of two logs each, and its two letters are posted: 0
-/// where all of this succeeds.
+/// A collector answers an append and a flush of two logs each, and its two letters are posted.
+/// Returns 0 if all of this succeeds.
 pub(crate) fn collect(rt: &(impl Print + Wait), alloc: Global) -> Option<u32> {
     let (heard, mut desk) = asked(rt, alloc)?;
     let site = Site::new(alloc, b"mx.example.net").ok()?;

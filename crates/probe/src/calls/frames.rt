@@ -50,7 +50,7 @@ pub(crate) fn decode(rt: &impl Print, alloc: Global, body: &[u8]) -> Option<u32>
     }
 }
 
-/// Encodes the request that a body stands for.
+/// Encodes the request that this body encodes.
 pub(crate) fn encode(rt: &impl Print, alloc: Global, body: &[u8]) -> Option<u32> {
     let (number, body) = decode_request(alloc, body).ok()?;
     begin(rt)?;

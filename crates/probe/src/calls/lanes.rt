@@ -19,7 +19,11 @@ pub(crate) fn lane(rt: &(impl Print + Wait), alloc: Global) -> Option<u32> {
 /// The lane on which letters go to the outbox.
 pub(crate) fn post(rt: &(impl Print + Wait), alloc: Global) -> Option<u32> {
     begin(rt)?;
-    Some(if open_post(rt, alloc).is_ok() { 0 } else { 9 })
+    Some(if open_post(rt, alloc, 16).is_ok() {
+        0
+    } else {
+        9
+    })
 }
 
 /// A crew of three agents.

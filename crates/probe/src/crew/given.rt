@@ -46,8 +46,8 @@ impl<R: Print> OpaqueStream for Given<'_, R> {
     ghost untold_output = { λ _. refl };
 }
 
-/// A port that gives connections, each announced on standard output by four bytes, `conn`. What
-/// each peer sends stands in one text, a length in four bytes before each.
+/// A port that gives connections, each announced on standard output by four bytes, `conn`. One text
+/// holds what each peer sends, with a length in four bytes before each.
 #[derive(Drop)]
 pub(crate) struct GivenPort<'a, R> {
     pub(crate) rt: &'a R,

@@ -6,7 +6,7 @@ use dsn_device::OpaqueStream;
 use std::io;
 use std::io::{Read, Write};
 
-/// An outbox in memory. No contract tells its bytes.
+/// An outbox in memory. It exposes no bytes to contracts.
 #[derive(Drop)]
 pub(crate) struct Outbox<'a> {
     pub(crate) text: Vec<u8>,

@@ -16,7 +16,7 @@ const APPEND: &[u8; SIZE] =
 const FLUSH: &[u8; SIZE] =
     b"\0\0\0\x30\x01\x02\0\0\0\0\x01\0\x06A1B2C3\0\0\0\0\x65\x53\xf1\0\0\0\0\0\x65\x53\xe2\xf0\0\x0bann@example\0\0\0\0";
 
-/// A connection in memory. No contract tells its bytes.
+/// A connection in memory. It exposes no bytes to contracts.
 #[derive(Drop)]
 pub(crate) struct Peer {
     /// The first letter of the log's queue id.
@@ -33,8 +33,8 @@ pub(crate) struct Peer {
 }
 
 impl Peer {
-    /// A connection that asks for so many appends to the log of this agent, and then, of agent 0,
-    /// for a flush.
+    /// A connection that asks for `appends` appends to the log of this agent. That of agent 0 then
+    /// asks for a flush.
     pub(crate) fn new(agent: u32, appends: u32) -> Peer {
         Peer {
             log: b'A'.wrapping_add((agent % 26) as u8),

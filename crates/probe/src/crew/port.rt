@@ -5,14 +5,14 @@ use crate::crew::peer::Peer;
 use dsn_crew::{Next, Port};
 use dsn_device::Plain;
 
-/// A port with one connection in memory. It doesn't tell it.
+/// A port with one connection in memory, which it doesn't expose to contracts.
 #[derive(Drop)]
 pub(crate) struct PeerPort {
     peer: Option<Peer>,
 }
 
 impl PeerPort {
-    /// A port with a connection that asks for so many appends, and of agent 0 for a flush.
+    /// A port with a connection that asks for `appends` appends, and for agent 0 also for a flush.
     pub(crate) fn new(agent: u32, appends: u32) -> PeerPort {
         PeerPort {
             peer: Some(Peer::new(agent, appends)),

@@ -1,4 +1,4 @@
-//! What came of a run, on standard output.
+//! The result of a run, on standard output.
 use crate::crew::outbox::Outbox;
 use dsn_crew::{Account, AgentLine, CrewFault};
 use dsn_device::Plain;

@@ -22,8 +22,8 @@ impl<'a> Asking<'a> {
         }
     }
 
-    /// The next requests, so many at most; none where the frames are no requests in their turn, or
-    /// memory was refused.
+    /// The next requests, `most` at most. Returns `None` if a frame is no request in its turn, or
+    /// if memory was refused.
     pub(crate) fn next_group(&mut self, alloc: Global, most: u32) -> Option<Vec<Request>> {
         let mut group = Vec::new(alloc);
         for _ in 0..most {

@@ -2,7 +2,7 @@
 
 use dsn_book::Step;
 use dsn_journal::{JournalError, Replaceable};
-use dsn_ledger::{KeepError, Ledger, ledgers_have_one_history};
+use dsn_ledger::{KeepError, Ledger};
 use dsn_outcome::Request;
 use std::alloc::Global;
 use std::marker::Model;
@@ -24,7 +24,7 @@ impl<D: Replaceable> Model for Taking<D> {
     ghost invariant = { λ t. t.ledger.settled ≡ true → AwaitsRequests D.Disk t.ledger [] };
 }
 
-/// What came of a group.
+/// The result of a group.
 #[derive(Drop)]
 pub(crate) enum Came<D: Replaceable> {
     /// It was kept: the ledger goes on, and these are its steps.
@@ -36,7 +36,8 @@ pub(crate) enum Came<D: Replaceable> {
 }
 
 impl<D: Replaceable + Drop> Taking<D> {
-    /// Keeps a group, and carries it out; where there is no room, once more over a shorter journal.
+    /// Keeps a group, and carries it out. If there is no room, it tries once more over a shorter
+    /// journal.
     pub(crate) fn take(self, alloc: Global, mut group: Vec<Request>) -> Came<D> {
         match self.keep(alloc, &mut group) {
             Came::Full(full) => match full.shortened(alloc) {
@@ -61,16 +62,18 @@ impl<D: Replaceable + Drop> Taking<D> {
         }
     }
 
-    /// Puts the journal away for a shorter one. No step comes of it.
+    /// Replaces the journal by a shorter one. It makes no step.
     fn shortened(self, alloc: Global) -> Came<D> {
         let Taking { mut ledger } = self;
         if ledger.base() > 1 << 40 || ledger.book().sealed() > 1 << 40 {
             return Came::Ended(KeepError::Journal(JournalError::Memory));
         }
-        ledgers_have_one_history();
-        match ledger.compact(alloc, &[]) {
-            Ok(()) => Came::Kept(Taking { ledger }, Vec::new(alloc)),
-            Err(KeepError::Journal(JournalError::Full)) => Came::Full(Taking { ledger }),
+        let all = ledger.base() + ledger.book().sealed();
+        match ledger.compact_all_marked(alloc, all) {
+            Ok(true) => Came::Kept(Taking { ledger }, Vec::new(alloc)),
+            Ok(false) | Err(KeepError::Journal(JournalError::Full)) => {
+                Came::Full(Taking { ledger })
+            }
             Err(error) => Came::Ended(error),
         }
     }

@@ -60,7 +60,7 @@ fn queue_line(rt: &HostRuntime, file: &[u8]) -> Option<String> {
     format!(in rt.alloc(); "{found} {ends} {named} {named_ends} {facts} {size} {header}").ok()
 }
 
-/// The line of each of many files, which stand one after another with a length before each.
+/// The line of each of many files, which follow one another with a length before each.
 pub(crate) fn counted(rt: &HostRuntime, service: Option<Service>, given: &[u8]) -> Option<Vec<u8>> {
     let mut rest = given;
     let mut lines = Vec::new(rt.alloc());

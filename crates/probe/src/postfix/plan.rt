@@ -13,13 +13,14 @@ use dsn_text::{QueueId, Service, Stamp};
 /// The sender of notices about notices.
 const DOUBLE_BOUNCE: &[u8] = b"double-bounce@mx.example.net";
 
-/// For how many seconds Postfix tries a delivery, unless it is told otherwise.
+/// For how many seconds Postfix tries a delivery by default.
 const LIFETIME: u32 = 432_000;
 
-/// How many bytes a message has at most that Postfix returns whole, unless it is told otherwise.
+/// How many bytes a message that Postfix returns whole has at most by default.
 const SIZE_LIMIT: u32 = 50_000;
 
-/// The bytes at the front that a length in four bytes stands before, and those after them.
+/// The first part of some bytes, behind its length in four bytes, and the bytes after it. Returns
+/// `None` if there are fewer.
 pub(crate) fn first_part(bytes: &[u8]) -> Option<(&[u8], &[u8])> {
     let [a, b, c, d, rest @ ..] = bytes else {
         return None;
@@ -54,7 +55,8 @@ fn push_part(text: &mut Vec<u8>, rt: &HostRuntime, name: &str, bytes: &[u8]) -> 
     text.push(b'\n').ok()
 }
 
-/// Writes a notice: its address, its kind, the records of which it tells, and what it gives back of the message.
+/// Writes a notice: its address, its kind, the records that it reports, and what it returns of the
+/// message.
 fn push_notice(
     text: &mut Vec<u8>,
     rt: &HostRuntime,

@@ -1,4 +1,4 @@
--- What came of the agents shows why the run was broken off.
+-- The agents' results show why the run was broken off.
 use Rattle.std.proofs.Common.{sym, subst}
 use Rattle.std.specs.Prelude.{Some, Err}
 use Rattle.dsn_crew.specs.inner.Breach.{IsShown}

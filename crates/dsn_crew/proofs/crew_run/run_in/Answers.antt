@@ -1,4 +1,4 @@
--- What the threads, the collector and the poster came to is put together.
+-- The results of the threads, the collector and the poster are put together.
 use Rattle.std.proofs.Common.{rules, ℕ, ap, sym, ◌∙◌, subst, arith}
 use Rattle.dsn_crew.specs.lane.Halves.{Identity}
 use Rattle.dsn_crew.specs.post.LetterSink.{LetterSink}
@@ -45,15 +45,12 @@ gather-gathered-requires-clause-finished g c =
     let fits = room.slots.finished.1 in
     (room.slots.finished.0, omega arith)
 
-pub end_posting-posted-requires : goal.end_posting-posted-requires
-end_posting-posted-requires g c =
+pub end_posting-posted-requires-clause-lane : goal.end_posting-posted-requires-clause-lane
+end_posting-posted-requires-clause-lane g c κs within =
     let room = c.in-Ok.ensures.room in
     let same = c.in-Ok-start_posting.ensures.sink in
     let lane = collected_lane g.B.Keeper g.P.Port c.args.book c.args.ports.items _ _ _ room.opened (search rules) _ c.start_all-handles.ensures _ c.join_all.ensures _ _ c.miss.ensures.missed _ _ (ap (λ (sink : LetterSink). sink.letters) same ∙ room.sink) c.requires.begins.0 _ (c.collect-collected.ensures c.requires.begins.0 (begins g.B.Keeper g.P.Port c.args.book c.args.ports.items _ _ _ room.opened (search rules) _ c.start_all-handles.ensures _ c.join_all.ensures _ _ c.miss.ensures.missed c.requires.begins.0 c.requires.begins.1)) in
-    record {
-      lane = ap (λ (posts : Posts g.row.W.Denot). posts.lane) c.in-Ok-start_posting.ensures.promise ∙ (ap (λ (sink : LetterSink). sink.lane) (sym same) ∙ sym lane);
-      all_sent = ap (λ (posts : Posts g.row.W.Denot). posts.begun.unsent) c.in-Ok-start_posting.ensures.promise ∙ c.requires.all_sent;
-    }
+    ap (λ (posts : Posts g.row.O.Denot). posts.lane) c.in-Ok-start_posting.ensures.promise ∙ (ap (λ (sink : LetterSink). sink.lane) (sym same) ∙ sym lane)
 
 pub conclude-requires : goal.conclude-requires
 conclude-requires g c =
@@ -67,10 +64,10 @@ returns-clause-run g c =
     let same = c.in-Ok-start_posting.ensures.sink in
     let fresh = ap (λ (sink : LetterSink). sink.letters) same ∙ room.sink in
     let lane = collected_lane g.B.Keeper g.P.Port c.args.book c.args.ports.items _ _ _ room.opened (search rules) _ c.start_all-handles.ensures _ c.join_all.ensures _ _ c.miss.ensures.missed _ _ fresh c.requires.begins.0 _ (c.collect-collected.ensures c.requires.begins.0 (begins g.B.Keeper g.P.Port c.args.book c.args.ports.items _ _ _ room.opened (search rules) _ c.start_all-handles.ensures _ c.join_all.ensures _ _ c.miss.ensures.missed c.requires.begins.0 c.requires.begins.1)) in
-    let waiting = ap (λ (it : Identity Parcel). it.capacity) (lane ∙ ap (λ (sink : LetterSink). sink.lane) same) ∙ room.waiting in
-    let posted = subst (λ (posts : Posts g.row.W.Denot). IsPosted g.W.Drain posts.begun c.collect-collected.new.sink.lane.capacity c.collect-collected.new.sink.letters c.end_posting-posted.result) c.in-Ok-start_posting.ensures.promise c.end_posting-posted.ensures in
-    let post = subst (λ (most : ℕ). IsPosted g.W.Drain c.args.outgoing most c.collect-collected.new.sink.letters c.end_posting-posted.result) waiting posted in
-    crew_run g.B.Keeper g.P.Port c.args.book c.args.ports.items _ _ _ room.opened (search rules) _ c.start_all-handles.ensures _ c.join_all.ensures _ _ c.miss.ensures.missed _ _ fresh g.W.Drain c.args.outgoing _ post _ _ _ c.requires.begins c.collect-collected.ensures c.gather-gathered.ensures c.conclude.ensures
+    let waiting = ap (λ (it : Identity Parcel). it.capacity) (lane ∙ ap (λ (sink : LetterSink). sink.lane) same) ∙ (room.waiting ∙ c.room.ensures.room) in
+    let posted = subst (λ (posts : Posts g.row.O.Denot). IsPosted g.O.Outlet posts.begun c.collect-collected.new.sink.lane.capacity c.collect-collected.new.sink.letters c.end_posting-posted.result) c.in-Ok-start_posting.ensures.promise c.end_posting-posted.ensures in
+    let post = subst (λ (most : ℕ). IsPosted g.O.Outlet c.args.outlet most c.collect-collected.new.sink.letters c.end_posting-posted.result) waiting posted in
+    crew_run g.B.Keeper g.P.Port c.args.book c.args.ports.items _ _ _ room.opened (search rules) _ c.start_all-handles.ensures _ c.join_all.ensures _ _ c.miss.ensures.missed _ _ fresh g.O.Outlet c.args.outlet _ post _ _ _ c.requires.begins c.collect-collected.ensures c.gather-gathered.ensures c.conclude.ensures
 
 pub returns-clause-counted : goal.returns-clause-counted
 returns-clause-counted g c =
@@ -80,13 +77,13 @@ returns-clause-counted g c =
 
 pub returns-in-Err-clause-run : goal.returns-in-Err-clause-run
 returns-in-Err-clause-run g c =
-    let is = c.unbegun.ensures ∙ ap (never_begun_with causes.Refused c.into_outbox.result) c.in-Err.ensures.back in
-    never_ran g.B.Keeper g.P.Port g.W.Drain c.args.book c.args.ports.items c.args.outgoing causes.Refused c.into_outbox.result _ g.met.B.Keeper.leaves_kept is
-    (λ from by before with_it. never_begun g.B.Keeper g.W.Drain from before _ c.args.book _ _ with_it.0 (by.outbox ∙ sym c.into_outbox.ensures) is)
+    let is = c.unbegun.ensures ∙ ap (never_begun_with causes.Refused c.into_left.result) c.in-Err.ensures.back in
+    never_ran g.B.Keeper g.P.Port g.O.Outlet c.args.book c.args.ports.items c.args.outlet causes.Refused c.into_left.result _ g.met.B.Keeper.leaves_kept is
+    (λ start first by before with_it. never_begun g.B.Keeper g.O.Outlet start first c.args.outlet before _ c.args.book _ _ with_it.0 c.into_left.ensures is)
 
 pub returns-in-Err-start_posting-clause-run : goal.returns-in-Err-start_posting-clause-run
 returns-in-Err-start_posting-clause-run g c =
     let back = c.into_book.ensures ∙ c.in-Ok.ensures.room.opened.book_is in
-    let is = c.unbegun-in-Err-start_posting.ensures ∙ ap (never_begun_with causes.Refused c.in-Err-start_posting.outbox) back in
-    never_ran g.B.Keeper g.P.Port g.W.Drain c.args.book c.args.ports.items c.args.outgoing causes.Refused c.in-Err-start_posting.outbox _ g.met.B.Keeper.leaves_kept is
-    (λ from by before with_it. never_begun g.B.Keeper g.W.Drain from before _ c.args.book _ _ with_it.0 (by.outbox ∙ sym c.in-Err-start_posting.ensures.refused) is)
+    let is = c.unbegun-in-Err-start_posting.ensures ∙ ap (never_begun_with causes.Refused c.in-Err-start_posting.left) back in
+    never_ran g.B.Keeper g.P.Port g.O.Outlet c.args.book c.args.ports.items c.args.outlet causes.Refused c.in-Err-start_posting.left _ g.met.B.Keeper.leaves_kept is
+    (λ start first by before with_it. never_begun g.B.Keeper g.O.Outlet start first c.args.outlet before _ c.args.book _ _ with_it.0 c.in-Err-start_posting.ensures.refused is)

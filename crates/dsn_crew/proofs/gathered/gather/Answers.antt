@@ -1,4 +1,4 @@
--- What came of an agent that finished is added at the end.
+-- The result of an agent that finished is added at the end.
 use Rattle.std.proofs.Common.{◌≡◌, ap, sym, ◌∙◌, false, length, length-append, arith}
 use Rattle.std.proofs.Math.Bool.{or-false}
 use Rattle.std.specs.Prelude.{Some, is_none, is_some}

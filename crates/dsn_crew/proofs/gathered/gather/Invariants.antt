@@ -1,4 +1,4 @@
--- What came of some agents is put together, and there is room for the others.
+-- The results of some agents are put together, and there is room for the others.
 use Rattle.std.proofs.Common.{◌≡◌, ◌+◌, ◌≤◌, false, length, vec_capacity}
 use Rattle.std.specs.Prelude.{is_none, is_some}
 use Rattle.std.specs.Vec.Iter.{into_iter_items}

@@ -1,4 +1,4 @@
--- What comes of a thread is added at the end.
+-- The result of a thread is added at the end.
 use Rattle.std.proofs.Common.{rules, ap, ◌∙◌, length, length-append, ◌∷◌, [], arith}
 use Rattle.std.specs.List.{AllZip}
 use Rattle.dsn_crew.specs.inner.StartServing.{IsJoined}

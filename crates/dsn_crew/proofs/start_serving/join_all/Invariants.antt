@@ -1,4 +1,4 @@
--- Some threads are joined; there is room for what comes of the others.
+-- Some threads are joined; there is room for the results of the others.
 use Rattle.std.proofs.Common.{◌+◌, ◌≤◌, length, vec_capacity}
 use Rattle.std.specs.List.{AllZip}
 use Rattle.std.specs.Vec.Iter.{into_iter_items}

@@ -1,4 +1,4 @@
--- Some agents' lanes are closed; those that are left stand beside the halves that answer them.
+-- Some agents' lanes are closed; those that are left pair with the halves that answer them.
 use Rattle.std.proofs.Common.{◌≡◌, List, ◌+◌, ◌≤◌, All, ◌++◌, length, map, vec_capacity}
 use Rattle.std.specs.Vec.Iter.{into_iter_items, into_iter_len}
 use Rattle.dsn_crew.specs.lane.Halves.{Half}

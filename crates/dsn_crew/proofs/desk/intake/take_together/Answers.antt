@@ -1,5 +1,7 @@
 -- One request more is taken while agents are left.
-use Rattle.std.proofs.Common.{rules, ◌≡◌, ◌+◌, ◌<◌, ◌≤◌, List, [], ◌∷◌, ◌++◌, length, ap, sym, ◌∙◌, append_assoc, length-append, arith}
+use Rattle.std.proofs.Common.{rules, ◌≡◌, ◌+◌, ◌<◌, ◌≤◌, List, [], ◌∷◌, ◌++◌, length, ap, sym, ◌∙◌, subst, append_assoc, length-append, arith}
+use Rattle.std.specs.Option.{option_to_list}
+use Rattle.std.specs.Prelude.{IfSome, Option}
 use Rattle.dsn_outcome.specs.Request.{Request}
 use Rattle.dsn_crew.proofs.desk.IntakeLemmas.{all_from, came_in_time, bit_small, goodbyes_few, goodbyes_then}
 use Rattle.dsn_crew.proofs.desk.intake.take_together.Goals as goal
@@ -15,21 +17,24 @@ overflow_add-counted-in-loop g c =
 
 pub loop-preserved : goal.loop-preserved
 loop-preserved g c =
+    let some_more = c.in-Ok-Some.ensures in
+    let item = some_more.taken ∙ ap (λ (it : Option Request). c.loop.lane.taken ++ option_to_list it) c.in-Ok-Some.field-0-is in
+    let agent = subst (λ (it : Option Request). IfSome it (λ item. (c.loop.lane.first ≤ item.agent) × (item.agent < c.loop.lane.past))) c.in-Ok-Some.field-0-is some_more.agent in
     let more = c.push_back_reserved-in-loop.ensures.items in
-    let long : length c.push_back_reserved-in-loop.new.self.items ≡ length c.loop.waiting.items + 1 = ap length more ∙ length-append c.loop.waiting.items (c.in-Some.request ∷ []) in
+    let long : length c.push_back_reserved-in-loop.new.self.items ≡ length c.loop.waiting.items + 1 = ap length more ∙ length-append c.loop.waiting.items (c.in-Ok-Some.request ∷ []) in
     let some = c.loop.invariant.together in
     let left = c.if-counted-agents.false in
     let before = c.loop.invariant.same in record {
-      same = (c.in-Some.ensures.same.0 ∙ before.0, c.in-Some.ensures.same.1 ∙ before.1, c.in-Some.ensures.same.2 ∙ before.2);
+      same = (some_more.same.0 ∙ before.0, some_more.same.1 ∙ before.1, some_more.same.2 ∙ before.2);
       taken =
-          c.in-Some.ensures.item
-          ∙ (ap (λ (q : List Request). q ++ c.in-Some.request ∷ []) c.loop.invariant.taken
-          ∙ (append_assoc c.args.lane.now.taken c.loop.waiting.items (c.in-Some.request ∷ []) ∙ ap (λ (q : List Request). c.args.lane.now.taken ++ q) (sym more)));
+          item
+          ∙ (ap (λ (q : List Request). q ++ c.in-Ok-Some.request ∷ []) c.loop.invariant.taken
+          ∙ (append_assoc c.args.lane.now.taken c.loop.waiting.items (c.in-Ok-Some.request ∷ []) ∙ ap (λ (q : List Request). c.args.lane.now.taken ++ q) (sym more)));
       some = omega arith;
       together = (omega arith, omega arith);
       room = (let was = c.loop.invariant.room in let same = c.push_back_reserved-in-loop.ensures.capacity in omega arith);
-      agents = all_from c.args.lane.now.past _ _ c.in-Some.request more (let here = c.in-Some.ensures.agent.1 in let past = before.2 in omega arith) c.loop.invariant.agents;
-      numbered = c.in-Some.ensures.numbered;
-      in_time = came_in_time c.args.heard c.loop.counted c.args.agents _ _ c.in-Some.request c.loop.invariant.counted (search rules) more c.loop.invariant.in_time;
-      counted = goodbyes_then c.args.heard c.loop.counted c.from-counted.result c.is_bye-in-loop.result _ _ c.in-Some.request c.loop.invariant.counted more (search rules) (search rules);
+      agents = all_from c.args.lane.now.past _ _ c.in-Ok-Some.request more (let here = agent.1 in let past = before.2 in omega arith) c.loop.invariant.agents;
+      numbered = some_more.numbered;
+      in_time = came_in_time c.args.heard c.loop.counted c.args.agents _ _ c.in-Ok-Some.request c.loop.invariant.counted (search rules) more c.loop.invariant.in_time;
+      counted = goodbyes_then c.args.heard c.loop.counted c.from-counted.result c.is_bye-in-loop.result _ _ c.in-Ok-Some.request c.loop.invariant.counted more (search rules) (search rules);
     }

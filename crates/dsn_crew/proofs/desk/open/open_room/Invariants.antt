@@ -1,4 +1,4 @@
--- So many agents stand ready, each with its lanes, and the halves of the others are left.
+-- Some agents are ready, each with its lanes, and the halves of the others are left.
 use Rattle.std.proofs.Common.{◌≡◌, ◌-◌, ◌≤◌, length, map, vec_capacity}
 use Rattle.std.specs.Vec.Iter.{into_iter_items, into_iter_len}
 use Rattle.dsn_crew.specs.lane.Halves.{fresh_halves}

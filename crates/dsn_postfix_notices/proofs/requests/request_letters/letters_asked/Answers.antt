@@ -13,7 +13,7 @@ use Rattle.dsn_postfix_files.specs.QueueListing.{RecordsFrom}
 use Rattle.dsn_postfix_files.specs.QueueRecipients.{recipient_facts_in, recipients_of}
 use Rattle.dsn_postfix_files.specs.QueueWalk.{first_place}
 use Rattle.dsn_postfix_notices.specs.letters.ReportedMessage.{MessageSaid}
-use Rattle.dsn_postfix_notices.specs.requests.RequestLetters.{AreLettersAsked, AreLettersOf, CantBeSaid, IsUnsaid, has_fault, message_said}
+use Rattle.dsn_postfix_notices.specs.requests.RequestLetters.{AreLettersAsked, AreLettersOf, CantBeSaid, IsUnsaid, first_serial, has_fault, message_said}
 use Rattle.dsn_postfix_notices.specs.inner.RequestLetters.{IsReason}
 use Rattle.dsn_postfix_notices.specs.requests.Task.{Task}
 use Rattle.dsn_text.specs.Text.{longest_header}
@@ -63,6 +63,8 @@ returns-clause-letters c =
     let notices : List NoticeFacts = c.in_ok-notices.notices.items in
     let planned : notices_of task.terms.settings.double_bounce task.terms.service task.request (recipients_of records) c.args.found.now.log ≡ Ok notices =
     (λ i. notices_of task.terms.settings.double_bounce task.terms.service task.request (sym queued i) (sym c.log.ensures i)) ∙ c.in_ok-notices.ensures in
+    let serial_is : c.first_serial.result ≡ first_serial task c.args.found.now.log =
+    c.first_serial.ensures ∙ (λ i. first_serial (sym task_is i) c.args.found.now.log) in
     subst (λ (asked : Task). IfOk c.letters_of.result (λ letters. AreLettersAsked asked c.args.found.now letters.items)) task_is
     (ok_as c.letters_of.result _ _ c.letters_of.ensures.letters (λ letters are. record {
       records = records;
@@ -70,9 +72,10 @@ returns-clause-letters c =
       listed = listing.lists;
       notices = notices;
       planned = planned;
-      each = letters_of_front c.fronts_show_headers.ensures (message_said task records) task.terms.moment task.terms.serial notices letters.items
-          (subst (λ (ns : List NoticeFacts). AreLettersOf (with_front (message_said task records)) task.terms.moment task.terms.serial ns letters.items) c.deref-3.ensures.value
-          (subst (λ (message : MessageSaid). AreLettersOf message task.terms.moment task.terms.serial c.deref-3.result.now letters.items)
+      each = subst (λ (serial : ℕ). AreLettersOf (message_said task records) task.terms.moment serial notices letters.items) serial_is
+          (letters_of_front c.fronts_show_headers.ensures (message_said task records) task.terms.moment c.first_serial.result notices letters.items
+          (subst (λ (ns : List NoticeFacts). AreLettersOf (with_front (message_said task records)) task.terms.moment c.first_serial.result ns letters.items) c.deref-3.ensures.value
+          (subst (λ (message : MessageSaid). AreLettersOf message task.terms.moment c.first_serial.result c.deref-3.result.now letters.items)
           (λ i. record {
             queue_id = notice.queue_id;
             arrival = (facts i).arrival;
@@ -81,7 +84,7 @@ returns-clause-letters c =
             text = text i;
             lifetime = task.terms.settings.lifetime;
             size_limit = task.terms.settings.size_limit;
-          }) are));
+          }) are)));
     }))
 
 pub returns-clause-none : goal.returns-clause-none

@@ -9,7 +9,7 @@ returns-clause-handled g c letter here =
     handled_by g.S.Source g.S.Drain g.C.Connect.gives g.K.RefusedLetters.keeps g.M.Marks.tells
     c.args.self.now c.ask.new.self c.conclude-verdict.new.self c.tell.new.self c.args.server.now c.ask.new.server
     c.args.refused.now c.conclude-verdict.new.refused c.args.marks.now c.tell.new.marks
-    (g.T.Mail.path_of letter.item) (g.T.Mail.message_of letter.item) letter.item c.args.now c.mark-before.result c.in-Ok.fault c.conclude-verdict.result
+    (g.T.Mail.path_of letter.item) (g.T.Mail.message_of letter.item) c.args.now c.mark-before.result c.in-Ok.fault c.conclude-verdict.result
     c.in-Ok.ensures.same c.conclude-verdict.ensures.concluded c.tell.ensures.same
     (c.mark-before.ensures.mark ∙ ap (λ (queue : Queue _). queue.mark) c.waiting.ensures)
     (c.in-Ok.ensures.asked letter here)

@@ -10,4 +10,4 @@ returns-in-Ok g c = record {
 }
 
 pub returns-in-Err : goal.returns-in-Err
-returns-in-Err g c = no-ports-over _ _ _ _ _ _ _ _ _ _ _ _ _ _ _ _ _ c.in-Err.cause c.in-Err.ensures.none (rw c.code.ensures at c.write_not_started.ensures.notes) c.write_not_started.ensures.journal c.write_not_started.ensures.marks
+returns-in-Err g c = no-ports-over _ _ _ _ c.in-Err.cause c.in-Err.ensures.none (rw c.code.ensures at c.write_not_started.ensures.notes, c.write_not_started.ensures.journal, c.write_not_started.ensures.marks)

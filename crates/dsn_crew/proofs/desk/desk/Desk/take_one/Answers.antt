@@ -1,4 +1,4 @@
--- Where nothing was behind, what is taken together comes first.
+-- If nothing was behind, requests are first taken together.
 use Rattle.std.proofs.Common.{◌≡◌, [], length, ap, sym, ◌∙◌, subst}
 use Rattle.std.proofs.lemmas.Bool.{eqb-true}
 use Rattle.std.proofs.lemmas.List.{nil_from_length}

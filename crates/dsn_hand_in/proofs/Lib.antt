@@ -1,0 +1,7 @@
+pub mod CrashLemmas
+pub mod JournalMarksLemmas
+mod MailExamples
+pub mod PlacesLemmas
+pub mod SendLemmas
+pub mod SettledLemmas
+pub mod CourseLemmas

@@ -1,0 +1,4 @@
+pub mod JournalMarks
+pub mod MailLaws
+pub mod MailOutlet
+pub mod SitedLetter

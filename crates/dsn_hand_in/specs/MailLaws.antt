@@ -1,0 +1,93 @@
+-- What holds of an outlet after every course from one to which no letter was passed.
+use Rattle.std.specs.Prelude.{◌≡◌, ◌≢◌, ℕ, ◌+◌, ◌<◌, Bool, true, false, List, [], ◌∷◌, ◌++◌, Some, None, map, slice_get, Result}
+use Rattle.std.specs.List.{AllByRecursion}
+use Rattle.dsn_device.specs.declared.drain.Drain
+use Rattle.dsn_device.specs.declared.source.Source
+use Rattle.dsn_journal.specs.Marks.{LeavesTheMark, Marks}
+use Rattle.dsn_journal.specs.Moments.{LeavesOnly}
+use Rattle.dsn_journal.specs.declared.disk.Disk
+use Rattle.dsn_outcome.specs.Letter.{Letter}
+use Rattle.dsn_smtp.specs.declared.hand_in_fault.HandInFault.{HandInFault}
+use Rattle.dsn_submission.specs.Waiting.{empty_queue}
+use Rattle.dsn_submission.specs.WaitingLaws.{HasEach}
+use Rattle.dsn_submission.specs.declared.verdict.Verdict.{Verdict}
+use Rattle.dsn_submission.specs.declared.verdict.Verdict.TheVariants.{Accepted, RefusedForGood, PutOff, ServerAway}
+use Rattle.dsn_submission.specs.declared.waiting.Waits.{Waits}
+use Rattle.dsn_hand_in.specs.JournalMarks.{SaysMarkWithin}
+use Rattle.dsn_hand_in.specs.MailOutlet.{MailDeed, MailOutlet}
+use Rattle.dsn_hand_in.specs.SitedLetter.{SitedLetter, sited_message, sited_path}
+
+-- whether a verdict settles its letter
+abbrev pub is_settled_by : Verdict → Bool
+is_settled_by Accepted = true
+is_settled_by RefusedForGood = true
+is_settled_by PutOff = false
+is_settled_by ServerAway = false
+
+module _ {S C K M : Type 0} where
+  -- an outlet to which no letter was passed, whose mark is this one
+  pub record BeginsEmpty (mark : ℕ) (start : MailOutlet S C K M) : Type 0 where
+    pub none_waits : start.parts.submitter.waiting ≡ empty_queue mark
+    pub enough : start.short ≡ false
+
+  -- The letters that were passed to an outlet are those that it kept and behind them those that it dropped, which are
+  -- none unless memory was refused. The kept ones are those below the mark, which began at `mark`, and behind them those
+  -- that wait or are settled, in the order in which they were passed: so each has exactly one place.
+  pub record HavePlaces (mark : ℕ) (start now : MailOutlet S C K M) (letters : List Letter) : Type 0 where
+    pub kept : List Letter
+    pub dropped : List Letter
+    pub split : letters ≡ kept ++ dropped
+    pub all_kept : now.short ≡ false → dropped ≡ []
+    pub places : HasEach mark now.parts.submitter.waiting (map (λ letter. record { host = start.host; letter = letter }) kept)
+
+  module _ (source : Source.Ghosts S) (drain : Drain.Ghosts S)
+      (gives : C → C → Result S HandInFault → Type 0) (keeps : K → List ℕ → List ℕ → List ℕ → Bool → K → Type 0)
+      (tells : M → ℕ → Bool → M → Type 0) where
+    -- none of these deeds settles the letter with this serial
+    abbrev pub NoneSettles : ℕ → List (MailDeed source drain gives keeps tells) → Type 0
+    NoneSettles serial deeds = AllByRecursion (λ deed. deed.serial ≡ serial → is_settled_by deed.verdict ≡ false) deeds
+
+    -- the letter with this serial isn't submitted in these deeds
+    abbrev pub NoneSubmits : ℕ → List (MailDeed source drain gives keeps tells) → Type 0
+    NoneSubmits serial deeds = AllByRecursion (λ deed. deed.serial ≢ serial) deeds
+
+    -- one of these deeds settles this letter, which has this serial; after it, the letter isn't submitted again
+    pub record IsSettledOnce (deeds : List (MailDeed source drain gives keeps tells)) (serial : ℕ) (letter : Letter) : Type 0 where
+      pub before : List (MailDeed source drain gives keeps tells)
+      pub deed : MailDeed source drain gives keeps tells
+      pub after : List (MailDeed source drain gives keeps tells)
+      pub split : deeds ≡ before ++ deed ∷ after
+      pub its_serial : deed.serial ≡ serial
+      pub its_letter : deed.letter.item.letter ≡ letter
+      pub settles : is_settled_by deed.verdict ≡ true
+      pub not_earlier : NoneSettles serial before
+      pub not_again : NoneSubmits serial after
+
+    -- The server accepted the letter of a deed without a fault if the verdict says so. The letter was kept with the last
+    -- reply if the verdict is a refusal for good.
+    pub record IsMeant (deed : MailDeed source drain gives keeps tells) : Type 0 where
+      pub accepted : deed.verdict ≡ Accepted → deed.fault ≡ None
+      pub refused : deed.verdict ≡ RefusedForGood
+          → keeps deed.old.refused (sited_path deed.letter.item) (sited_message deed.letter.item) deed.new.submitter.reply true deed.new.refused
+
+    -- each letter below the mark, which began at `mark`, was settled once, by a deed of its own
+    abbrev pub AreSettledOnce : ℕ → MailOutlet S C K M → List Letter → List (MailDeed source drain gives keeps tells) → Type 0
+    AreSettledOnce mark now letters deeds =
+        (place : ℕ) (letter : Letter) → slice_get letters place ≡ Some letter
+        → mark + place < now.parts.submitter.waiting.mark → IsSettledOnce deeds (mark + place) letter
+
+    -- no deed settled a letter that waits
+    abbrev pub AreUnsettled : MailOutlet S C K M → List (MailDeed source drain gives keeps tells) → Type 0
+    AreUnsettled now deeds =
+        (place : ℕ) (letter : Waits SitedLetter) → slice_get now.parts.submitter.waiting.letters place ≡ Some (Some letter)
+        → NoneSettles (now.parts.submitter.waiting.mark + place) deeds
+
+-- the marks of an outlet have this mark, and a crash leaves it
+pub record BeginsMarked {S C K D : Type 0} (disk : Disk.Ghosts D) (mark : ℕ) (start : MailOutlet S C K (Marks D)) : Type 0 where
+  pub mark_is : start.parts.marks.mark ≡ mark
+  pub leaves : LeavesTheMark disk start.parts.marks
+
+-- a crash at any moment leaves a mark from `mark` to that of the letters that wait, below which all are settled
+abbrev pub LeavesSettled : {S C K D : Type 0} → Disk.Ghosts D → ℕ → MailOutlet S C K (Marks D) → MailOutlet S C K (Marks D) → Type 0
+LeavesSettled disk mark start now =
+    LeavesOnly disk start.parts.marks.journal.disk now.parts.marks.journal.disk (SaysMarkWithin mark now.parts.submitter.waiting.mark)

@@ -1,0 +1,18 @@
+-- A letter as it is submitted, and what is submitted of it.
+use Rattle.std.specs.Prelude.{ℕ, List}
+use Rattle.dsn_outcome.specs.Letter.{Letter}
+use Rattle.dsn_report.specs.Notice.{return_path_of}
+use Rattle.dsn_report.specs.Outbox.{mail_data}
+
+-- the host name of the mail system that the letter's notice is from, and the letter
+pub record SitedLetter : Type 0 where
+  pub host : List ℕ
+  pub letter : Letter
+
+-- its only recipient is the letter's return path
+abbrev pub sited_path : SitedLetter → List ℕ
+sited_path sited = return_path_of sited.letter
+
+-- its message is the letter's notice, with the dots that SMTP adds and the final dot
+abbrev pub sited_message : SitedLetter → List ℕ
+sited_message sited = mail_data sited.host sited.letter

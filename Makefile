@@ -3,6 +3,7 @@
 
 PREFIX  ?= /usr/local
 DESTDIR ?=
+ZSH     ?= site-functions
 RT      ?= $(shell command -v rt || echo /opt/rattle/bin/rt)
 BOOT    ?= /var/cache/noticed-boot
 JOBS    ?= 3
@@ -13,22 +14,23 @@ export RT
 export PYTHONDONTWRITEBYTECODE := 1
 
 BUILT   := crates/noticed/out/noticed
+VERSION := $(shell sed -n 's/.* VERSION: &str = "\(.*\)";/\1/p' crates/noticed/src/command_line.rt)
 PROBES  := crates/probe/out/probe
 SOURCES := $(shell find crates -name out -prune -o -type f -print)
-EXAMPLE := examples/one-bounce
+EXAMPLE := vectors/one-bounce
 
 # The scripts of tests/. Those of QUIET run after the others, one at a time: they look at memory or time, end processes at random
 # moments, wait for seconds to pass, or listen at a port that they found to be free. Those of BOOTS want a Debian to boot.
-BOOTS   := boot boot_postfix
-QUIET   := feed feed_kills feed_restarts mailers stop idle status postfix_beside postfix_faults postfix_notices journal_kills \
-           journal_stops fuzz_batch fuzz_serve forgetting memory postfix_large
+BOOTS   := boot boot_package boot_postfix
+QUIET   := clients hand_in serve_hand_in mailers stop idle status postfix_beside postfix_faults postfix_notices noticed_postfix \
+           journal_kills journal_stops fuzz_batch fuzz_serve forgetting memory postfix_large
 LOUD    := $(filter-out __init__ $(BOOTS) $(QUIET),$(patsubst tests/%.py,%,$(wildcard tests/*.py)))
 
 SHELL := /bin/bash
 .SHELLFLAGS := -euo pipefail -c
 .ONESHELL:
 .DELETE_ON_ERROR:
-.PHONY: all build demo try check scripts test mutants boot bench planted install clean
+.PHONY: all build demo try check scripts test contracts mutants boot bench planted install deb dist clean
 
 all: build
 
@@ -97,15 +99,20 @@ script-%:
 	    exit 1
 	fi
 
+# Prints to out/contracts.md the public functions, the definitions to believe, and which test meets which refusal.
+contracts:
+	@python3 -m tests.contracts
+
 # Tries the wrong edits of mutants/ that the gate doesn't: those of the crates in CRATE, or those named in EDITS as CRATE/NAME.
 mutants:
 	@python3 -m tests.support.mutants $(CRATE) $(EDITS)
 
-# Boots a systemd of its own with the installed units, as root, and then one with Debian's Postfix, which comes from a mirror; not
-# part of `make check`. Debian's base system, which the first run makes, stays in BOOT.
+# Boots a systemd of its own with the installed units, as root, and then some with Debian's Postfix, which comes from a mirror, and
+# with the package; not part of `make check`. Debian's base systems, which the first run makes, stay in BOOT.
 boot: $(BUILT)
 	@python3 -m tests.boot "$(BOOT)"
 	python3 -m tests.boot_postfix "$(BOOT)"
+	python3 -m tests.boot_package "$(BOOT)"
 
 # Measures the program on workloads made from a seed, crews in memory, and the daemon over sockets; not part of `make check`.
 bench: $(BUILT) $(PROBES)
@@ -115,23 +122,56 @@ bench: $(BUILT) $(PROBES)
 planted: $(BUILT)
 	@python3 -m tests.support.planted
 
-# The units name the folders of PREFIX. A configuration file that is there stays.
+# What names the program names it below /usr, as the package has it, until it is installed below another PREFIX. A configuration
+# file that is there stays.
 install: $(BUILT)
-	@to() { install -D -m "$$1" "$$2" "$(DESTDIR)$$3"; }
+	@umask 022
+	to() { install -D -m "$$1" "$$2" "$(DESTDIR)$$3"; }
+	naming() {
+	    to 644 "$$1" "$$2"
+	    sed -i "s#/usr/\(s\?bin\|share\|share/doc\)/noticed#$(PREFIX)/\1/noticed#g" "$(DESTDIR)$$2"
+	}
 	to 755 $(BUILT) "$(PREFIX)/bin/noticed"
-	to 644 docs/noticed.8 "$(PREFIX)/share/man/man8/noticed.8"
-	for it in examples/noticed*.service examples/noticed*.socket; do
-	    to 644 "$$it" "$(PREFIX)/lib/systemd/system/$${it##*/}"
-	    sed -i "s|/usr/local|$(PREFIX)|g" "$(DESTDIR)$(PREFIX)/lib/systemd/system/$${it##*/}"
+	to 755 dist/noticed-postfix "$(PREFIX)/sbin/noticed-postfix"
+	for it in docs/noticed*.[58]; do naming "$$it" "$(PREFIX)/share/man/man$${it##*.}/$${it##*/}"; done
+	for it in dist/noticed*.{service,socket}; do naming "$$it" "$(PREFIX)/lib/systemd/system/$${it##*/}"; done
+	for it in sysusers tmpfiles; do to 644 "dist/noticed.$$it" "$(PREFIX)/lib/$$it.d/noticed.conf"; done
+	[ -e "$(DESTDIR)/etc/noticed/noticed.conf" ] || to 644 dist/noticed.conf /etc/noticed/noticed.conf
+	naming dist/noticed.apparmor /etc/apparmor.d/noticed
+	to 644 dist/noticed.bash "$(PREFIX)/share/bash-completion/completions/noticed"
+	to 644 dist/noticed.zsh "$(PREFIX)/share/zsh/$(ZSH)/_noticed"
+	for it in clients/*/*; do to 644 "$$it" "$(PREFIX)/share/noticed/$$it"; done
+	for it in docs/{postfix,operating,troubleshooting,first-client}.md; do
+	    naming "$$it" "$(PREFIX)/share/doc/noticed/$${it##*/}"
 	done
-	for it in sysusers tmpfiles; do to 644 "examples/noticed.$$it" "$(PREFIX)/lib/$$it.d/noticed.conf"; done
-	[ -e "$(DESTDIR)/etc/noticed/noticed.conf" ] || to 644 examples/noticed.conf /etc/noticed/noticed.conf
-	for it in feed feed_mailers feed_outbox feed_state frames; do to 644 "examples/$$it.py" "$(PREFIX)/libexec/noticed/$$it.py"; done
-	for it in docs/FORMATS.md docs/DEPLOY.md docs/FEEDER.md docs/REFUSALS.md examples/noticed.conf examples/frames.py \
-	    examples/client.py examples/agent.c examples/one-bounce.frames; do
+	for it in LICENSE CHANGELOG.md dist/noticed.conf vectors/one-bounce.frames; do
 	    to 644 "$$it" "$(PREFIX)/share/doc/noticed/$${it##*/}"
 	done
-	echo "installed $(DESTDIR)$(PREFIX)/bin/noticed, its manual page, units and $(DESTDIR)$(PREFIX)/share/doc/noticed"
+	printf '%s\n' "noticed $(VERSION)" "built with $$($(RT) version || echo an unknown kit)" | \
+	    to 644 /dev/stdin "$(PREFIX)/share/doc/noticed/BUILD"
+	echo "installed $(DESTDIR)$(PREFIX)/bin/noticed, its manual pages, units, clients and $(DESTDIR)$(PREFIX)/share/doc/noticed"
+
+# A package for Debian and an archive for other systems, of the program that is built. The same commit and program give the same bytes.
+deb dist: export SOURCE_DATE_EPOCH ?= $(shell git log -1 --format=%ct)
+
+deb: $(BUILT)
+	@rm -rf out/deb
+	mkdir -p out/deb
+	cp -r dist/debian out/deb
+	cd out/deb
+	DEB_RULES_REQUIRES_ROOT=no debian/rules binary TOP="$(CURDIR)" BUILT="$(abspath $(BUILT))"
+	cd ..
+	sha256sum noticed[-_]$(VERSION)[._]* > SHA256SUMS
+
+# (unpacked below /usr/local, with --strip-components=1, it is what `make install` puts there)
+dist: $(BUILT)
+	@rm -rf out/dist
+	$(MAKE) --silent install --old-file=$(BUILT) BUILT=$(BUILT) PREFIX=/usr/local DESTDIR="$(CURDIR)/out/dist"
+	cd out
+	mv dist/usr/local dist/noticed-$(VERSION)
+	tar --create --sort=name --mtime=@$$SOURCE_DATE_EPOCH --owner=0 --group=0 --numeric-owner --directory=dist noticed-$(VERSION) |
+	    gzip -9 --no-name > noticed-$(VERSION).tar.gz
+	sha256sum noticed[-_]$(VERSION)[._]* > SHA256SUMS
 
 # Removes what was built and what the prover kept: the next build proves everything again.
 clean:

@@ -17,7 +17,7 @@ daemon=$!
 while [ ! -S socket ] && kill -0 "$daemon"; do sleep 0.05; done
 
 for client in first second; do
-    python3 "$examples/frames.py" "$client.requests" | "$noticed" send socket > "$client.answers" &
+    python3 "$examples/../vectors/frames.py" "$client.requests" | "$noticed" send socket > "$client.answers" &
     clients="${clients:-} $!"
 done
 for client in $clients; do wait "$client"; done

@@ -1,0 +1,3 @@
+module noticed
+
+go 1.19

@@ -1,0 +1,250 @@
+"""A client of noticed(8): it logs what happened to each recipient of a mail, and has the notice made. Python 3.10.
+
+    key = BOUNCE, "A1B2C3"
+    with Client("/run/noticed/socket") as client:
+        client.append(key, Outcome("bob@example.org", FAILED, "5.1.1", diagnostic="550 no such user"), place=0)
+        client.flush(key, Notice("ann@example.com", moment=now, arrival=arrived, expected=1, header=header))
+
+The fields are those of noticed-protocol(5), version 3: the daemon tests their values. A str is sent as UTF-8. Open a
+client for one message, then close it: it occupies a worker of the daemon. Threads cannot share one.
+
+When may a request be repeated? The client waits for a daemon, connects again, and repeats what is safe: a request that
+was not sent whole, and a flush, discard or forget without an answer (a repeated flush is answered CLOSED then). An
+append without an answer may have been logged. If this client alone appends to the log, give append its `place`: how
+many outcomes you logged there before. When the connection has ended, the client counts the log, and appends again if
+the outcome is missing. Otherwise append raises Unanswered: discard and forget the log, then append all again."""
+import contextlib
+import enum
+import re
+import socket
+import struct
+import time
+from typing import NamedTuple
+
+Text = str | bytes
+Key = tuple[int, Text]  # of a log: service and queue id
+BOUNCE, DEFER, TRACE = 1, 2, 3  # services: for failures, for delays, for other reports
+FAILED, DELAYED, DELIVERED, RELAYED, EXPANDED = 1, 2, 3, 4, 5  # actions
+NULL_PATH = "<>"  # the null return path, which gets no notice; an empty path is an error
+ANY = 0xFFFFFFFF  # expected: any number of outcomes
+HEADER, MESSAGE, MESSAGE_OR_HEADER = 0, 1, 2  # what `header` is; the last: its header alone is sent if it is too long
+BY_SERVICE, BY_OUTCOME = 0, 1  # `wording`: how words are chosen
+LONGEST_FRAME, LONGEST_HEADER, LONGEST_TEXT = 65_536, 32_768, 800  # bytes; a longer diagnostic or reason is cut
+
+
+class Reply(enum.IntEnum):  # what an answer says, and what to do
+    LOGGED = 1  # behind `value` others. If that is below `place`, the daemon lost outcomes: append them again
+    CLOSED = 2  # the log takes no more. After a flush: the notice is made
+    TABLE_FULL = 3  # no key is free: forget one, or try later
+    LOG_FULL = 4  # flush, forget, and append the rest for a notice of its own
+    NOTHING = 5  # the log is empty. If it should not be, the daemon lost outcomes: forget, append, flush
+    NO_RETURN = 6  # the log is dropped, since the return path is null
+    SEALED = 7  # a notice of `value` outcomes is made
+    DISCARDED = 8  # the log of `value` outcomes is dropped
+    GONE = 9  # never sent
+    REFUSED = 10  # nothing was changed. After 9 (no memory) try later; another `value` is the fault of the request
+    FORGOTTEN = 11  # the key is free
+    NOT_CLOSED = 12  # the log is open, or was forgotten before
+    DIFFERS = 13  # nothing was changed. The log has `value` outcomes: if too few, append what is missing, and flush
+
+
+class Unreachable(Exception):
+    """No daemon carried the request out in time: keep the message, and try again with the next run of your queue."""
+
+
+class Unanswered(Exception):
+    """An append was sent and not answered: it may be logged."""
+
+
+class Answer(NamedTuple):
+    """An answer; that of a notice has its serial, which is part of the Message-ID."""
+
+    reply: Reply
+    value: int
+    serial: int | None = None
+
+
+class Limits(NamedTuple):
+    """Seconds: to connect, to send a request, until a worker is free, until an answer, for all tries of a request."""
+
+    connect: float = 5
+    send: float = 30
+    worker: float = 60
+    answer: float = 30
+    request: float = 300
+
+
+class Outcome(NamedTuple):
+    """What happened to a recipient. A moment is seconds since 1970; extensions are lines that LF ends."""
+
+    recipient: Text
+    action: int
+    status: Text
+    original_recipient: Text = ""
+    remote_mta: Text = ""
+    diagnostic: Text = ""
+    reason: Text = ""
+    last_attempt: int | None = None
+    retry_until: int | None = None
+    recipient_type: Text = ""
+    original_type: Text = ""
+    diagnostic_type: Text = ""
+    extensions: Text = ""
+
+    def fields(self) -> bytes:
+        """What an append has behind its key."""
+        moments = [2**64 - 1 if it is None else it for it in (self.last_attempt, self.retry_until)]
+        said = [_bytes(it)[:LONGEST_TEXT] for it in (self.diagnostic, self.reason)]
+        made = _texts(self.original_recipient, self.recipient) + struct.pack(">B", self.action)
+        made += _texts(self.status, self.remote_mta, *said) + struct.pack(">QQ", *moments)
+        return made + _texts(self.recipient_type, self.original_type, self.diagnostic_type, self.extensions)
+
+
+class Notice(NamedTuple):
+    """What a flush says: `moment` is the notice's date, `expected` how many outcomes the log must have."""
+
+    return_path: Text
+    moment: int
+    arrival: int
+    expected: int
+    envelope_id: Text = ""
+    header: Text = ""
+    returned: int = HEADER
+    wording: int = BY_SERVICE
+    extensions: Text = ""
+
+    def fields(self) -> bytes:
+        """What a flush has behind its key. ValueError without a return path, or if header or message is too long."""
+        path, header, returned = _bytes(self.return_path), _bytes(self.header), self.returned
+        if not path:
+            raise ValueError("there is no return path; the null one is NULL_PATH")
+        if len(header) > LONGEST_HEADER and returned != MESSAGE:
+            header, returned = re.split(rb"(?m)^\r?\n", header, maxsplit=1)[0], HEADER
+        if len(header) > LONGEST_HEADER:
+            raise ValueError(f"the header or message is longer than {LONGEST_HEADER} bytes")
+        made = struct.pack(">QQ", self.moment, self.arrival)
+        made += _texts(b"" if path == b"<>" else path, self.envelope_id, header)
+        return made + struct.pack(">IBB", self.expected, min(returned, MESSAGE), self.wording) + _texts(self.extensions)
+
+
+def _bytes(value: Text) -> bytes:
+    return value.encode() if isinstance(value, str) else value
+
+
+def _texts(*values: Text) -> bytes:
+    return b"".join(struct.pack(">H", len(it)) + it for it in map(_bytes, values))
+
+
+def encode(kind: int, number: int, key: Key, fields: bytes = b"") -> bytes:
+    """The frame of a request: 1 append, 2 flush, 3 discard, 4 forget. ValueError or struct.error if it has no room."""
+    body = struct.pack(">BBIB", 3, kind, number, key[0]) + _texts(key[1]) + fields
+    if len(body) > LONGEST_FRAME:
+        raise ValueError("the request is longer than a frame")
+    return struct.pack(">I", len(body)) + body
+
+
+def decode(body: bytes) -> tuple[int, Answer]:
+    """The number of the request, and the answer, of a frame without its length. ValueError if it is not an answer."""
+    if len(body) not in (10, 18) or body[0] != 1 or len(body) == 18 and body[1] != Reply.SEALED:
+        raise ValueError(f"not an answer: {body.hex()}")
+    number, value, serial = (int.from_bytes(it, "big") for it in (body[2:6], body[6:10], body[10:]))
+    return number, Answer(Reply(body[1]), value, serial if len(body) == 18 else None)
+
+
+class Client(contextlib.AbstractContextManager):
+    """Carries requests out. Its methods return the answer, or raise Unreachable, PermissionError, or as encode does."""
+
+    def __init__(self, path: str, limits: Limits = Limits()):
+        self._path, self._limits, self._number = path, limits, 0
+        self._stream: socket.socket | None = None
+
+    def __exit__(self, *_) -> None:
+        self.close()
+
+    def close(self) -> None:
+        """Ends the connection; the next request opens another."""
+        if self._stream:
+            self._stream.close()
+        self._stream = None
+
+    def append(self, key: Key, outcome: Outcome, place: int | None = None) -> Answer:
+        """Logs an outcome. Unanswered if it may be logged; with a place only if a daemon is silent or others append."""
+        while True:
+            try:
+                return self._ask(encode(1, 0, key, outcome.fields()), again=False)
+            except Unanswered as why:
+                if place is None or isinstance(why.__cause__, TimeoutError):
+                    raise
+                found = place + 2  # unless a daemon says
+                with contextlib.suppress(Unreachable):
+                    found = self.flush(key, Notice(NULL_PATH, 0, 0, ANY - 1)).value  # DIFFERS: no log has so many
+                if found == place + 1:
+                    return Answer(Reply.LOGGED, place)
+                if found > place:
+                    raise
+
+    def flush(self, key: Key, notice: Notice) -> Answer:
+        """Closes a log and has its notice made."""
+        return self._ask(encode(2, 0, key, notice.fields()))
+
+    def discard(self, key: Key) -> Answer:
+        """Closes a log without a notice."""
+        return self._ask(encode(3, 0, key))
+
+    def forget(self, key: Key) -> Answer:
+        """Releases the key of a closed log: do it when no late outcome of the message can come."""
+        return self._ask(encode(4, 0, key))
+
+    def _ask(self, frame: bytes, again: bool = True) -> Answer:
+        pause, until = 0.05, time.monotonic() + self._limits.request
+        while True:
+            try:
+                if not self._stream:
+                    self._connect()
+                frame = frame[:6] + struct.pack(">I", self._number) + frame[10:]
+                answer = self._exchange(frame, self._limits.answer)
+                if answer[:2] not in ((Reply.REFUSED, 44), (Reply.REFUSED, 46)):  # use another connection
+                    return answer
+                self.close()
+                why: object = answer
+            except (OSError, Unanswered) as failed:
+                self.close()
+                if isinstance(failed, PermissionError) or isinstance(failed, Unanswered) and not again:
+                    raise
+                why = failed
+            if time.monotonic() + pause > until:
+                raise Unreachable(f"{self._path}: {why}")
+            time.sleep(pause)
+            pause = min(2 * pause, 5)
+
+    def _connect(self) -> None:
+        self._stream, self._number = socket.socket(socket.AF_UNIX, socket.SOCK_STREAM), 0
+        self._stream.settimeout(self._limits.connect)
+        self._stream.connect(self._path)
+        try:
+            # a frame that is refused: its answer says that a worker is there
+            self._exchange(b"\0\0\0\1\0", self._limits.worker)
+        except Unanswered as why:
+            raise ConnectionError(f"no worker: {why}") from why
+
+    def _exchange(self, frame: bytes, limit: float) -> Answer:
+        """The answer to a frame: an OSError if that was not sent whole, Unanswered if it was."""
+        self._stream.settimeout(self._limits.send)
+        self._stream.sendall(frame)
+        self._stream.settimeout(limit)
+        try:
+            number, answer = decode(self._read(min(int.from_bytes(self._read(4), "big"), LONGEST_FRAME)))
+            if number != self._number:
+                raise ValueError(f"an answer to request {number}, not {self._number}")
+        except (OSError, ValueError) as why:
+            raise Unanswered(str(why)) from why
+        self._number += 1
+        return answer
+
+    def _read(self, size: int) -> bytes:
+        got = b""
+        while len(got) < size:
+            got += (more := self._stream.recv(size - len(got)))
+            if not more:
+                raise ConnectionError("the connection ended")
+        return got

@@ -18,9 +18,9 @@ import tempfile
 import time
 from pathlib import Path
 
-from tests.support.running import ROOT, example_module, program
+from tests.support.running import ROOT, program
+from vectors import frames
 
-frames = example_module("frames")
 
 CLIENTS, RUNS, LOG = (1, 4, 16), 5, 100  # a log has so many outcomes
 HEARD = b"550 5.1.1 <no.bob>: no such user here"

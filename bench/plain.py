@@ -1,4 +1,4 @@
-"""The same notices by the plain reading of docs/FORMATS.md that the fuzzers use: reads request frames from standard
+"""The same notices by the plain reading of the manual pages that the fuzzers use: reads request frames from standard
 input and writes the outbox. `make bench` runs it beside `noticed batch`, and compares what both write."""
 import sys
 

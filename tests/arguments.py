@@ -4,23 +4,25 @@ unusual correct ones, the help and the version."""
 import re
 
 from tests.support.faults import fault_line
-from tests.support.running import EXAMPLES, ROOT, Checks, Ran, empty_outbox, run
+from tests.support.running import ROOT, VECTORS, Checks, Ran, empty_outbox, run
 
 FAULT_CODES = ROOT / "crates/dsn_text/src/fault_code.rt"
 
 USAGE = (
     b"usage: noticed batch HOST"
-    b" | serve [--config FILE] [--inherited] [[--journal FOLDER] --outbox PATH] [--release-closed] [--logs N] [--entries N] [--idle SECONDS] [--end-on-fault] [--log] SOCKET HOST AGENTS MAX-USE"
+    b" | serve [--config FILE] [--inherited] [[--journal FOLDER] --outbox PATH | --journal FOLDER --hand-in HAND-IN [--give-up SECONDS]] [--release-closed] [--logs N] [--entries N] [--idle SECONDS] [--end-on-fault] [--log] SOCKET HOST AGENTS MAX-USE"
     b" | stop SOCKET | send SOCKET | status [--open|--prometheus] SOCKET"
     b" | discard SOCKET SERVICE ID | forget SOCKET SERVICE ID | journal FOLDER"
     b" | hand-in [--done FILE] [--give-up SECONDS] HAND-IN"
     b" | postfix [--lifetime SECONDS] [--bounce-size-limit BYTES] [--double-bounce ADDRESS]"
     b" [--hash-queue-names NAMES]"
-    b" [--hash-queue-depth DEPTH] [--inherited] QUEUE-FOLDER HOST HAND-IN\n"
+    b" [--hash-queue-depth DEPTH] [--inherited] QUEUE-FOLDER HOST HAND-IN"
+    b" | preview [OPTIONS] QUEUE-FOLDER HOST ID\n"
 )
 PATH = b"the path of the socket must have 1 to 107 bytes\n"
 HOST = "mx.example.net"
 SOCKET = "/nonexistent/noticed.socket"
+JOURNAL = ["--journal", "/nonexistent"]
 QUEUE, HAND_IN = "/nonexistent/queue", "127.0.0.1:10025"
 
 WRONG = {
@@ -82,6 +84,21 @@ WRONG = {
     ],
     "serve with an option and no socket": ["serve", "--end-on-fault", "--log", HOST, "2"],
     "serve with a journal and no outbox": ["serve", "--journal", "/nonexistent", SOCKET, HOST, "2", "1"],
+    **{
+        f"serve with {what}": ["serve", *words, SOCKET, HOST, "2", "1"]
+        for what, words in {
+            "a mail server and no journal": ["--hand-in", "127.0.0.1:25"],
+            "a mail server and an outbox": [*JOURNAL, "--hand-in", "127.0.0.1:25", "--outbox", "/nonexistent/o"],
+            "a mail server without a port": [*JOURNAL, "--hand-in", "127.0.0.1"],
+            "a mail server with the port 0": [*JOURNAL, "--hand-in", "127.0.0.1:0"],
+            "a mail server that is a name": [*JOURNAL, "--hand-in", "mx.example.net:25"],
+            "a mail server whose path is too long": [*JOURNAL, "--hand-in", "/" + "s" * 107],
+            "two mail servers": [*JOURNAL, "--hand-in", "127.0.0.1:25", "--hand-in", "127.0.0.1:25"],
+            "a time to give up, and no mail server": [*JOURNAL, "--outbox", "/nonexistent/o", "--give-up", "1"],
+            "a time to give up of 0": [*JOURNAL, "--hand-in", "127.0.0.1:25", "--give-up", "0"],
+            "a time to give up that is too long": [*JOURNAL, "--hand-in", "127.0.0.1:25", "--give-up", "8640001"],
+        }.items()
+    },
     "serve with two journals": [
         "serve",
         "--journal",
@@ -147,6 +164,11 @@ WRONG = {
     "journal with a word too many": ["journal", "/nonexistent", HOST],
     "journal with an empty word too many": ["journal", "/nonexistent", ""],
     "journal with a folder that is no UTF-8": ["journal", b"/\xff"],
+    "preview with nothing": ["preview"],
+    "preview without ID": ["preview", QUEUE, HOST],
+    "preview with a bad id": ["preview", QUEUE, HOST, "A-1"],
+    "preview with a mail server": ["preview", QUEUE, HOST, "A1", "127.0.0.1:25"],
+    "preview with --inherited": ["preview", "--inherited", QUEUE, HOST, "A1"],
     "postfix with nothing": ["postfix"],
     "postfix with a folder": ["postfix", QUEUE],
     "postfix without HAND-IN": ["postfix", QUEUE, HOST],
@@ -194,7 +216,6 @@ NO_HAND_INS = [
     "127.1:25",
     "127.0.0.256:25",
     "0127.0.0.1:25",
-    "localhost:25",
     "mx.example.net:25",
     "::1:25",
     "[::1]",
@@ -283,11 +304,11 @@ REASONS = {
     b"error: MAX-USE must be 1 to 1000000, not '01'": ["serve", SOCKET, HOST, "1", "01"],
     b"error: idle must be 1 to 86400, not '5m'": ["serve", "--idle", "5m", SOCKET, HOST, "1", "1"],
     b"error: HOST must be 1 to 255 letters, digits, dots and hyphens, not 'a_b'": ["batch", "a_b"],
-    b"error: HAND-IN must be an IP address with a port, or a path of at most 107 bytes, not 'localhost:25'": [
+    b"error: HAND-IN must be an IP address or localhost with a port, or a path of at most 107 bytes, not 'mx.example.net:25'": [
         "postfix",
         QUEUE,
         HOST,
-        "localhost:25",
+        "mx.example.net:25",
     ],
     b"error: an argument is not UTF-8": ["batch", b"\xff"],
     b"error: unexpected argument '--hlep' found": ["batch", "--hlep"],
@@ -342,7 +363,7 @@ def main():
     checks = Checks(
         "arguments: status 2, the reason and the usage line for wrong ones; odd ones that are right run; help"
     )
-    given = (EXAMPLES / "one-bounce.frames").read_bytes()
+    given = (VECTORS / "one-bounce.frames").read_bytes()
     wrong = dict(WRONG)
     wrong |= {f"{it!r} agents": ["serve", SOCKET, HOST, it, "1"] for it in NO_AGENTS}
     wrong |= {f"{it!r} connections": ["serve", SOCKET, HOST, "2", it] for it in NO_USES}

@@ -1,7 +1,7 @@
-"""What a reader must believe of a contract is what its words mean: the definitions of specs/ that it names, and those
-that these name. This script finds them. A definition that some public contract reaches is outside specs/inner/, and
-one that none reaches is within it. `python3 -m tests.believed --write` writes docs/READING.md: how many lines these
-are, and in which order to read them. `python3 -m tests.believed CRATE::CALL` prints the order for one public call."""
+"""A contract says no more than its definitions: those of specs/ that it names, and those that these name. This script
+finds them. A definition that some public contract reaches is outside specs/inner/, and one that none reaches is within
+it. `python3 -m tests.believed CRATE::CALL` prints which definitions to read for one public call, in order, with their
+lines; `python3 -m tests.contracts` prints them for the theorem."""
 import re
 import sys
 from dataclasses import dataclass
@@ -20,13 +20,12 @@ from tests.support.definitions import (
 from tests.support.definitions import MEMBER
 from tests.support.running import ROOT, Checks
 
-PAGE = ROOT / "docs/READING.md"
 TESTS = {"dsn_fakes", "dsn_bytes_tests", "dsn_crew_tests", "noticed_lib_tests", "probe", "noticed"}
 DATA = re.compile(r"^ *(?:pub )?data ")
 GENERATED = re.compile(r"Rattle\.(\w+)\.specs\.(?:declared|contracts)\.(.*)$")
 # What holds of a lane at each moment of a run: the theorem is about that too, though nobody outside the crate names it.
 LANE_RULE = ("impl", "dsn_crew", "LaneRule")
-# What the rows of the page's table are about: some words, and the public calls and types whose contracts they are.
+# What the rows of the table are about: some words, and the public calls and types whose contracts they are.
 ROWS = [
     ("`run_crew`: the concurrency theorem", ["dsn_crew::run_crew", "dsn_crew::LaneRule"]),
     ("`run_crew_over`: the same over a journal", ["dsn_crew::run_crew_over", "dsn_crew::LaneRule"]),
@@ -37,26 +36,27 @@ ROWS = [
         "`serve`, `serve_watched`, `serve_journaled`",
         ["noticed_lib::serve", "noticed_lib::serve_watched", "noticed_lib::serve_journaled"],
     ),
+    (
+        "`serve_submitting`, with the laws of a mail outlet",
+        [
+            "noticed_lib::serve_submitting",
+            "dsn_hand_in::outlet_keeps_letters",
+            "dsn_hand_in::only_deeds_settle",
+            "dsn_hand_in::crashes_count_only_settled",
+        ],
+    ),
     ("`answer_client`: one request of Postfix's programs", ["dsn_postfix_service::answer_client"]),
 ]
-TEXT = """# What must be believed
-
-A contract says no more than its definitions. To trust a proved call, read its contract, and compare the definitions
-that it names with the RFCs and with docs/FORMATS.md. Nobody has to read `proofs/`, which the prover checks, nor
-`specs/inner/`, which only private functions, proofs and the invariants of types name: an invariant is proved of each
-value. `tests/believed.py` writes this page and keeps it true; `python3 -m tests.believed CRATE::CALL` prints the order
-for another call.
-
-The theorem (docs/THEOREM.md) takes {theorem:,} lines. All public contracts take {public:,} of the {all:,} lines of
-definitions. Imports and comments aren't counted.
+TEXT = """The theorem takes {theorem:,} lines. All public contracts take {public:,} of the {all:,} lines of definitions.
+Imports and comments aren't counted, nor are the kit's definitions (`Rattle.std`, `mathlib`, `lib`), which are trusted.
+"This project's profile" is noticed-protocol(5).
 
 | From the contract of | Definitions | Lines | Modules |
 |---|---|---|---|
 {rows}
 
-## The order for `run_crew`
-
-Each module comes after those that it uses.
+The order for `run_crew`: each module comes after those that it uses. `python3 -m tests.believed CRATE::CALL` prints it
+for another call.
 
 {order}
 """
@@ -241,7 +241,7 @@ def order(graph: Graph, found: set) -> list:
 
 
 def page(graph: Graph) -> str:
-    """The text of docs/READING.md."""
+    """What is believed of the calls of ROWS, and the order for the first of them."""
     found = {words: graph.reached(set().union(*map(graph.called, calls))) for words, calls in ROWS}
     every = graph.reached(graph.public)
     theorem = found[ROWS[0][0]]
@@ -261,9 +261,6 @@ def page(graph: Graph) -> str:
 
 def main():
     graph = Graph()
-    if sys.argv[1:] == ["--write"]:
-        PAGE.write_text(page(graph))
-        return
     if sys.argv[1:]:
         print("\n".join(order(graph, graph.reached(set().union(*map(graph.called, sys.argv[1:]))))))
         return
@@ -275,7 +272,6 @@ def main():
             is_inner = module.split(".")[3] == "inner"
             said = f"{shown(module)}: {name} is named by {'no' if is_inner else 'a'} public contract"
             checks.true(said, (node in believed) != is_inner)
-    checks.equal("docs/READING.md, written by `python3 -m tests.believed --write`", PAGE.read_text(), page(graph))
     checks.done()
 
 

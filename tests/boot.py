@@ -1,6 +1,7 @@
-"""Boots a real systemd in a container, does there what docs/DEPLOY.md has a new administrator do, and checks what comes
-of it: the units start where nothing is there, an agent's account gets its notice made and can't read it, runs follow
-one another, a stop and a reboot are orderly, and a daemon that can't start isn't tried too often.
+"""Boots a real systemd in a container, where `make install` was done, runs each of root's commands of the installed
+operating.md there, and checks their results: the units start where nothing is there, an agent's account gets its notice
+made and can't read it, runs follow one another, a stop and a reboot are orderly, and a daemon that can't start isn't
+tried too often. A small mail server in the container gets each notice once, over all of that.
 
     make boot
     NOTICED=/path/to/noticed python3 -m tests.boot FOLDER
@@ -9,7 +10,6 @@ It needs root and Debian's packages systemd-container and debootstrap. FOLDER is
 it the first time, in a minute or two and 300 MB (`make boot` has it in /var/cache/noticed-boot). A run takes about a
 minute, on an overlay over FOLDER, which it leaves as it is. Without a FOLDER, as in `make check`, it boots nothing.
 tests/unit.py takes the unit's steps without systemd."""
-import os
 import re
 import signal
 import subprocess
@@ -18,26 +18,50 @@ import time
 from pathlib import Path
 
 from tests.support.daemon_and_clients import FRAMES, NOTES, OUTBOX, append, flush, frames
+from tests.support.page import Page
 from tests.support.running import ROOT, Checks, program
-from tests.support.system import Container, base_system, deploy_block, lacking, until
+from tests.support.system import Container, base_system, lacking, until
 
 TOOLS = {"systemd-nspawn": "systemd-container", "debootstrap": "debootstrap", "nsenter": "util-linux", "make": "make"}
 PATIENCE = 60  # seconds that one step in the container may take
 CONNECTIONS = 10_000  # clients that ask nothing
-INSTALLED = "/usr/local/libexec/noticed"
-SOCKET, OUTBOXES = "/run/noticed/socket", "/var/lib/noticed"
-MODES = [f"{mode} noticed noticed" for mode in ("drwxr-x---", "srw-rw----", "drwx------", "-rw-------")]
-# A submission program that goes on with a delivery of its own after it has ended, as exim does.
-SENDMAIL = """#!/bin/sh
-cat > /var/lib/noticed/handed-in.part && mv /var/lib/noticed/handed-in.part /var/lib/noticed/handed-in
-(
-    sleep 3
-    echo > /home/delivered/home
-    echo > /usr/local/delivered/usr
-    echo > /tmp/delivered
-) < /dev/null > /dev/null 2>&1 &
+PAGE = "/usr/local/share/doc/noticed/operating.md"
+SOCKET, STATE = "/run/noticed/socket", "/var/lib/noticed"
+KEPT, TAKEN = f"{STATE}/journal/refused", "/var/spool/sink"
+MODES = [f"{mode} noticed noticed" for mode in ("drwxr-x---", "srw-rw----", "drwx------", "drwx------", "-rw-------")]
+# The mail server of the container: each message that it takes is a file, of the recipient's line and the message.
+SINK = f"""
+import os
+import socketserver
+import time
+
+
+class Sink(socketserver.StreamRequestHandler):
+    def handle(self):
+        self.wfile.write(b"220 sink\\r\\n")
+        for line in self.rfile:
+            word = line[:4].upper()
+            if word == b"RCPT":
+                to = line
+            if word == b"DATA":
+                self.wfile.write(b"354 go on\\r\\n")
+                text = b"".join(iter(self.rfile.readline, b".\\r\\n"))
+                name = "{TAKEN}/%d" % time.time_ns()
+                with open(name + ".part", "wb") as it:
+                    it.write(to + text)
+                os.rename(name + ".part", name)
+            self.wfile.write(b"250 ok\\r\\n")
+
+
+socketserver.ThreadingTCPServer.allow_reuse_address = True
+with socketserver.ThreadingTCPServer(("127.0.0.1", 25), Sink) as it:
+    it.serve_forever()
 """
-DELIVERED = ("/home/delivered/home", "/usr/local/delivered/usr", "/tmp/delivered")
+SINK_UNIT = """[Service]
+ExecStart=/usr/bin/python3 /usr/local/libexec/sink.py
+[Install]
+WantedBy=multi-user.target
+"""
 USE_UP = f"""
 import socket
 for _ in range({CONNECTIONS}):
@@ -60,26 +84,41 @@ def open_log(number: int) -> bytes:
 
 
 class Machine(Container):
-    """A container in which the daemon's unit is installed."""
+    """A container in which the daemon's unit is installed, and the page whose commands it runs."""
+
+    page = None
+
+    def shell(self, command: str) -> subprocess.CompletedProcess:
+        """Runs commands of a page, as root's shell does."""
+        return self.run("sh", "-c", f"set -e\n{command}")
 
     def sent(self, given: bytes, account="agent") -> bytes:
         """What `noticed send` answers an account of the container."""
         return self.run("runuser", "-u", account, "--", "noticed", "send", SOCKET, given=given).stdout
 
     def modes(self) -> list:
-        """The modes and owners of the socket, the outbox and their folders."""
-        return self.said(
-            "stat", "--format=%A %U %G", "/run/noticed", SOCKET, OUTBOXES, f"{OUTBOXES}/outbox"
-        ).splitlines()
+        """The modes and owners of the socket, the journal, what it keeps of refused notices, and their folders."""
+        names = ("/run/noticed", SOCKET, STATE, f"{STATE}/journal", KEPT)
+        return self.said("stat", "--format=%A %U %G", *names).splitlines()
 
-    def outbox(self) -> bytes:
-        """The outbox that grows, as far as it has come."""
-        path = self.file(f"{OUTBOXES}/outbox")
-        return path.read_bytes() if path.exists() else b""
+    def taken(self, queue_id: bytes) -> list:
+        """The messages that the mail server has about a message, each with its recipient's line."""
+        names = sorted(self.file(TAKEN).glob("*[0-9]"))
+        return [it for it in (name.read_bytes() for name in names) if b"\nMessage-ID: <B.%s." % queue_id in it]
 
-    def outboxes(self) -> list:
-        """The outboxes of runs before, in their order."""
-        return [it.read_bytes() for it in sorted(self.file(OUTBOXES).glob("outbox.*"))]
+    def gets(self, queue_id: bytes, patience: float = 15) -> bool:
+        """Waits until the mail server has the notice about a message, and it is marked: then nothing submits it
+        again."""
+        return until(lambda: self.taken(queue_id) and self.marks()[0] == self.marks()[1], patience)
+
+    def marks(self) -> list:
+        """How many notices are marked, and how many were sealed."""
+        said = self.said("runuser", "-u", "noticed", "--", "noticed", "journal", f"{STATE}/journal")
+        return re.findall(r"^(?:marked|sealed) (\d+)$", said, re.M) or ["0", "1"]
+
+    def runs(self) -> int:
+        """How many runs of the daemon have begun."""
+        return self.said("journalctl", "--unit=noticed", "--output=cat").count("listening on ")
 
     def listens(self) -> bool:
         """Waits until an agent's account can connect, which takes one of the daemon's connections."""
@@ -90,40 +129,40 @@ class Machine(Container):
         return self.said("systemctl", "show", "--value", f"--property={key}", "noticed")
 
 
+def make_install(it: Machine):
+    """`make install` into the container."""
+    words = ["make", "install", "--silent", f"--old-file={program()}", f"BUILT={program()}", f"DESTDIR={it.root}"]
+    subprocess.run([*words, "PREFIX=/usr/local"], cwd=ROOT, stdout=subprocess.DEVNULL, check=True)
+
+
 def install(it: Machine):
-    """`make install`, and the steps of docs/DEPLOY.md up to the start of the units, as they stand there."""
-    words = [
-        "make",
-        "--silent",
-        f"--old-file={program()}",
-        "install",
-        f"BUILT={program()}",
-        f"DESTDIR={it.root}",
-        "PREFIX=/usr/local",
-    ]
-    subprocess.run(words, cwd=ROOT, stdout=subprocess.DEVNULL, check=True)
+    """The commands of the page up to the start of the units; and the mail server."""
+    make_install(it)
+    it.page = Page(str(it.file(PAGE)))
+    it.page.take("make install")
     for name in ("agent", "stranger"):
         it.run("useradd", "--system", name).check_returncode()
-    steps = deploy_block("systemd-sysusers ").replace("AGENT", "agent") + deploy_block("editor /etc/noticed")
-    steps = steps.replace("editor ", "test -w ").partition(" && systemctl enable")[0]
-    it.run("sh", "-c", f"set -e\n{steps}").check_returncode()
-    for name in DELIVERED[:2]:
-        it.run("mkdir", "--mode=777", os.path.dirname(name)).check_returncode()
-    it.file("/usr/sbin/sendmail").write_text(SENDMAIL)
-    it.file("/usr/sbin/sendmail").chmod(0o755)
+    steps = it.page.take("systemd-sysusers ", "usermod ", "editor ").replace("CLIENT", "agent")
+    it.shell(steps.replace("editor ", "test -w ")).check_returncode()
+    it.run("mkdir", "--parents", TAKEN).check_returncode()
+    it.file("/usr/local/libexec/sink.py").write_text(SINK)
+    it.file("/etc/systemd/system/sink.service").write_text(SINK_UNIT)
+    it.run("systemctl", "daemon-reload")
+    it.run("systemctl", "enable", "--now", "sink").check_returncode()
 
 
 def check_first_start(checks: Checks, it: Machine):
     """The unit comes up where nothing is there, and an agent's account has a notice made that it can't read."""
-    checks.equal("systemctl start", it.run("systemctl", "start", "noticed.socket", "noticed").stderr, b"")
-    checks.equal("the start was over once it served", it.sent(b""), b"")
+    steps = it.page.take("systemctl enable", "noticed status /")
+    checks.equal("the start was over once it served", it.shell(steps).returncode, 0)
     checks.equal("systemctl is-active", it.said("systemctl", "is-active", "noticed"), "active")
     checks.equal("modes and owners", it.modes(), MODES)
     checks.equal("an agent's answers", it.sent(FRAMES), NOTES)
-    notice = OUTBOX.removesuffix(b"QUIT\r\n")
-    checks.true("the notice stands in the outbox", until(lambda: it.outbox() == notice, 10))
+    checks.true("the mail server gets the notice", it.gets(b"A1B2C3"))
+    text = OUTBOX.partition(b"RCPT TO:")[2].replace(b"DATA\r\n", b"", 1).partition(b"\r\n.\r\n")[0]
+    checks.equal("byte for byte", it.taken(b"A1B2C3"), [b"RCPT TO:" + text + b"\r\n"])
     checks.equal("an account that isn't in the group", it.sent(FRAMES, "stranger"), b"")
-    for command in (f"cat {OUTBOXES}/outbox", f"ls {OUTBOXES}", f"rm {SOCKET}", f"noticed stop {SOCKET}"):
+    for command in (f"cat {KEPT}", f"ls {STATE}", f"rm {SOCKET}", f"noticed stop {SOCKET}"):
         checks.true(
             f"an agent can't {command}", it.run("runuser", "-u", "agent", "--", *command.split()).returncode != 0
         )
@@ -136,32 +175,73 @@ def check_next_run(checks: Checks, it: Machine):
     checks.equal("empty connections", it.run("runuser", "-u", "agent", "--", "python3", "-c", USE_UP).stderr, b"")
     checks.equal("the log stands", it.sent(open_log(0)), b"0 logged 1\n")
     checks.equal("the unit wasn't started anew", it.shows("NRestarts"), "0")
-    before = len(it.outboxes())
+    it.run("systemctl", "stop", "sink")
+    checks.equal("an agent's answers without a mail server", it.sent(renamed(b"WAITS")), NOTES)
+    before = it.runs()
     it.run("systemctl", "restart", "--no-block", "noticed")
     checks.equal("an agent's answer over a restart", it.sent(open_log(0)), b"0 logged 2\n")
-    checks.true("the next run has an outbox of its own", until(lambda: len(it.outboxes()) > before, 10))
+    checks.true("the next run has begun", until(lambda: it.runs() > before, 10))
+    said = it.said("journalctl", "--unit=noticed", "--output=cat").splitlines()
+    checks.true("a line says that it waits", "notices waiting for the mail server: 1" in said)
+    it.run("systemctl", "start", "sink")
+    checks.true("once the mail server is there it comes", it.gets(b"WAITS", 30))
 
 
 def check_by_hand(checks: Checks, it: Machine):
-    """Messages by hand, as docs/DEPLOY.md has them; and `noticed stop`, after which the next run begins at once."""
-    for start in (f"$ python3 {INSTALLED}/frames.py - <<'END'", "$ cat > mine.requests <<'END'"):
-        typed, _, answers = deploy_block(start).rpartition("\n0 ")
-        script = re.sub(r"^\$ ", "", typed, flags=re.M).replace("A1B2C3", "HAND")  # a key that isn't closed in this run
-        checks.equal(
-            f"by hand: {start}",
-            it.said("runuser", "-u", "agent", "--", "sh", "-c", f"cd /tmp\n{script}\n"),
-            f"0 {answers}".strip(),
-        )
-    before = len(it.outboxes())
+    """A message by hand, a log that is closed by hand, and what the page has to watch; and `noticed stop`, after which
+    the next run begins at once."""
+    typed = "".join(command.text for command in it.page.commands if command.prompt == "$")
+    typed = typed.replace("A1B2C3", "HAND")  # a key that isn't closed in this run
+    said = it.said("runuser", "-u", "agent", "--", "sh", "-c", f"cd /tmp\n{typed}")
+    checks.equal("by hand", said, "0 logged 0\n1 sealed 1")
+    checks.true("its notice comes", it.gets(b"HAND"))
+    it.sent(frames.forget(0, 1, b"A1B2C3") + append(1, b"A1B2C3"))
+    ran = it.shell(it.page.take("noticed discard ", "noticed forget "))
+    words = [it.partition(b":")[0] for it in ran.stdout.splitlines()]
+    checks.equal("a log that is closed by hand", (ran.returncode, words), (0, [b"discarded 1", b"forgotten"]))
+    starts = ("noticed status /", "noticed status --open", "noticed status --prom", "journalctl ", "noticed journal /")
+    for start in starts:
+        ran = it.shell(it.page.take(start))
+        checks.true(f"to watch: {start}: {ran.stderr}", not ran.returncode and ran.stdout)
+    before = it.runs()
     checks.equal("noticed stop", it.run("runuser", "-u", "noticed", "--", "noticed", "stop", SOCKET).returncode, 0)
-    checks.true("the next run begins at once", until(lambda: len(it.outboxes()) > before, 5) and it.listens())
+    checks.true("the next run begins at once", until(lambda: it.runs() > before, 5) and it.listens())
+
+
+def check_refused(checks: Checks, it: Machine):
+    """A notice that was refused is submitted again by the page's commands."""
+    it.run("systemctl", "stop", "noticed.socket", "noticed")
+    letter = OUTBOX.partition(b"\r\n")[2].removesuffix(b"QUIT\r\n").replace(b"A1B2C3", b"KEPT")
+    it.file(KEPT).write_bytes(b"NOOP 550 no\r\n" + letter)
+    checks.equal("submitted again", it.shell(it.page.take("cd /var/lib", "{ ")).returncode, 0)
+    checks.equal("the mail server has it", len(it.taken(b"KEPT")), 1)
+    it.shell(f"cd {STATE}/journal; : > refused; rm again again.refused").check_returncode()
+    it.run("systemctl", "start", "noticed.socket", "noticed")
+
+
+def check_kept(checks: Checks, it: Machine):
+    """A backup, a longer journal, and an upgrade: an open log stands over these."""
+    checks.equal("an outcome", it.sent(open_log(2)), b"0 logged 0\n")
+    it.run("mkdir", "/root/backup")
+    ran = it.shell(it.page.take("cp -p ", "noticed journal BACKUP").replace("BACKUP", "/root/backup"))
+    checks.true(f"a backup: {ran.stderr}", not ran.returncode and b"open D OPEN2 1\n" in ran.stdout)
+    size = it.file(f"{STATE}/journal/journal").stat().st_size
+    ran = it.shell(it.page.take("systemctl stop ", "head -c ", "systemctl start "))
+    checks.equal("a longer journal", (ran.returncode, ran.stderr), (0, b""))
+    checks.equal("its size", it.file(f"{STATE}/journal/journal").stat().st_size, size + 2**26)
+    it.page.take("make install")
+    make_install(it)
+    ran = it.shell(it.page.take("systemctl daemon-reload && systemctl restart"))
+    checks.equal("an upgrade", (ran.returncode, ran.stderr), (0, b""))
+    checks.equal("the log stands", it.sent(open_log(2)), b"0 logged 1\n")
+    it.page.all_run(checks, "#")
 
 
 def check_run_file(checks: Checks, it: Machine):
-    """The `run` file of docs/DEPLOY.md, without systemd: a first start where nothing is there, and an orderly stop."""
-    it.run("systemctl", "stop", "noticed.socket", "noticed", "noticed-feed")
-    it.run("rm", "-rf", "/run/noticed", OUTBOXES)
-    it.file("/root/run").write_text(deploy_block("#!/bin/sh\nexec 2>&1\ninstall "))
+    """The `run` file of the page, without systemd: a first start where nothing is there, and an orderly stop."""
+    it.run("systemctl", "stop", "noticed.socket", "noticed")
+    it.run("rm", "-rf", "/run/noticed", STATE)
+    it.file("/root/run").write_text(it.page.file("#!/bin/sh\n"))
     words = ["nsenter", f"--target={it.leader()}", "--all", "--", "sh", "-c", "echo $$ > /root/pid; exec sh /root/run"]
     with subprocess.Popen(words, stdin=subprocess.DEVNULL, stdout=subprocess.PIPE) as running:
         try:
@@ -169,33 +249,34 @@ def check_run_file(checks: Checks, it: Machine):
             checks.equal(
                 "the run file: modes and owners", it.modes(), [MODES[0], "srwxrwx--- noticed noticed", *MODES[2:]]
             )
-            checks.equal("the run file: an agent's answers", it.sent(FRAMES), NOTES)
+            checks.equal("the run file: an agent's answers", it.sent(renamed(b"RUNFILE")), NOTES)
+            checks.true("the run file: the notice comes", it.gets(b"RUNFILE"))
         finally:
             it.run("noticed", "stop", SOCKET)
         notes = running.communicate(timeout=PATIENCE)[0]
-    checks.equal("the run file: an orderly stop", (running.returncode, it.outbox()), (0, OUTBOX))
-    checks.true("the run file: its notes", b"notice B.A1B2C3.0 to " in notes)
+    checks.equal("the run file: an orderly stop", running.returncode, 0)
+    checks.true("the run file: its lines", b"notice B.RUNFILE.0 to <ann@example.com> accepted: 250 ok\n" in notes)
 
 
 def check_killed(checks: Checks, it: Machine):
-    """A daemon that was killed is started anew, with an outbox of its own, and nothing that was answered is lost."""
+    """A daemon that was killed is started anew, and nothing that was answered is lost."""
     checks.equal("an agent's answers before the daemon is killed", it.sent(renamed(b"KILLED")), NOTES)
     checks.equal("an outcome that nobody flushes", it.sent(open_log(1)), b"0 logged 0\n")
-    checks.true("the outbox has something", until(it.outbox, 10))
-    before = len(it.outboxes())
+    checks.true("its notice comes", it.gets(b"KILLED"))
+    it.run("systemctl", "stop", "sink")
+    checks.equal("answers without a mail server, before the kill", it.sent(renamed(b"UNSENT")), NOTES)
     it.run("systemctl", "kill", "--signal=KILL", "noticed")
     checks.equal("the log is kept", it.sent(open_log(1)), b"0 logged 1\n")
-    checks.true("the outbox is a new one", until(lambda: len(it.outboxes()) > before, 30))
+    it.run("systemctl", "start", "sink")
+    checks.true("the notice that waited comes", it.gets(b"UNSENT", 30))
 
 
 def check_stop(checks: Checks, it: Machine):
-    """`systemctl stop` is orderly: the outbox has its QUIT, and what is open is named."""
-    before = it.outbox()
+    """`systemctl stop` is orderly: what is open is named."""
     began = time.monotonic()
     checks.equal("systemctl stop", it.run("systemctl", "stop", "noticed.socket", "noticed").returncode, 0)
     checks.true("it took no long time", time.monotonic() - began < 10)
     checks.equal("the unit's result", (it.shows("Result"), it.shows("ActiveState")), ("success", "inactive"))
-    checks.true("the outbox has its QUIT", it.outbox().endswith(b"QUIT\r\n") and it.outbox().startswith(before))
     checks.true(
         "the journal names what is open",
         "open D OPEN1 2" in it.said("journalctl", "--unit=noticed", "--output=cat").splitlines(),
@@ -218,45 +299,27 @@ def check_wrong(checks: Checks, it: Machine):
 
 
 def check_reboot(checks: Checks, it: Machine):
-    """A reboot is orderly, and the daemon is there after it, with an outbox of its own; and the mode of its folder is
+    """A reboot is orderly, and the daemon is there after it, with the notice of before; and the mode of its folder is
     the unit's, also where it was another."""
-    checks.equal(
-        "systemctl enable", it.run("systemctl", "enable", "noticed.socket", "noticed", "noticed-feed").returncode, 0
-    )
+    checks.equal("systemctl enable", it.run("systemctl", "enable", "noticed.socket", "noticed").returncode, 0)
     checks.equal("an agent's answers before the reboot", it.sent(renamed(b"BEFORE")), NOTES)
-    before = len(it.outboxes())
-    it.run("chmod", "0755", OUTBOXES)
+    it.run("chmod", "0755", STATE)
     checks.true("the container is up again", it.reboot() and it.listens())
     checks.equal("the daemon after the reboot", it.said("systemctl", "is-active", "noticed"), "active")
-    outboxes = it.outboxes()
-    checks.equal("an outbox of before the reboot", len(outboxes) - before, 1)
-    checks.equal("the folder's mode", it.said("stat", "--format=%A", OUTBOXES), "drwx------")
+    checks.true("the notice of before the reboot comes", it.gets(b"BEFORE", 30))
+    checks.equal("the folder's mode", it.said("stat", "--format=%A", STATE), "drwx------")
     checks.equal(
         "units that failed", it.said("systemctl", "list-units", "--failed", "--plain", "--no-legend", "noticed*"), ""
     )
 
 
-def check_feeder(checks: Checks, it: Machine):
-    """The feeder's unit hands in what is sealed after the reboot. What the mail program goes on with isn't killed when
-    the unit is stopped, and has the machine's own files."""
+def check_each_once(checks: Checks, it: Machine):
+    """What is sealed after the reboot comes too; and no notice came twice, over all the runs before."""
     checks.equal("an agent's answers after the reboot", it.sent(renamed(b"AFTER")), NOTES)
-    checks.equal("the feeder after the reboot", it.said("systemctl", "is-active", "noticed-feed"), "active")
-    handed_in = it.file(f"{OUTBOXES}/handed-in")
-    checks.true(
-        "the notice is handed in", until(lambda: handed_in.exists() and b"<B.AFTER." in handed_in.read_bytes(), 15)
-    )
-    checks.true("what the mail program began is done, on the machine's own files", until(lambda: is_delivered(it), 15))
-    it.run("rm", *DELIVERED)
-    handed_in.unlink()
-    checks.equal("an agent's answers before the feeder is stopped", it.sent(renamed(b"LATER")), NOTES)
-    checks.true("the next notice is handed in", until(handed_in.exists, 15))
-    checks.equal("systemctl stop of the feeder", it.run("systemctl", "stop", "noticed-feed").returncode, 0)
-    checks.true("what the mail program began is done all the same", until(lambda: is_delivered(it), 15))
-
-
-def is_delivered(it: Machine) -> bool:
-    """Whether the mail program has done what it went on with."""
-    return it.run("ls", *DELIVERED).returncode == 0
+    checks.true("its notice comes", it.gets(b"AFTER"))
+    names = (b"A1B2C3", b"WAITS", b"HAND", b"KILLED", b"UNSENT", b"BEFORE", b"AFTER")
+    checks.equal("how often each came", {name: len(it.taken(name)) for name in names}, dict.fromkeys(names, 1))
+    checks.equal("none was refused", it.file(KEPT).read_bytes(), b"")
 
 
 def check_all(checks: Checks, it: Machine):
@@ -269,7 +332,9 @@ def check_all(checks: Checks, it: Machine):
         check_stop,
         check_wrong,
         check_reboot,
-        check_feeder,
+        check_each_once,
+        check_refused,
+        check_kept,
         check_run_file,
     )
     for check in parts:

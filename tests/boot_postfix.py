@@ -1,7 +1,7 @@
-"""Boots a real systemd in a container with Debian's Postfix, and does there what docs/DEPLOY.md has an administrator do
-to put `noticed postfix` in front of it: the first notice arrives, what can't be said comes from bounce(8), nothing is
-lost over a kill, a stop and a reboot, a main.cf that refuses everything keeps no notice out, and bounce(8) goes on with
-the logs that wait.
+"""Boots a real systemd in a container with Debian's Postfix, and runs there each command of docs/postfix.md, and those
+of README.md, to put `noticed postfix` in front of it: the first notice arrives, what can't be said comes from
+bounce(8), nothing is lost over a kill, a stop and a reboot, a main.cf that refuses everything keeps no notice out, and
+bounce(8) goes on with the logs that wait.
 
     NOTICED=/path/to/noticed python3 -m tests.boot_postfix FOLDER
 
@@ -13,19 +13,13 @@ import subprocess
 import sys
 from pathlib import Path
 
+from tests.support.page import Page
 from tests.support.running import HOST, ROOT, Checks, program
-from tests.support.system import Container, base_system, deploy_block, installed, lacking, until
+from tests.support.system import Container, base_system, installed, lacking, until
 
 TOOLS = {"systemd-nspawn": "systemd-container", "debootstrap": "debootstrap", "nsenter": "util-linux", "make": "make"}
 ANSWERS = f"postfix postfix/main_mailer_type select Internet Site\npostfix postfix/mailname string {HOST}\n"
 QUEUE = "/var/spool/postfix"
-STEPS = {
-    "entries": "postconf -M 127.0.0.1:10025/inet=",
-    "units": "cd /usr/local/lib/systemd/system\ncp noticed-postfix.socket",
-    "switch": "postconf -e bounce_service_name",
-    "test": "printf 'Subject: a test",
-    "back": "postconf -X bounce_service_name",
-}
 # Settings of main.cf each of which would keep a notice out, or change it.
 AGAINST = (
     "smtpd_milters=inet:127.0.0.1:9",
@@ -59,17 +53,36 @@ AGAINST = (
     f"always_bcc=copy@{HOST}",
 )
 HAND_IN = """
-import smtplib
+import smtplib, socket
+class Session(smtplib.SMTP):
+    def _get_socket(self, host, port, timeout):
+        stream = socket.socket(socket.AF_UNIX)
+        stream.connect(host)
+        return stream
 for to in ("root", "nosuch"):
-    with smtplib.SMTP("127.0.0.1", 10025, local_hostname="HOST") as server:
+    with Session("QUEUE/private/noticed-submit", 25, local_hostname="HOST") as server:
         server.sendmail("", [to + "@HOST"], "Subject: by hand\\r\\n\\r\\n" + 100 * "a notice\\r\\n")
 """.replace(
     "HOST", HOST
+).replace(
+    "QUEUE", QUEUE
 )
 
 
+def add_postfix(it: Container) -> str:
+    """Installs Debian's Postfix in a container that isn't booted yet: what failed."""
+    it.file("/root/answers").write_text(ANSWERS)
+    return (
+        installed(it, "debconf")
+        or it.inside("debconf-set-selections", "/root/answers").stdout
+        or installed(it, "postfix")
+    )
+
+
 class Machine(Container):
-    """A container with Postfix."""
+    """A container with Postfix, and the page whose commands it runs."""
+
+    page = Page("docs/postfix.md")
 
     def shell(self, command: str) -> subprocess.CompletedProcess:
         """Runs a command of a page, as root's shell does."""
@@ -107,31 +120,42 @@ class Machine(Container):
         )
 
 
-def check_steps(checks: Checks, it: Machine):
-    """DEPLOY's steps, as they stand there, from the entries of master.cf to the first notice."""
+def check_readme(checks: Checks, it: Machine):
+    """README's commands, to noticed and back: at first something is missing, and at last all is as it was."""
+    page, files = Page("README.md", "With Postfix"), ("/etc/postfix/main.cf", "/etc/postfix/master.cf")
     it.shell("postconf -e myhostname=mx.example.net").check_returncode()
-    checks.equal("the entries", it.shell(deploy_block(STEPS["entries"])).returncode, 0)
-    checks.equal("postfix check", it.shell("postfix check").stderr, b"")
-    checks.true("the entry listens", until(lambda: "127.0.0.1:10025" in it.said("ss", "-ltn"), 10))
-    checks.equal("the units", it.shell(deploy_block(STEPS["units"]).replace("editor ", "test -w ")).returncode, 0)
-    checks.true(
-        "it listens",
-        until(
-            lambda: f"listening in {QUEUE} for {HOST}"
-            in it.said("journalctl", "--unit=noticed-postfix", "--output=cat"),
-            10,
-        ),
-    )
-    checks.equal("the switch", it.shell(deploy_block(STEPS["switch"])).returncode, 0)
-    test, look = deploy_block(STEPS["test"]).strip().splitlines()
-    it.shell(test).check_returncode()
-    checks.true("the first notice arrives", until(lambda: "Final-Recipient: rfc822; nobody-there@" in it.mailbox()))
-    last = it.said("sh", "-c", look).splitlines()[-1]
-    found = re.search(r"postfix/bounce\[(\d+)\]: (\w+): sender non-delivery notification: \w+$", last)
-    checks.equal(f"its line: {last}", found and found[1], it.main_process())
-    checks.true("its Message-ID", found and f"Message-ID: <B.{found[2]}." in it.mailbox())
+    before = it.said("cat", *files)
+    starts = ("systemctl ", "noticed-postfix check", "noticed-postfix enable", "noticed-postfix test")
+    ends = [it.shell(page.take(start)).returncode for start in (*starts, "noticed-postfix disable")]
+    checks.equal("README's commands", ends, [0, 1, 0, 0, 0])
+    checks.equal("main.cf and master.cf", it.said("cat", *files), before)
+    page.all_run(checks, "#")
+
+
+def check_steps(checks: Checks, it: Machine):
+    """The page's steps, from Debian's Postfix to the first notice; a change of main.cf; an upgrade."""
+    starts = ("systemctl enable", "noticed-postfix enable", "noticed-postfix test")
+    ran = it.shell(it.page.take(*starts))
+    last = ran.stdout.decode().rstrip().rpartition("\n")[2]
+    checks.equal("the steps", (ran.returncode, last), (0, "right: notice to root in /var/mail/root"))
+    lines = it.said("journalctl", "--unit=noticed-postfix", "--output=cat")
+    checks.true("it listens", f"listening in {QUEUE} for {HOST}" in lines)
     checks.equal("postfix check", it.run("postfix", "check").stderr, b"")
+    checks.true("the first notice is there", "Final-Recipient: rfc822; refused@" in it.mailbox())
+    made = it.notices()[-1:]
+    checks.equal("its line", [process for process, _ in made], [it.main_process()])
+    checks.true("its Message-ID", made and f"Message-ID: <B.{made[0][1]}." in it.mailbox())
     checks.true("nothing is left", until(it.is_empty, 10))
+    it.shell("postconf -e maximal_queue_lifetime=6d").check_returncode()
+    checks.equal("a change of main.cf is seen", it.shell("noticed-postfix check").returncode, 1)
+    change = it.page.take("postfix reload", "systemctl restart noticed-postfix")
+    it.shell(change).check_returncode()
+    check = it.page.take("noticed-postfix check")
+    checks.true("and is in effect", until(lambda: not it.shell(check).returncode, 10))
+    upgrade = it.page.take("systemctl daemon-reload && systemctl restart")
+    it.shell(upgrade).check_returncode()
+    enable = it.page.take("noticed-postfix enable")
+    checks.true("an upgrade", until(lambda: not it.shell(enable).returncode, 10))
 
 
 def check_passed_on(checks: Checks, it: Machine):
@@ -196,18 +220,17 @@ def check_against(checks: Checks, it: Machine):
 
 def check_back(checks: Checks, it: Machine):
     """bounce(8) goes on with the logs that wait."""
-    it.shell("postconf -P 127.0.0.1:10025/inet/smtpd_client_restrictions=defer; postfix reload")
+    it.shell("postconf -P noticed-submit/unix/smtpd_client_restrictions=defer; postfix reload")
     it.shell(f"printf 'Subject: x\n\nx\n' | sendmail -f root@{HOST} waiting@{HOST}")
     checks.true("a log waits", until(lambda: it.said("find", f"{QUEUE}/bounce", "-type", "f")))
-    checks.equal("back", it.shell(deploy_block(STEPS["back"])).returncode, 0)
+    checks.equal("back", it.shell(it.page.take("noticed-postfix disable", "systemctl disable ")).returncode, 0)
+    it.page.all_run(checks, "#")
     checks.true("it is told", until(lambda: f"rfc822; waiting@{HOST}" in it.mailbox()))
     checks.true("nothing is left", until(it.is_empty, 10))
 
 
 def main():
-    checks = Checks(
-        "boot_postfix: docs/DEPLOY.md from Debian's Postfix to noticed and back, under a systemd of its own"
-    )
+    checks = Checks("boot_postfix: from Debian's Postfix to noticed and back, under a systemd of its own")
     if len(sys.argv) != 2:
         checks.skip("everything (name a FOLDER in which Debian's base system is made)")
         checks.done()
@@ -216,14 +239,7 @@ def main():
         checks.done()
     signal.signal(signal.SIGTERM, lambda *_: sys.exit(1))
     with Machine(base_system(Path(sys.argv[1]).resolve())) as it:
-        it.file("/root/answers").write_text(ANSWERS)
-        failed = (
-            installed(it, "debconf")
-            or it.inside("debconf-set-selections", "/root/answers").stdout
-            or installed(it, "postfix")
-            or installed(it, "iproute2")
-        )
-        checks.equal("Postfix is installed", failed, "")
+        checks.equal("Postfix is installed", add_postfix(it), "")
         words = [
             "make",
             "--silent",
@@ -235,7 +251,8 @@ def main():
         ]
         subprocess.run(words, cwd=ROOT, stdout=subprocess.DEVNULL, check=True)
         checks.true("the container boots", it.boot())
-        for check in (check_steps, check_passed_on, check_ends, check_before_postfix, check_against, check_back):
+        first, last = (check_readme, check_steps, check_passed_on), (check_before_postfix, check_against, check_back)
+        for check in (*first, check_ends, *last):
             failed = checks.failed
             check(checks, it)
             if checks.failed > failed:

@@ -1,6 +1,6 @@
 """Lets each read and each write of the program's devices fail in turn, by a small library that is preloaded
 (tests/support/fail.c, compiled here with gcc): with an error, interrupted, and as a write that takes no byte. What came
-before stands, what is lost is told, and nothing comes after, as a plain reading of docs/FORMATS.md has it. A daemon's
+before stands, what is lost is told, and nothing comes after, as a plain reading of the pages has it. A daemon's
 accept, or a read or write of its connections, that is interrupted is made again, and nobody sees it."""
 import errno
 import tempfile
@@ -13,9 +13,9 @@ from tests.support.formats import sessions
 from tests.support.formats.logs import REFUSED, Limits, Logs
 from tests.support.formats.notices import crlf, mail, outbox
 from tests.support.preloading import built, preloading
-from tests.support.running import EXAMPLES, HOST, Checks, Ran, batch, example_module
+from tests.support.running import HOST, VECTORS, Checks, Ran, batch
+from vectors import frames
 
-FRAMES = example_module("frames")
 FAILS = {"an error": errno.EIO, "an interruption": errno.EINTR, "a write that takes no byte": 0}
 MOST = 2000  # calls of a run; more than this and the sweep is broken
 
@@ -23,13 +23,13 @@ MOST = 2000  # calls of a run; more than this and the sweep is broken
 def messages() -> bytes:
     """Three messages that are flushed, the second with a letter of more than 64 KiB, and one that stays open."""
     header = 32 * (1023 * b"a" + b"\n")
-    made = [FRAMES.append(0, 1, b"K1", b"x@y", 1, b"5.0.0"), flush(1, b"K1")]
+    made = [frames.append(0, 1, b"K1", b"x@y", 1, b"5.0.0"), flush(1, b"K1")]
     made += [
-        FRAMES.append(it, 1, b"K2", b"x@y", 1, b"5.0.0", diagnostic=800 * b"d", reason=800 * b"r")
+        frames.append(it, 1, b"K2", b"x@y", 1, b"5.0.0", diagnostic=800 * b"d", reason=800 * b"r")
         for it in range(2, 26)
     ]
-    made += [flush(26, b"K2", header=header), FRAMES.append(27, 1, b"K3", b"x@y", 1, b"5.0.0")]
-    return b"".join([*made, flush(28, b"K3"), FRAMES.append(29, 1, b"K4", b"x@y", 1, b"5.0.0")])
+    made += [flush(26, b"K2", header=header), frames.append(27, 1, b"K3", b"x@y", 1, b"5.0.0")]
+    return b"".join([*made, flush(28, b"K3"), frames.append(29, 1, b"K4", b"x@y", 1, b"5.0.0")])
 
 
 def failing(library: Path, call: str, at: int, error: int, short: int = 0) -> dict:
@@ -39,7 +39,7 @@ def failing(library: Path, call: str, at: int, error: int, short: int = 0) -> di
 
 def check_reads(checks: Checks, library: Path):
     """Each read of the input, of one byte each, fails in turn: earlier frames are answered, and 14 is reported."""
-    given = (EXAMPLES / "one-bounce.frames").read_bytes()
+    given = (VECTORS / "one-bounce.frames").read_bytes()
     for about, error in list(FAILS.items())[:2]:
         for at in range(1, len(given) + 3):
             wanted = sessions.batch(HOST.encode(), given[: at - 1], broken=at <= len(given) + 1)
@@ -125,7 +125,7 @@ def expected(given: bytes, error: int, **fails):
 def check_connection(checks: Checks, library: Path):
     """Each read of a connection fails in turn, where each gives a byte, and each write of an answer: the session ends
     there, and what was logged and sealed stands. After an interruption it goes on."""
-    given = (EXAMPLES / "one-bounce.frames").read_bytes()
+    given = (VECTORS / "one-bounce.frames").read_bytes()
     for about, error in list(FAILS.items())[:2]:
         for at in range(1, len(given) + 3):
             reads = given if error == errno.EINTR else given[: at - 1]
@@ -144,7 +144,7 @@ def check_connection(checks: Checks, library: Path):
 def check_accept(checks: Checks, library: Path):
     """The first accept of a daemon fails: its agent accepts no more (61). After an interruption it does. The daemon's
     own socket has descriptor 4, behind the run's file; that of its status is accepted on, too."""
-    given = (EXAMPLES / "one-bounce.frames").read_bytes()
+    given = (VECTORS / "one-bounce.frames").read_bytes()
     checks.equal("an interrupted accept", serve(library, given, "accept:4", 1, errno.EINTR), served(given))
     with Daemon(1, 1, env=failing(library, "accept:4", 1, errno.EMFILE)) as daemon:
         notes = line(0, 0, 0) + socket_fault(daemon.path, "Too many open files (os error 24)")

@@ -1,5 +1,5 @@
 """Changes each byte of the first exchange to each other value, and compares what comes of it with a plain reading of
-docs/FORMATS.md: on standard input, and on connections to a daemon, one after another."""
+noticed-protocol(5): on standard input, and on connections to a daemon, one after another."""
 import os
 from concurrent.futures import ThreadPoolExecutor
 
@@ -7,7 +7,7 @@ from tests.support.daemon_and_clients import Daemon, conversation, line
 from tests.support.formats import sessions
 from tests.support.formats.logs import REFUSED, Limits, Logs
 from tests.support.formats.notices import outbox
-from tests.support.running import EXAMPLES, HOST, Checks, Ran, batch
+from tests.support.running import HOST, VECTORS, Checks, Ran, batch
 
 
 def changes(given: bytes) -> list:
@@ -53,7 +53,7 @@ def check_daemon(checks: Checks, changed: list):
 
 def main():
     checks = Checks("changed bytes: each byte of the first exchange as each other byte")
-    changed = changes((EXAMPLES / "one-bounce.frames").read_bytes())
+    changed = changes((VECTORS / "one-bounce.frames").read_bytes())
     check_batch(checks, changed)
     check_daemon(checks, changed)
     checks.done()

@@ -1,11 +1,11 @@
 """Checks the configuration file of `noticed serve`: each key, the command line above it, and what is wrong with a line,
-which is named with the file. And examples/noticed.conf, which the unit uses."""
+which is named with the file. And dist/noticed.conf, which the unit uses."""
 import tempfile
 from pathlib import Path
 
 from tests.support.daemon_and_clients import FRAMES, OUTBOX, Daemon, socket_fault
 from tests.support.faults import fault_line
-from tests.support.running import EXAMPLES, HOST, Checks, run
+from tests.support.running import DIST, HOST, Checks, run
 
 ALL = {
     "socket": "/nonexistent/noticed.socket",
@@ -62,7 +62,15 @@ def wrong(checks: Checks, file: Path):
         file.write_text(text_of({it: ALL[it] for it in ALL if it != key}))
         checks.equal(f"no {key}", reason_of(words), (f"error: {file}: {key} is not set", 2))
     file.write_text(text_of({it: ALL[it] for it in ALL if it != "outbox"}))
-    checks.equal("no outbox", reason_of(words), ("error: a journal requires an outbox: --outbox PATH", 2))
+    checks.equal(
+        "no outbox",
+        reason_of(words),
+        ("error: a journal requires an outbox or a mail server: --outbox PATH or --hand-in HAND-IN", 2),
+    )
+    file.write_text(text_of(ALL | {"hand-in": "localhost:25"}))
+    checks.equal("a mail server too", reason_of(words), ("error: --hand-in takes the place of --outbox", 2))
+    file.write_text(text_of({"hand-in": "localhost"} | {it: ALL[it] for it in ALL if it != "outbox"}))
+    checks.true("a mail server without a port", reason_of(words)[0].startswith(f"error: {file}:1: HAND-IN must be "))
     file.unlink()
     checks.equal("no file", reason_of(words), (f"error: {file}: No such file or directory (os error 2)", 2))
     file.write_bytes(b"host = \xff\n")
@@ -93,7 +101,7 @@ def main():
     with tempfile.TemporaryDirectory() as room:
         wrong(checks, Path(room) / "noticed.conf")
         right(checks, Path(room) / "noticed.conf")
-    words = ["serve", "--config", str(EXAMPLES / "noticed.conf"), "--journal", "/nonexistent", "--outbox", "/dev/null"]
+    words = ["serve", "--config", str(DIST / "noticed.conf"), "--journal", "/nonexistent"]
     fault = fault_line(72) + b"/nonexistent: No such file or directory (os error 2)\n"
     checks.equal("the example", run([*words, "/nonexistent/socket"]).notes, fault)
     checks.done()

@@ -1,5 +1,5 @@
 """A crew of one agent over connections in memory (the program probe), with reads of one, two, three and many bytes,
-beside a plain reading of docs/FORMATS.md: the first exchange cut after each byte, with each byte changed to each other,
+beside a plain reading of noticed-protocol(5): the first exchange cut after each byte, with each byte changed to each other,
 with lengths that no frame has, and without an end; and each read, each write, each post and each flush of a run
 failing in turn: with an error, interrupted (which is a failure like any other), and taking or giving no byte."""
 import os
@@ -13,14 +13,14 @@ from tests.support.daemon_and_clients import flush
 from tests.support.formats import sessions
 from tests.support.formats.logs import CLOSED, DISCARDED, REFUSED, Limits, Logs
 from tests.support.formats.notices import crlf, mail, outbox
-from tests.support.running import EXAMPLES, HOST, ROOT, Checks, example_module
+from tests.support.running import HOST, ROOT, VECTORS, Checks
+from vectors import frames
 
 PROBE = os.environ.get("PROBE") or str(ROOT / "crates/probe/out/probe")
 PATIENCE = 120  # seconds that a run may take
 MANY = 65_536  # more bytes than a connection of these runs sends
 FAILURES = ("error", "interruption", "nothing")
-FIRST = (EXAMPLES / "one-bounce.frames").read_bytes()
-FRAMES = example_module("frames")
+FIRST = (VECTORS / "one-bounce.frames").read_bytes()
 
 
 @dataclass
@@ -138,8 +138,8 @@ def odd_lengths() -> list:
     bodies = [b"\0\0\0\0", b"\0\1\0\1", b"\xff\xff\xff\xff", b"\0\1\0\0" + bytes(65_536), b"\0\1\0\0" + bytes(65_535)]
     turns = [
         flush(5, b"K1"),
-        FRAMES.discard(0, 1, b"K1"),
-        FRAMES.discard(0, 1, b"K1") + FRAMES.discard(0, 1, b"K1"),
+        frames.discard(0, 1, b"K1"),
+        frames.discard(0, 1, b"K1") + frames.discard(0, 1, b"K1"),
     ]
     return [*bodies, *[it + FIRST for it in bodies[:3]], *turns, b""]
 
@@ -147,9 +147,9 @@ def odd_lengths() -> list:
 def check_endless(checks: Checks):
     """A peer that asks on and on is answered a million times; after it the agent's requests are used up."""
     limit = Limits().requests
-    head, tail = FRAMES.discard(0, 1, b"K1")[:6], FRAMES.discard(0, 1, b"K1")[10:]
+    head, tail = frames.discard(0, 1, b"K1")[:6], frames.discard(0, 1, b"K1")[10:]
     found = crew(
-        [b"".join(head + struct.pack(">I", it) + tail for it in range(limit + 1)), FRAMES.discard(0, 1, b"K1")]
+        [b"".join(head + struct.pack(">I", it) + tail for it in range(limit + 1)), frames.discard(0, 1, b"K1")]
     )
     answered = [sessions.answer(0, DISCARDED, 0), *(sessions.answer(it, CLOSED, 0) for it in range(1, limit))]
     checks.true("a peer without end: its answers", found.heard[0] == b"".join(answered))
@@ -161,11 +161,11 @@ def check_endless(checks: Checks):
 def messages() -> list:
     """Two connections, which flush three logs between them."""
     first = [
-        FRAMES.append(0, 1, b"K1", b"x@y", 1, b"5.0.0"),
+        frames.append(0, 1, b"K1", b"x@y", 1, b"5.0.0"),
         flush(1, b"K1"),
-        FRAMES.append(2, 1, b"K2", b"x@y", 1, b"5.0.0"),
+        frames.append(2, 1, b"K2", b"x@y", 1, b"5.0.0"),
     ]
-    second = [flush(0, b"K2"), FRAMES.append(1, 1, b"K3", b"x@y", 1, b"5.0.0"), flush(2, b"K3")]
+    second = [flush(0, b"K2"), frames.append(1, 1, b"K3", b"x@y", 1, b"5.0.0"), flush(2, b"K3")]
     return [b"".join(first), b"".join(second)]
 
 

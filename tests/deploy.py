@@ -1,23 +1,41 @@
-"""Runs what docs/DEPLOY.md describes, in a folder of this script's own: the lines of the `run` file, one daemon after
-another, each on a new outbox; messages written in words and sent by `noticed send`; and the feeder, which follows the
-outbox and hands each notice to a submission program. And the commands that put the entries of `noticed postfix` into a
-master.cf of this script's own, and take them out again."""
+"""Runs what README.md, docs/operating.md and docs/first-client.md describe, each in a folder of this script's own: the
+commands for anybody, whose output is compared with the page's; and of docs/operating.md the lines of the `run` file,
+one daemon after another, over one journal, with a mail server, which gets each notice once, the one that it refuses by
+the page's commands. tests/boot.py and tests/boot_postfix.py run the commands for root."""
 import os
 import re
 import shutil
-import signal
 import subprocess
 import sys
 import tempfile
 from pathlib import Path
 
 from tests.support.daemon_and_clients import PATIENCE, line, until
-from tests.support.running import EXAMPLES, Checks, program
-from tests.support.system import deploy_block
+from tests.support.mail_servers import MailServer
+from tests.support.page import Page
+from tests.support.running import DIST, ROOT, VECTORS, Checks, program
 
-FRAMES = [sys.executable, str(EXAMPLES / "frames.py"), "-"]
-FEED = [sys.executable, str(EXAMPLES / "feed.py")]
-SUBMIT = '#!/bin/sh\nfor last; do :; done\ncat > "$last.part" && mv "$last.part" "$last"\n'
+FRAMES = [sys.executable, str(VECTORS / "frames.py"), "-"]
+# Of make only what it would run is seen here: tests/make_try.py has `make try`, and the gate has the others.
+MAKE = f"#!/bin/sh\nexec {shutil.which('make')} --directory={ROOT} --dry-run \"$@\"\n"
+
+
+def tools(room: Path) -> dict:
+    """An environment in which this program is `noticed`."""
+    (room / "bin").mkdir()
+    (room / "bin/noticed").symlink_to(program())
+    (room / "bin/make").write_text(MAKE)
+    (room / "bin/make").chmod(0o755)
+    return {"PATH": f"{room}/bin:{Path(sys.executable).parent}:{os.environ['PATH']}"}
+
+
+def page_alone(checks: Checks, name: str, places: dict):
+    """The commands of a page that needs no daemon, in a folder that has the vectors."""
+    with tempfile.TemporaryDirectory(prefix="noticed-") as folder:
+        room = Path(folder)
+        (room / "here").mkdir()
+        (room / "here/vectors").symlink_to(VECTORS)
+        Page(name).session(checks, room / "here", places, tools(room))
 
 
 def sent(room: Path, requests: str) -> list:
@@ -31,11 +49,11 @@ def sent(room: Path, requests: str) -> list:
             return sending.communicate(timeout=PATIENCE)[0].decode().splitlines()
 
 
-def run_file(room: Path) -> list:
+def run_file(page: Page) -> list:
     """The `run` file of the page, without its accounts, in this folder and with this program."""
-    text = deploy_block("#!/bin/sh\nexec 2>&1\ninstall ")
+    text = page.file("#!/bin/sh\n")
     text = re.sub(r"^(install|cd|setpriv) .*\n", "", text, flags=re.M).replace("exec 2>&1", "exec 2>> notes")
-    text = re.sub(r"exec setpriv .*\\\n +/usr/local/bin/noticed", f"exec {program()}", text)
+    text = re.sub(r"exec setpriv .*\\\n +/usr/bin/noticed", f"exec {program()}", text)
     text = text.replace("/etc/noticed/noticed.conf", "noticed.conf").replace("/run/noticed/socket", "socket")
     return ["sh", "-c", text]
 
@@ -47,105 +65,85 @@ def next_run(checks: Checks, room: Path, runs: int):
     )
 
 
-def one_run(checks: Checks, room: Path, message: str):
+def one_run(checks: Checks, room: Path, server: MailServer, message: str):
     """The clients of a daemon of one agent and two connections: one bounces a message, one is late."""
     requests = f'append . bounce {message} bob@example.org failed 5.1.1 "reason=no such user"\n'
     requests += f"flush . bounce {message} return={message}@example.com moment=now arrival=now\n"
     checks.equal(f"{message}: answers", sent(room, requests), ["0 logged 0", "1 sealed 1"])
-    checks.true(f"{message}: its notice comes", until((room / f"{message}@example.com").exists))
+    checks.true(f"{message}: its notice comes", until(lambda: message_to(server, message) or is_kept(room, message)))
     checks.equal(
         f"{message}: a late outcome",
         sent(room, f"append . bounce {message} joe@example.org failed 5.1.1\n"),
         ["0 closed"],
     )
-    notice = (room / f"{message}@example.com").read_bytes()
-    checks.true(
-        f"{message}: the notice",
-        notice.startswith(b"From: Mail Delivery System <MAILER-DAEMON@") and b"\n    no such user\n" in notice,
-    )
 
 
-def three_runs(checks: Checks, room: Path):
-    """Two daemons one after another, and a third that is stopped before its first client."""
+def message_to(server: MailServer, name: str) -> bytes:
+    """The message that a server has for a sender."""
+    return dict(server.taken).get(f"{name}@example.com".encode(), b"")
+
+
+def is_kept(room: Path, name: str) -> bool:
+    """Whether a notice to this sender was refused for good."""
+    return f"RCPT TO:<{name}@example.com>\r\n".encode() in (room / "journal/refused").read_bytes()
+
+
+def three_runs(checks: Checks, room: Path, server: MailServer, page: Page):
+    """Two daemons one after another, and a third that has the page's client, and is stopped."""
     for runs, message in ((1, "M1"), (2, "M2")):
-        with subprocess.Popen(run_file(room), cwd=room, stdin=subprocess.DEVNULL) as running:
+        with subprocess.Popen(run_file(page), cwd=room, stdin=subprocess.DEVNULL) as running:
             next_run(checks, room, runs)
-            one_run(checks, room, message)
+            one_run(checks, room, server, message)
             checks.equal(f"run {runs}: its status", running.wait(timeout=PATIENCE), 0)
-    with subprocess.Popen(run_file(room), cwd=room, stdin=subprocess.DEVNULL) as running:
+    with subprocess.Popen(run_file(page), cwd=room, stdin=subprocess.DEVNULL) as running:
         next_run(checks, room, 3)
+        (room / "here").mkdir()
+        places = {"/usr/share/noticed": ROOT, "/run/noticed/socket": room / "socket"}
+        page.session(checks, room / "here", places, tools(room))
+        checks.true("the notice of its message comes", until(lambda: message_to(server, "ann")))
         stopped = subprocess.run([program(), "stop", "socket"], cwd=room, check=False, timeout=PATIENCE).returncode
         checks.equal("the status of a stop", (stopped, running.wait(timeout=PATIENCE)), (0, 0))
     told = (room / "notes").read_bytes().splitlines(keepends=True)
-    checks.equal("the agents", [it for it in told if it.startswith(b"agent ")], [*2 * [line(0, 3, 2)], line(0, 0, 0)])
+    checks.equal("the agents", [it for it in told if it.startswith(b"agent ")], [*2 * [line(0, 3, 2)], line(0, 2, 1)])
     checks.equal("faults", [it for it in told if it.startswith((b"fault ", b"open ", b"unsent "))], [])
 
 
-def followed(checks: Checks):
-    """The runs, with a feeder that follows their outboxes."""
+def served(checks: Checks):
+    """The runs, with a mail server that refuses the second notice; and that notice once more, by hand."""
     with tempfile.TemporaryDirectory(prefix="noticed-") as name:
-        room = Path(name)
+        room, server, page = Path(name), MailServer(refused={b"M2@example.com"}), Page("docs/operating.md")
         (room / "journal").mkdir(mode=0o700)
         # a short journal: a start is quick
         (room / "journal/journal").write_bytes(bytes(2**20))
         (room / "journal/marks").write_bytes(bytes(4096))
         (room / "notes").touch()
-        text = (EXAMPLES / "noticed.conf").read_text()
+        text = (DIST / "noticed.conf").read_text()
         text = text.replace("agents = 8", "agents = 1").replace("max-use = 1000000", "max-use = 2")
-        (room / "noticed.conf").write_text(text)
-        (room / "submit").write_text(SUBMIT)
-        (room / "submit").chmod(0o755)
-        words = [*FEED, "--follow", "outbox", "--once", "./submit"]
-        with subprocess.Popen(words, cwd=room, stderr=subprocess.PIPE) as feeding:
-            try:
-                three_runs(checks, room)
-            finally:
-                feeding.send_signal(signal.SIGTERM)
-            said = feeding.communicate(timeout=PATIENCE)[1]
-        checks.equal("the feeder", (feeding.returncode, said), (0, b"2 handed in, 0 left out\n"))
-        checks.equal("outboxes", len(list(room.glob("outbox*"))), 3)
-
-
-def entries_of(folder: Path) -> list:
-    """The services of a master.cf, each as SERVICE/TYPE."""
-    said = subprocess.run(["postconf", "-c", str(folder), "-M"], capture_output=True, text=True, check=True).stdout
-    return ["/".join(it.split()[:2]) for it in said.splitlines()]
-
-
-def entries(checks: Checks):
-    """The entries of master.cf: pasted into a shell, the commands of the page add them, a second time change nothing,
-    and are undone by those of the way back."""
-    if not shutil.which("postconf"):
-        checks.skip("the entries of master.cf (needs Postfix's postconf)")
-        return
-    with tempfile.TemporaryDirectory(prefix="noticed-") as name:
-        folder, given = (
-            Path(name),
-            "pickup unix n - y 60 1 pickup\nmailman unix - n n - - pipe\n  flags=FRX user=list\n",
-        )
-        (folder / "main.cf").write_text("")
-        (folder / "master.cf").write_text(given)
-        adds = deploy_block("postconf -M 127.0.0.1:10025/inet").partition("postfix reload")[0]
-        (undoes,) = [it for it in deploy_block("postconf -X ").splitlines() if it.startswith("postconf -MX ")]
-        before, named = entries_of(folder), ["127.0.0.1:10025/inet", "noticed-cleanup/unix"]
-        for times in ("once", "twice"):
-            ran = subprocess.run(
-                ["sh", "-e", "-c", adds], capture_output=True, check=False, env={**os.environ, "MAIL_CONFIG": name}
-            )
-            checks.equal(f"the commands, {times}", (ran.stdout, ran.stderr, ran.returncode), (b"", b"", 0))
-            checks.equal(f"the entries, {times}", entries_of(folder), before + named)
-        words = ["postconf", "-c", name, "-h", "-P", "127.0.0.1:10025/inet/cleanup_service_name"]
+        (room / "noticed.conf").write_text(text.replace("localhost:25", server.address))
+        three_runs(checks, room, server, page)
+        checks.equal("the one that was refused isn't tried again", server.tries[b"M2@example.com"], 1)
+        server.refused = ()
+        again = page.take("cd /var/lib/noticed/journal", "{ ").replace("localhost:25", server.address)
+        again = again.replace("/var/lib/noticed", str(room)).replace("noticed hand-in", f"{program()} hand-in")
+        ran = subprocess.run(["sh", "-e", "-c", again], capture_output=True, check=False)
         checks.equal(
-            "its cleanup(8)", subprocess.run(words, capture_output=True, check=False).stdout, b"noticed-cleanup\n"
+            "submitted again by hand", (ran.returncode, (room / "journal/again.refused").read_bytes()), (0, b"")
         )
-        subprocess.run(["sh", "-c", undoes], check=False, env={**os.environ, "MAIL_CONFIG": name})
-        checks.equal("the way back", (folder / "master.cf").read_text(), given)
+        wanted = [b"M1@example.com", b"M2@example.com", b"ann@example.com"]
+        checks.equal("each notice came once", sorted(it for it, _ in server.taken), wanted)
+        for message in ("M1", "M2"):
+            notice = message_to(server, message)
+            is_one = (
+                notice.startswith(b"From: Mail Delivery System <MAILER-DAEMON@") and b"\n    no such user\r\n" in notice
+            )
+            checks.true(f"{message}: the notice", is_one)
 
 
 def main():
-    checks = Checks("deploy: daemons one after another, their clients, the feeder, and the entries of master.cf")
-    entries(checks)
-    followed(checks)
+    checks = Checks("deploy: the commands of the pages, daemons one after another, their clients, and a mail server")
+    page_alone(checks, "README.md", {})
+    page_alone(checks, "docs/first-client.md", {"/usr/share/noticed": ROOT})
+    served(checks)
     checks.done()
 
 

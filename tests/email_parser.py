@@ -10,11 +10,11 @@ from email.parser import BytesParser
 from email.utils import parsedate_to_datetime
 
 from tests.support.daemon_and_clients import flush
-from tests.support.running import HOST, Checks, batch, example_module
+from tests.support.running import HOST, Checks, batch
+from vectors import frames
 
-FRAMES = example_module("frames")
-SERVICES = FRAMES.SERVICES
-ACTIONS = FRAMES.ACTIONS
+SERVICES = frames.SERVICES
+ACTIONS = frames.ACTIONS
 
 # the moment and the arrival of each flush, as a mail program reads the two dates
 MOMENT, ARRIVAL = "2023-11-14T22:13:20+00:00", "Tue, 14 Nov 2023 21:13:20 +0000"
@@ -186,7 +186,7 @@ CASES = [
 def frames_of(case):
     """The request frames of a case."""
     service, queue_id = SERVICES[case.service], case.queue_id.encode()
-    appends = [FRAMES.append(at, service, queue_id, **it.given) for at, it in enumerate(case.recipients)]
+    appends = [frames.append(at, service, queue_id, **it.given) for at, it in enumerate(case.recipients)]
     return b"".join([*appends, flush(len(appends), queue_id, service, **case.flush)])
 
 

@@ -1,14 +1,15 @@
 """Runs each stored example and compares outbox, notes and exit status with the stored ones, byte by byte. The outboxes
-that tests of the crates compare with, which can read no file, must be those of the examples.
-
-With arguments it runs the examples of those folders instead.
-"""
+that tests of the crates compare with, which can read no file, must be those of the examples."""
 import re
-import sys
 from pathlib import Path
 
-from tests.support.running import EXAMPLES, ROOT, Checks, batch
+from tests.support.running import ROOT, VECTORS, Checks, examples, run
 
+# The examples of docs/embedding.md, each with the test that runs it.
+IN_PAGE = {
+    "One notice": "dsn_bytes_tests/src/one_notice.rt",
+    "A whole example": "noticed_lib_tests/src/embedding.rt",
+}
 TEXT = re.compile(r'const (\w+): &\[u8(?:; \d+)?\] = b"((?:[^"\\]|\\.|\\\n)*)";', re.DOTALL)
 
 
@@ -22,7 +23,7 @@ def outboxes_in(source: Path):
 
 def in_tests(checks: Checks):
     """Compares the outboxes that the crates' tests expect with those of the examples."""
-    stored = {it.read_bytes() for it in EXAMPLES.glob("*.outbox")}
+    stored = {it.read_bytes() for it in VECTORS.glob("*.outbox")}
     sources = [it for crate in ("*_tests", "dsn_fakes") for it in sorted(ROOT.glob(f"crates/{crate}/src/**/*.rt"))]
     found = [(source, *it) for source in sources for it in outboxes_in(source)]
     checks.true("the tests expect outboxes", found)
@@ -31,25 +32,24 @@ def in_tests(checks: Checks):
 
 
 def in_page(checks: Checks):
-    """Compares the whole example of docs/EMBEDDING.md with the test that runs it."""
-    page = (ROOT / "docs/EMBEDDING.md").read_text().partition("## A whole example")[2].partition("\n## ")[0]
-    test = (ROOT / "crates/noticed_lib_tests/src/embedding.rt").read_text().partition("\n#[test]")[0]
-    told = [line[4:] for line in page.splitlines() if line.startswith("    ")]
-    ran = [line for line in test.splitlines() if line and not line.startswith(("//!", "use crate::"))]
-    checks.equal("the example of docs/EMBEDDING.md is the one that a test runs", told, ran)
+    """Compares the examples of docs/embedding.md with the tests that run them."""
+    page = (ROOT / "docs/embedding.md").read_text()
+    for title, test in IN_PAGE.items():
+        part = page.partition(f"## {title}\n")[2].partition("\n## ")[0]
+        told = [line[4:] for line in part.splitlines() if line.startswith("    ")]
+        text = (ROOT / "crates" / test).read_text().partition("\n#[test]")[0]
+        ran = [line for line in text.splitlines() if line and not line.startswith(("//!", "use crate::"))]
+        checks.equal(f"{title} of docs/embedding.md is what a test runs", told, ran)
 
 
 def main():
-    folders = [Path(it) for it in sys.argv[1:]] or [EXAMPLES]
     checks = Checks("examples: outbox, notes and status of each stored input")
-    stored = sorted(it for folder in folders for it in folder.glob("*.frames"))
-    checks.true("there are examples", stored)
-    for frames in stored:
-        ran = batch(frames.read_bytes())
-        checks.equal(f"{frames.stem}: outbox", ran.outbox, frames.with_suffix(".outbox").read_bytes())
-        checks.equal(f"{frames.stem}: notes", ran.notes, frames.with_suffix(".notes").read_bytes())
-        checks.equal(f"{frames.stem}: status", ran.status, int(frames.with_suffix(".status").read_text()))
-        print(f"  {frames.stem}")
+    for it in examples():
+        ran = run(["batch", it.host], it.bytes("frames"))
+        checks.equal(f"{it.name}: outbox", ran.outbox, it.bytes("outbox"))
+        checks.equal(f"{it.name}: notes", ran.notes, it.bytes("notes"))
+        checks.equal(f"{it.name}: status", ran.status, it.status)
+        print(f"  {it.name}")
     in_tests(checks)
     in_page(checks)
     checks.done()

@@ -9,12 +9,12 @@ import os
 import sys
 
 from tests.support.daemon_and_clients import Daemon
-from tests.support.running import Checks, example_module
+from tests.support.running import Checks
+from vectors import frames
 
 LOGS, MOST, BOUNCE = 4096, 1_000_000, 1
 SLACK = 256  # KiB that a process may gain beside what it keeps of requests
 
-frames = example_module("frames")
 
 
 def queue_id(turn: int) -> bytes:

@@ -1,5 +1,5 @@
 """Runs `noticed batch` on random sessions (tests/support/hostile.py) and compares outbox, notes and status with a plain
-reading of docs/FORMATS.md (tests/support/formats), which shares nothing with the program.
+reading of the manual pages (tests/support/formats), which shares nothing with the program.
 
     python3 -m tests.fuzz_batch [--seconds S] [--sessions N] [--seed SEED] [--from INDEX]
 

@@ -10,7 +10,7 @@ from pathlib import Path
 
 from tests.support.preloading import built, compare_ends, each_refused, preloading
 from tests.support.faults import fault_line
-from tests.support.running import EXAMPLES, ROOT, Checks, Ran, batch, empty_outbox
+from tests.support.running import ROOT, VECTORS, Checks, Ran, batch, empty_outbox
 
 PROBE = os.environ.get("PROBE") or str(ROOT / "crates/probe/out/probe")
 MOST = 500  # growths of a run; more than this and the sweep is broken
@@ -114,8 +114,8 @@ def main():
     if not os.access(PROBE, os.X_OK):
         print(f"there is no program {PROBE}: run the gate, or name one in PROBE")
         sys.exit(1)
-    given = (EXAMPLES / "one-bounce.frames").read_bytes()
-    outbox, notes = ((EXAMPLES / f"one-bounce.{it}").read_bytes() for it in ("outbox", "notes"))
+    given = (VECTORS / "one-bounce.frames").read_bytes()
+    outbox, notes = ((VECTORS / f"one-bounce.{it}").read_bytes() for it in ("outbox", "notes"))
     with tempfile.TemporaryDirectory() as room:
         library = built(room, "refuse")
         check_calls(checks, library)

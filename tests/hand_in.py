@@ -1,16 +1,33 @@
-"""Runs `noticed hand-in` on outboxes of `noticed batch`, against small mail servers that take, refuse, put off and hang up:
-what each is told and given, in which order, what is printed and kept, and the exit status."""
+"""Runs `noticed hand-in` on outboxes of `noticed batch`, against small mail servers that take, refuse, put off and hang
+up: what each is told and given, in which order, what is printed and kept, and the exit status."""
 import socket
 import tempfile
 import threading
 import time
 from pathlib import Path
 
-from tests.support.feeding import MailServer, StrictServer, messages_of, outbox_of
+from tests.support.mail_servers import MailServer, StrictServer, messages_of, outbox_for, outbox_of
+from tests.support.preloading import built, preloading
 from tests.support.running import Checks, HOST, run
 
 NUMBER = 3  # notices of an outbox
 PATHS = [b"sender%d@example.com" % at for at in range(NUMBER)]
+# Paths that a program could take for several, for an option, or for another address.
+ODD_PATHS = [
+    b"bea,ann@example.com",
+    b"a:b@example.com",
+    b"x:bea@example.com,ann@example.com;root@example.com",
+    b'"a,b"@example.com',
+    b'a"b\\c@example.com',
+    b"-n@example.com",
+    b"a!b%c@example.com",
+    b"ann@[192.0.2.1]",
+    b"ann@[IPv6:2001:db8::1]",
+    b"postmaster",
+    b"-oQ/tmp",
+    b"a|b",
+    b"ann@[a;b]",
+]
 
 
 def taken_by(server) -> list:
@@ -38,7 +55,11 @@ def check_taken(checks: Checks, outbox: bytes):
     checks.equal("all are taken: status", ran.status, 0)
     checks.equal("all are taken: lines", lines_of(ran), accepted(1, 2, 3))
     checks.equal("all are taken: messages", taken_by(server), wanted_of(outbox))
-    checks.equal("all are taken: one greeting", [it for it in server.commands if it.startswith(b"EHLO")], [b"EHLO " + HOST.encode()])
+    checks.equal(
+        "all are taken: one greeting",
+        [it for it in server.commands if it.startswith(b"EHLO")],
+        [b"EHLO " + HOST.encode()],
+    )
     checks.equal("all are taken: nothing on standard output", ran.outbox, b"")
 
 
@@ -75,6 +96,57 @@ def check_hang_up(checks: Checks, outbox: bytes):
     checks.equal("the server hangs up once: messages", sorted(taken_by(server)), sorted(wanted))
 
 
+def check_strict(checks: Checks, outbox: bytes):
+    """A server gets no command that it need not get, over one session."""
+    server = StrictServer()
+    ran = run(["hand-in", server.address], outbox)
+    checks.equal("a strict server: status", ran.status, 0)
+    checks.true("a strict server: its session is over", server.is_idle())
+    words = [it.split()[0] for it in server.commands]
+    checks.equal("a strict server: commands", words, [b"EHLO", *[b"MAIL", b"RCPT", b"DATA"] * NUMBER, b"QUIT"])
+    checks.equal("a strict server: one session", server.connections, 1)
+
+
+def check_limits(checks: Checks, outbox: bytes, room: Path):
+    """The reply to a message is waited for longer than any other: its server may have the message."""
+    record, server = room / "record", StrictServer()
+    ran = run(["hand-in", server.address], outbox, env=preloading(built(room, "record"), RECORD=record))
+    checks.equal("limits: status", ran.status, 0)
+    calls = [it.split(" ") for it in record.read_text().splitlines()]
+    # from the connection on; with each message's last bytes; with the command after it, at last QUIT
+    wanted = ["60"] + NUMBER * ["600", "60"]
+    checks.equal("limits of time for a reply", [asked for call, _, asked, *_ in calls if call == "limit"], wanted)
+
+
+def check_lost_reply(checks: Checks, outbox: bytes):
+    """One whose reply is lost isn't submitted again at once, since the server may have taken it."""
+    server = MailServer(lost_replies=1)
+    ran = run(["hand-in", server.address], outbox)
+    wanted = wanted_of(outbox)
+    checks.equal("a lost reply: status", ran.status, 0)
+    checks.equal("a lost reply: messages", taken_by(server), [*wanted, wanted[0]])
+
+
+def check_always(checks: Checks, outbox: bytes):
+    """One at which the server always hangs up is kept once it is too old."""
+    server = StrictServer()
+    server.hangs_up_at = PATHS[1]
+    ran = run(["hand-in", "--give-up", "2", server.address], outbox)
+    wanted = wanted_of(outbox)
+    checks.equal("it always hangs up at one: status", ran.status, 0)
+    checks.equal("it always hangs up at one: messages", taken_by(server), wanted[::2])
+    checks.true("it always hangs up at one: kept", ran.outbox.endswith(outbox.split(b"MAIL FROM:<>\r\n")[2]))
+
+
+def check_paths(checks: Checks):
+    """A recipient's path is that of the outbox, byte for byte."""
+    server = MailServer()
+    ran = run(["hand-in", server.address], outbox_for(ODD_PATHS))
+    checks.equal("paths: status", ran.status, 0)
+    given = [it for it in server.commands if it.startswith(b"RCPT")]
+    checks.equal("paths", given, [b"RCPT TO:<" + it + b">" for it in ODD_PATHS])
+
+
 def check_away(checks: Checks, outbox: bytes):
     """A server that isn't there is asked again after a second, and gets all in order."""
     free = socket.create_server(("127.0.0.1", 0))
@@ -105,7 +177,9 @@ def check_done(checks: Checks, outbox: bytes, room: Path):
     checks.equal("with --done: messages", taken_by(server), wanted_of(outbox)[1:2])
     checks.equal("with --done: the mark", done.read_text(), "3\n")
     kept = (room / "done.refused").read_bytes()
-    checks.true("with --done: the refused notice is kept", kept.startswith(b"NOOP 550 5.1.1 no such user\r\nMAIL FROM:<>\r\n"))
+    checks.true(
+        "with --done: the refused notice is kept", kept.startswith(b"NOOP 550 5.1.1 no such user\r\nMAIL FROM:<>\r\n")
+    )
     checks.equal("with --done: nothing on standard output", ran.outbox, b"")
     again = run(["hand-in", "--done", str(done), server.address], outbox)
     checks.equal("with --done again", (again.status, again.notes, len(server.taken)), (0, b"", 1))
@@ -133,8 +207,13 @@ def main():
     check_refused(checks, outbox)
     check_put_off(checks, outbox)
     check_hang_up(checks, outbox)
+    check_strict(checks, outbox)
+    check_lost_reply(checks, outbox)
+    check_always(checks, outbox)
+    check_paths(checks)
     check_away(checks, outbox)
     with tempfile.TemporaryDirectory(prefix="noticed-") as room:
+        check_limits(checks, outbox, Path(room))
         check_done(checks, outbox, Path(room))
     check_malformed(checks, outbox)
     checks.done()

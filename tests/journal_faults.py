@@ -26,7 +26,7 @@ MARKS = 4_096
 EIO, ENOSPC = 5, 28
 NOBODY = 65_534  # a user who may write nowhere
 NEW = {"journal": 67_108_864, "marks": 4_096}  # bytes of the files that a daemon makes
-WRITES = 16_384  # calls that write the zeros of a new journal
+WRITES = 1  # calls that write the zeros of a new journal
 STOPPED = 77  # the status of a daemon whose machine stopped
 FAULT = re.compile(rb"^fault (\d+)", re.M)
 MESSAGE_ID = re.compile(rb"^Message-ID: <B\.(\w+)\.\d+\.(\d+)@", re.M)
@@ -247,7 +247,7 @@ def missing(checks: Checks, room: Path):
 
 
 def stops_of_a_first_start(checks: Checks, room: Path, library: Path):
-    """The machine stops within each call from the last write of a new journal to the last call for its marks: the next
+    """The machine stops within each call from the first for a new journal to the last but one for its marks: the next
     daemon begins. So it does with zeros as a journal, and no marks."""
     for number in range(WRITES, WRITES + 11):
         place, shadow = Place(room, f"stopped-{number}"), room / f"shadow-{number}"

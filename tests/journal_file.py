@@ -1,4 +1,4 @@
-"""A ledger over a real file (the program probe), beside a plain reading of docs/FORMATS.md, section 18: what is
+"""A ledger over a real file (the program probe), beside a plain reading of noticed-journal(5): what is
 answered and what the file has; a file without room, whose journal is put away for a shorter one; and by a small library
 that is preloaded (tests/support/crash.c, compiled here with gcc) each call on the file failing in turn, and the machine
 stopping within each in turn, where all, some or none of what wasn't synced is kept. Whatever is found then is the asked
@@ -15,7 +15,8 @@ from tests.support.daemon_and_clients import flush
 from tests.support.formats import bodies, journal, sessions
 from tests.support.formats.logs import Limits
 from tests.support.preloading import built, preloading
-from tests.support.running import ROOT, Checks, example_module
+from tests.support.running import ROOT, Checks
+from vectors import frames
 
 PROBE = os.environ.get("PROBE") or str(ROOT / "crates/probe/out/probe")
 PATIENCE = 60  # seconds that a run may take
@@ -24,7 +25,6 @@ SMALL = 700  # bytes of a file that is full after a few requests, and has room f
 GROUP = 3
 STOPPED = 77  # the status of a run whose machine stopped
 EIO, ENOSPC = 5, 28
-FRAMES = example_module("frames")
 LIMITS = Limits(logs=3, entries=3, requests=100)
 KEYS = [(1, b"K1"), (1, b"K2"), (2, b"K3"), (3, b"K4")]
 VALUES = {1: (1, b"5.1.1"), 2: (2, b"4.4.1"), 3: (3, b"2.0.0")}  # an action and a status of each service
@@ -34,10 +34,10 @@ def frame(number: int, asked: tuple) -> bytes:
     """The frame of a request: its kind and its key."""
     kind, (service, queue_id) = asked
     if kind == "append":
-        return FRAMES.append(number, service, queue_id, b"bob@example.org", *VALUES[service])
+        return frames.append(number, service, queue_id, b"bob@example.org", *VALUES[service])
     if kind == "flush":
         return flush(number, queue_id, service)
-    return {"discard": FRAMES.discard, "forget": FRAMES.forget}[kind](number, service, queue_id)
+    return {"discard": frames.discard, "forget": frames.forget}[kind](number, service, queue_id)
 
 
 def record(asked: tuple) -> bytes:

@@ -1,10 +1,11 @@
 """Kills daemons that have a journal (SIGKILL), at any moment, under 16 clients of which some are hostile, and starts
 the next one on the same folder, with a new outbox. After each start all that was answered is there, in the journal and
 by what is answered from then on; of what was sent and not answered it may be there or not. Each sealed log has its
-notice, byte for byte as a plain reading of docs/FORMATS.md has it; the last one of a run may come again. A small
+notice, byte for byte as a plain reading of the manual pages has it; the last one of a run may come again. A small
 journal gets full again and again, and is put away for a shorter one: no run ends by it. So it does over an outbox
 whose syncs are slow, and with large headers: then letters wait to be marked as it gets full, and none of them is lost.
-Then a clean end, and a last start.
+And over a mail server in place of the outbox, where a letter may come again only as the first of a run. Then a clean
+end, and a last start.
 
     python3 -m tests.journal_kills [KILLS [SEED]]
 
@@ -50,6 +51,7 @@ def main():
         ("a journal as the daemon makes it", {}, LONGEST_LOAD, kills // 2),
         ("a small journal", {"size": SMALL, "hostile": 0}, LONGEST_LOAD, kills - kills // 2),
         ("a slow outbox", {"size": 2 * SMALL, "hostile": 0, "lines": LARGE, "slow": SLOW}, LONGEST_SLOW, kills // 4),
+        ("a mail server", {"submits": True}, LONGEST_LOAD, kills // 4),
     )
     for what, how, longest, count in loads:
         with tempfile.TemporaryDirectory(prefix="noticed-kills-") as room:

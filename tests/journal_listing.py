@@ -1,5 +1,5 @@
 """Runs `noticed journal` on folders that daemons left, after a kill and after an end in order, and on random ones: it
-prints what a plain reading of docs/FORMATS.md has of them, and no byte, name, mode or time of a folder is changed.
+prints what a plain reading of noticed-journal(5) has of them, and no byte, name, mode or time of a folder is changed.
 Where a file isn't there or is none of a journal, a line can't be written, or memory is
 refused, it has its number and status. It lists a folder on which a daemon is at work, and its backups, too."""
 import os
@@ -17,9 +17,9 @@ from tests.support.formats import journal, listing
 from tests.support.formats.bodies import Refused, decoded
 from tests.support.formats.logs import Limits
 from tests.support.hostile import Hostile
+from tests.support.page import Page
 from tests.support.preloading import built, each_refused
 from tests.support.running import Checks, Ran, program, run
-from tests.support.system import deploy_block
 
 SIZE, MARKS = 16_384, 4_096  # bytes of a journal and of marks here
 FOLDERS = 60  # random ones
@@ -152,12 +152,11 @@ def keep_busy(daemon_at_work: Daemon, place: int, over: threading.Event):
 
 
 def backed_up(checks: Checks, room: Path):
-    """Each backup of a folder on which a daemon is at work can be opened: the command of docs/DEPLOY.md makes it, and
-    the one after it looks at it."""
+    """Each backup of a folder on which a daemon is at work can be opened: a command of docs/operating.md makes it, and
+    the next one looks at it."""
     folder, ends, sealed = made(room, "busy", ROOMY), [], []
-    commands = (
-        deploy_block("cp -p ").replace("/var/lib/noticed/journal", str(folder)).replace("noticed ", f"{program()} ")
-    )
+    commands = Page("docs/operating.md").take("cp -p ", "noticed journal BACKUP")
+    commands = commands.replace("/var/lib/noticed/journal", str(folder)).replace("noticed ", f"{program()} ")
     with Daemon(CLIENTS, 1, options=("--journal", folder, "--outbox", room / "busy.outbox")) as it:
         it.listens()
         over = threading.Event()

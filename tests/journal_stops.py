@@ -22,7 +22,7 @@ SMALLEST = 98_304  # bytes of a journal that is soon full, and has room for what
 STOPPED = 77  # the status of a daemon whose machine stopped
 PATIENCE = 5  # seconds until it is killed where it didn't come to the call
 OF_A_START, OF_A_RUN = 20, 1_000  # calls within which it stops: a start makes some sixteen, a first one 21
-WRITES = 16_384  # calls that write the zeros of a journal which the daemon makes
+WRITES = 1  # calls that write the zeros of a journal which the daemon makes
 
 
 def stopping(load: Load, library: Path, at: int, kept) -> dict:

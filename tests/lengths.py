@@ -1,20 +1,20 @@
 """Runs `batch` with texts of each length that they may have, beside the plain reading: hosts, queue ids, addresses,
 envelope ids, names of remote MTAs, diagnostics and reasons of each length, headers of some five hundred lengths, frames
-and logs of many. So memory that is refused at some lengths alone, or a text that is cut there, shows. It takes some
-seconds."""
+and logs of many, and statuses in plain words. So memory that is refused at some lengths alone, or a text that is cut
+there, shows. It takes some seconds."""
 import random
 
 from tests.support.daemon_and_clients import flush, frames
 from tests.support.formats import sessions
-from tests.support.formats.bodies import LONGEST_HEADER, LONGEST_TEXT
-from tests.support.running import EXAMPLES, HOST, Checks, Ran, run
+from tests.support.formats.bodies import BY_OUTCOME, LONGEST_HEADER, LONGEST_TEXT
+from tests.support.running import HOST, VECTORS, Checks, Ran, run
 
 BOUNCE, DEFER, FAILED, DELAYED = 1, 2, 1, 2
 ADDRESS, ID, MTA, HOST_NAME, ENVELOPE = 256, 32, 255, 255, 100  # the longest of each, in bytes
 LONGEST_BODY = 65_536
 STEP = 89  # bytes between two lengths of headers; those below it are all tried
 ALONE = 331  # bytes between two lengths of the only frame of a run
-EXAMPLE = (EXAMPLES / "all-optional-fields.frames").read_bytes()
+EXAMPLE = (VECTORS / "all-optional-fields.frames").read_bytes()
 
 dice = random.Random(20231114)
 
@@ -113,6 +113,21 @@ def texts(checks: Checks):
     compare(checks, "all of them at any length", messages(together))
 
 
+def by_outcome(checks: Checks):
+    """Notices worded by the outcome: each status of some subjects and details, and each remote MTA with a long reply,
+    which every second reason has."""
+    codes = [f"{5 - it % 2}.{it // 32}.{it % 32}".encode() for it in range(320)]
+    given = [frames.append(at, BOUNCE, b"Q1", b"x@y", FAILED, code) for at, code in enumerate(codes)]
+    compare(checks, "each status by the outcome", b"".join([*given, flush(len(given), b"Q1", wording=BY_OUTCOME)]))
+    given = []
+    for at in range(MTA + 1):
+        reply = some(LONGEST_TEXT - at)
+        reason = some(at // 2) + reply[at % 2 :] + some(at - at // 2)
+        said = {"mta": some(at), "diagnostic": reply, "reason": reason}
+        given.append(frames.append(at, BOUNCE, b"Q2", b"x@y", FAILED, b"5.1.1", **said))
+    compare(checks, "each remote MTA by the outcome", b"".join([*given, flush(len(given), b"Q2", wording=BY_OUTCOME)]))
+
+
 def bodies(checks: Checks):
     """Frames of many lengths, each the only one of its run: their bodies are refused, and not for want of memory."""
     for length in [*range(1, LONGEST_BODY, ALONE), LONGEST_BODY]:
@@ -140,7 +155,7 @@ def logs(checks: Checks):
 
 def main():
     checks = Checks("lengths: each text at each of its lengths, beside the plain reading")
-    for check in (hosts, headers, texts, bodies, logs):
+    for check in (hosts, headers, texts, by_outcome, bodies, logs):
         check(checks)
     checks.done()
 

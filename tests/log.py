@@ -6,14 +6,13 @@ import time
 
 from tests.support.daemon_and_clients import OUTBOX, Daemon, answer, append, asked, flush, is_ended, line
 from tests.support.faults import fault_line
-from tests.support.running import HOST, Checks, example_module, run
+from tests.support.running import HOST, Checks, run
 
 LOG = ("--log",)
 FULL = fault_line(31, "No space left on device (os error 28)")
 
 CUT_OFF = b"client cut off: silent for 1 s\n"
 
-frames = example_module("frames")
 
 
 def start(daemon: Daemon, agents: int, uses: int) -> bytes:

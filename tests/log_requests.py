@@ -38,7 +38,7 @@ def on_a_daemon(checks: Checks):
 
 
 def sent(checks: Checks):
-    """What is sent is one frame, as examples/frames.py writes it."""
+    """What is sent is one frame, as vectors/frames.py writes it."""
     for command, frame, told in (("discard", frames.discard, answer(8)), ("forget", frames.forget, answer(11))):
         with Answering([told], reads_on=True) as daemon:
             run([command, daemon.path, "trace", "K" * 32])
@@ -51,8 +51,8 @@ def faults(checks: Checks):
     for about, text, wanted in (
         ("refused", answer(10, 0, 21), Ran(b"refused 21" + fault_line(21)[8:], b"", 1)),
         ("table full", answer(3), Ran(b"table full: no key can be added\n", b"", 1)),
-        ("logged", answer(1), Ran(b"the answer is none to this request\n", b"", 1)),
-        ("the other's answer", answer(11), Ran(b"the answer is none to this request\n", b"", 1)),
+        ("logged", answer(1), Ran(b"the answer is not one to this request\n", b"", 1)),
+        ("the other's answer", answer(11), Ran(b"the answer is not one to this request\n", b"", 1)),
         ("no byte", b"", fault(48)),
         ("an answer for another place", answer(8, 5), fault(46)),
         ("a part of an answer", answer(8)[:6], fault(13)),

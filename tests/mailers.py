@@ -1,9 +1,11 @@
-"""Hands notices of the daemon's outboxes to the mail programs that this machine has, by examples/feed.py, and counts
-that each arrives once, for its one recipient: aiosmtpd, msmtpd, and the submission programs of msmtp, nullmailer, exim
-and Postfix, each with a configuration of this script's own, which relays to a small server of this script. What is
-missing is skipped.
+"""Has daemons submit their notices to the mail servers that this machine has: aiosmtpd, Postfix, exim and OpenSMTPD,
+each with a configuration of this script's own. They relay to a small server of this script, and each notice arrives
+once, for its one recipient, byte for byte behind what a server put in front. What is missing is skipped.
 
-    python3 -m tests.mailers [--full] [NAME]...     two runs of the daemon for each, 20 with --full"""
+    python3 -m tests.mailers [--full] [--apart] [NAME]...
+
+There are two runs of the daemon for each server, 20 with --full. With --apart each server is installed from its package
+in a root of its own, as root."""
 import contextlib
 import os
 import re
@@ -23,28 +25,24 @@ try:
 except ImportError:
     Controller = None
 
-from tests.support.daemon_and_clients import Daemon, flush
-from tests.support.feeding import Following, frames
-from tests.support.running import ROOT, Checks, program
-from tests.support.system import KEPT, Layer, base_system, installed, lacking
+from tests.serve_hand_in import Journal, free_port, journal_for
+from tests.support.daemon_and_clients import Daemon, flush, frames
+from tests.support.mail_servers import messages_of
+from tests.support.running import ROOT, Checks, batch, program
+from tests.support.system import KEPT, Layer, base_system, installed, lacking, until
 
 RUN = 12  # notices of a run
 TOOLS = {"debootstrap": "debootstrap", "unshare": "util-linux"}
 PATIENCE = 120  # seconds until all of them have arrived
-MESSAGE_ID = re.compile(rb"^Message-ID: <(\S+)>", re.MULTILINE | re.IGNORECASE)
+# What a server may put in front: whole header fields.
+FRONT = re.compile(rb"(?:[A-Za-z-]+: [^\r\n]*\r\n(?:[ \t][^\r\n]*\r\n)*)*")
 PLAIN = [b"sender%%d.%d@example.com" % at for at in range(RUN)]
-ODD = [
-    b"bea,ann%d@example.com",
-    b"a:b%d@example.com",
-    b"ann(x)%d@example.com",
-    b"x:bea@example.com,ann@example.com;root%d@example.com",
-    b"-n%d@example.com",
-]
 QUOTED = [b'"bea,ann%d"@example.com', b'"a:b%d"@example.com', b'"ann(x)%d"@example.com']
+LITERAL = b"ann%d@[192.0.2.1]"
 
 
 class Sink:
-    """The server that all mail is relayed to: it accepts everything, and keeps each message's Message-ID and paths."""
+    """The server that all mail is relayed to: it accepts everything, and keeps each message and its paths."""
 
     def __init__(self):
         self.arrived, self.refused = [], []
@@ -73,7 +71,8 @@ class Sink:
                 elif word == b"DATA":
                     stream.write(b"354 go on\r\n")
                     stream.flush()
-                    self.take(sender, paths, b"".join(iter(stream.readline, b".\r\n")))
+                    lines = iter(stream.readline, b".\r\n")
+                    self.take(sender, paths, b"".join(it.removeprefix(b".") for it in lines))
                 elif word == b"QUIT":
                     reply = b"221 bye"
                 elif word not in (b"EHLO", b"HELO", b"RSET", b"NOOP"):
@@ -83,10 +82,9 @@ class Sink:
                 stream.flush()
 
     def take(self, sender: bytes, paths: list, message: bytes):
-        """A message; one that isn't from the null sender, or has no Message-ID, is named."""
-        found = MESSAGE_ID.search(message)
-        if found and sender.upper().startswith(b"MAIL FROM:<>"):
-            self.arrived.append((found[1], tuple(map(unquoted, paths))))
+        """A message; one that isn't from the null sender is named."""
+        if sender.upper().startswith(b"MAIL FROM:<>"):
+            self.arrived.append((tuple(map(unquoted, paths)), message))
         else:
             self.refused.append(sender + message)
 
@@ -114,12 +112,6 @@ class Handler:
         return "250 taken"
 
 
-def free_port() -> int:
-    """A port of loopback that nobody has."""
-    with socket.create_server(("127.0.0.1", 0)) as it:
-        return it.getsockname()[1]
-
-
 @contextlib.contextmanager
 def running(*words, port=None):
     """A program that runs meanwhile; it is waited for until somebody listens on its port."""
@@ -142,59 +134,32 @@ def aiosmtpd(sink: Sink, room: Path):
     server = Controller(Handler(sink), hostname="127.0.0.1", port=free_port(), ready_timeout=PATIENCE)
     server.start()
     try:
-        yield [f"127.0.0.1:{server.port}"]
+        yield f"127.0.0.1:{server.port}"
     finally:
         server.stop()
 
 
-def msmtp_words(sink: Sink, room: Path) -> list:
-    """msmtp with a configuration that relays to the sink."""
-    (room / "msmtprc").write_text(f"account default\nhost 127.0.0.1\nport {sink.port}\ntls off\nauth off\n")
-    return ["msmtp", "-C", str(room / "msmtprc")]
-
-
-@contextlib.contextmanager
-def msmtp(sink: Sink, room: Path):
-    """msmtp, which hands each message on before it ends."""
-    yield [*msmtp_words(sink, room), "-i"]
-
-
-@contextlib.contextmanager
-def msmtpd(sink: Sink, room: Path):
-    """msmtpd, a server that runs msmtp for each message."""
-    port = free_port()
-    command = " ".join([*msmtp_words(sink, room), "-f", "%F", "--"])
-    with running("msmtpd", "--interface=127.0.0.1", f"--port={port}", f"--command={command}", port=port):
-        yield [f"127.0.0.1:{port}"]
-
-
-@contextlib.contextmanager
-def nullmailer(sink: Sink, room: Path):
-    """nullmailer, over folders that stand in the place of its own, for itself alone."""
-    for name in ("etc", "spool", "spool/queue", "spool/tmp", "spool/failed"):
-        (room / name).mkdir()
-    os.mkfifo(room / "spool/trigger")
-    for name, text in (("remotes", f"127.0.0.1 smtp --port={sink.port}\n"), ("pausetime", "1\n")):
-        (room / "etc" / name).write_text(text)
-    room.chmod(0o755)
-    for it in [room / "etc/remotes", room / "spool", *(room / "spool").iterdir()]:
-        shutil.chown(it, "mail")
-    inside = f'mount --bind {room}/etc /etc/nullmailer && mount --bind {room}/spool /var/spool/nullmailer && exec "$@"'
-    words = ["unshare", "--mount", "sh", "-c", inside, "sh"]
-    with running(*words, "setpriv", "--reuid=mail", "--clear-groups", "nullmailer-send"):
-        yield [*words, "/usr/sbin/sendmail", "-i"]
-
-
 @contextlib.contextmanager
 def exim(sink: Sink, room: Path):
-    """exim, which queues each message and delivers it at once."""
+    """exim's daemon, which queues each message and delivers it at once."""
     (room / "spool").mkdir()
+    port = free_port()
     (room / "exim.conf").write_text(
         f"""primary_hostname = mx.example.net
 spool_directory = {room}/spool
 log_file_path = {room}/spool/%slog
+pid_file_path = {room}/spool/pid
 keep_environment =
 tls_advertise_hosts =
+local_interfaces = 127.0.0.1
+daemon_smtp_ports = {port}
+smtp_accept_queue_per_connection = 0
+rfc1413_query_timeout = 0s
+host_lookup =
+acl_smtp_rcpt = taken
+begin acl
+taken:
+  accept
 begin routers
 all:
   driver = manualroute
@@ -206,25 +171,43 @@ sink:
   driver = smtp
   port = {sink.port}
   allow_localhost
+begin retry
+* * F,1h,1s
 """
     )
     room.chmod(0o755)
     shutil.chown(room / "spool", "Debian-exim")
-    yield ["exim4", "-C", str(room / "exim.conf"), "-i"]
+    with running("exim4", "-C", str(room / "exim.conf"), "-bdf", "-q2s", port=port):
+        yield f"127.0.0.1:{port}"
+
+
+@contextlib.contextmanager
+def opensmtpd(sink: Sink, room: Path):
+    """OpenSMTPD's daemon, over its own queue."""
+    port = free_port()
+    (room / "smtpd.conf").write_text(
+        f"""listen on 127.0.0.1 port {port} hostname mx.example.net
+action "sink" relay host smtp://127.0.0.1:{sink.port}
+match from any for any action "sink"
+"""
+    )
+    with running("smtpd", "-d", "-f", str(room / "smtpd.conf"), port=port):
+        yield f"127.0.0.1:{port}"
 
 
 @contextlib.contextmanager
 def postfix(sink: Sink, room: Path):
-    """Postfix's sendmail, and the daemons that take what it queues."""
+    """Postfix's smtpd, and the daemons that take what it queues."""
     for name in ("etc", "queue", "data"):
         (room / name).mkdir()
     room.chmod(0o755)
     shutil.chown(room / "data", "postfix")
+    port = free_port()
     services = Path("/usr/share/postfix/master.cf.dist")
     services = services if services.exists() else Path("/etc/postfix/master.cf.proto")
-    text = re.sub(r"^smtp +inet", "#smtp inet", services.read_text(), flags=re.M)
+    text = re.sub(r"^smtp( +inet)", rf"127.0.0.1:{port}\1", services.read_text(), flags=re.M)
     (room / "etc/master.cf").write_text(
-        re.sub(r"^([a-z]+ +(?:unix|fifo) +[-yn]+ +[-yn]+ +)y", r"\1n", text, flags=re.M)
+        re.sub(r"^([\w.:]+ +(?:inet|unix|fifo) +[-yn]+ +[-yn]+ +)y", r"\1n", text, flags=re.M)
     )
     (room / "etc/main.cf").write_text(
         f"""compatibility_level = 3.6
@@ -232,10 +215,14 @@ queue_directory = {room}/queue
 data_directory = {room}/data
 myhostname = mx.example.net
 mydestination =
+mynetworks = 127.0.0.0/8
 inet_interfaces = loopback-only
 inet_protocols = ipv4
 relayhost = [127.0.0.1]:{sink.port}
 smtp_tls_security_level = none
+smtpd_peername_lookup = no
+smtp_dns_support_level = disabled
+smtp_host_lookup = native
 alias_maps =
 alias_database =
 maillog_file = {room}/log
@@ -245,7 +232,7 @@ maillog_file_prefixes = {room}
     words = ["postfix", "-c", str(room / "etc")]
     subprocess.run([*words, "start"], check=True, capture_output=True, timeout=PATIENCE)
     try:
-        yield ["/usr/sbin/sendmail", "-C", str(room / "etc"), "-i"]
+        yield f"127.0.0.1:{port}"
     finally:
         subprocess.run([*words, "stop"], check=False, capture_output=True, timeout=PATIENCE)
 
@@ -253,69 +240,67 @@ maillog_file_prefixes = {room}
 # Each with what it needs, its package, whether it must be root's, and the addresses that it takes beside plain ones.
 MAILERS = {
     aiosmtpd: (lambda: Controller is not None, "python3-aiosmtpd", False, QUOTED),
-    msmtp: (lambda: shutil.which("msmtp"), "msmtp", False, []),
-    msmtpd: (lambda: shutil.which("msmtpd") and shutil.which("msmtp"), "msmtp-mta", False, []),
-    nullmailer: (lambda: shutil.which("nullmailer-send"), "nullmailer", True, [ODD[-1], *QUOTED]),
-    exim: (lambda: shutil.which("exim4"), "exim4-daemon-light", True, ODD + QUOTED),
-    postfix: (lambda: shutil.which("postfix"), "postfix", True, [*ODD[:-1], *QUOTED]),
+    postfix: (lambda: shutil.which("postfix"), "postfix", True, [*QUOTED, LITERAL]),
+    exim: (lambda: shutil.which("exim4"), "exim4-daemon-light", True, QUOTED),
+    opensmtpd: (lambda: shutil.which("smtpd"), "opensmtpd", True, []),
 }
 
 
 def senders(run: int, odd: list) -> list:
-    """The recipients of a run's notices; a program could take some addresses for several, or for an option."""
+    """The recipients of a run's notices."""
     return [it % run for it in [*odd, *PLAIN][:RUN]]
 
 
-def one_run(path: Path, run: int, odd: list):
-    """A daemon on an outbox of its own, after that of the one before was moved away, and its one client."""
-    if path.exists():
-        path.rename(f"{path}.{time.time():.9f}")
+def requests(run: int, odd: list, number: int = 0) -> bytes:
+    """The frames of a run, numbered from a number on."""
     made = b""
     for at, sender in enumerate(senders(run, odd)):
         key = b"R%dx%d" % (run, at)
-        made += frames.append(2 * at, 1, key, b"bob@example.org", 1, b"5.1.1")
-        made += flush(2 * at + 1, key, return_path=sender, header=b"Subject: hi\n.dots\n..\n.\n")
-    with path.open("ab") as outbox, Daemon(1, 1, stdout=outbox) as daemon:
-        daemon.send(made)
-        daemon.running.wait(timeout=PATIENCE)
+        made += frames.append(number + 2 * at, 1, key, b"bob@example.org", 1, b"5.1.1")
+        made += flush(number + 2 * at + 1, key, return_path=sender, header=b"Subject: hi\n.dots\n..\n.\n")
+    return made
 
 
 def wanted(runs: int, odd: list) -> list:
-    """What arrives of so many runs: each Message-ID with its one recipient."""
-    each = ((run, at, to) for run in range(runs) for at, to in enumerate(senders(run, odd)))
-    return sorted((b"B.R%dx%d.1700000000.%d@mx.example.net" % (run, at, at), (unquoted(to),)) for run, at, to in each)
+    """What arrives of so many runs: the recipients of each notice, and its text."""
+    outbox = batch(b"".join(requests(run, odd, 2 * RUN * run) for run in range(runs))).outbox
+    paths = [(unquoted(to),) for run in range(runs) for to in senders(run, odd)]
+    return sorted(zip(paths, messages_of(outbox)))
 
 
-def handed_in(checks: Checks, mailer, runs: int, odd: list):
-    """The notices of so many runs, handed in while they come, and what arrives of them."""
-    sink, name = Sink(), mailer.__name__
-    with tempfile.TemporaryDirectory(
-        prefix="mailer-", ignore_cleanup_errors=True
-    ) as folder, tempfile.TemporaryDirectory() as place:
-        path = Path(place) / "outbox"
-        with mailer(sink, Path(folder)) as words, Following(path, "--retry", "2", "--done", "remove", *words) as feeder:
-            for run in range(runs):
-                one_run(path, run, odd)
+def without_front(message: bytes) -> bytes:
+    """A message without the header fields that a server put in front of the notice's first one."""
+    front, first, rest = message.partition(b"From: Mail Delivery System ")
+    return first + rest if FRONT.fullmatch(front) else message
+
+
+def one_run(journal: Journal, run: int, odd: list):
+    """A daemon and its one client. It ends with the client, so some notices may wait for the next."""
+    options = ("--journal", journal.folder, "--hand-in", journal.address)
+    with Daemon(1, 1, options=options) as daemon:
+        daemon.send(requests(run, odd))
+        daemon.running.wait(timeout=PATIENCE)
+
+
+def submitted(checks: Checks, mailer, runs: int, odd: list):
+    """The notices of so many runs, and what arrives of them."""
+    sink, name, count = Sink(), mailer.__name__, runs * RUN
+    with tempfile.TemporaryDirectory(prefix="mailer-", ignore_cleanup_errors=True) as folder:
+        with mailer(sink, Path(folder)) as address, journal_for(address) as journal:
             began = time.monotonic()
-            while (
-                len(sink.arrived) < runs * RUN and time.monotonic() - began < PATIENCE and feeder.running.poll() is None
-            ):
-                time.sleep(0.1)
+            for run in range(runs):
+                one_run(journal, run, odd)
+            with journal.daemon():
+                checks.true(f"{name}: all are settled", journal.is_settled(count))
+            took = time.monotonic() - began
+            until(lambda: len(sink.arrived) >= count, PATIENCE)
             time.sleep(1)  # nothing more comes
-            feeder.rests()
-            status, said = feeder.end()
-        took = time.monotonic() - began
-        twice = [it for it, times in Counter(it for it, _ in sink.arrived).items() if times > 1]
-        print(
-            f"  {name}: {runs * RUN} notices of {runs} runs, {len(sink.arrived)} arrived, "
-            f"{len(twice)} of them twice; the last {took:.0f} seconds after its run"
-        )
-        checks.equal(f"{name}: the feeder's end", (status, said), (0, [f"{runs * RUN} handed in, 0 left out"]))
-        checks.equal(f"{name}: what arrived", sorted(sink.arrived), wanted(runs, odd))
-        checks.equal(f"{name}: what else came", sink.refused, [])
-        checks.equal(
-            f"{name}: what lies there", sorted(it.name for it in Path(place).iterdir()), ["feed.outbox.state", "outbox"]
-        )
+            checks.equal(f"{name}: none is refused", journal.refused(), b"")
+    print(f"  {name}: {count} notices of {runs} runs in {took:.0f} seconds, {len(sink.arrived)} arrived")
+    arrived, all_of_them = Counter((paths, without_front(it)) for paths, it in sink.arrived), wanted(runs, odd)
+    checks.equal(f"{name}: missing, or with other bytes", [it for it in all_of_them if not arrived[it]], [])
+    checks.equal(f"{name}: more than once", [paths for (paths, _), times in arrived.items() if times > 1], [])
+    checks.equal(f"{name}: what else came", [it for it in arrived if it not in all_of_them] + sink.refused, [])
 
 
 def apart(checks: Checks, name: str, package: str, words: list):
@@ -334,7 +319,7 @@ def apart(checks: Checks, name: str, package: str, words: list):
 
 
 def main():
-    checks = Checks("mailers: each notice that the feeder hands to a real mail program arrives once")
+    checks = Checks("mailers: each notice that is submitted to a real mail server arrives once")
     options = {it for it in sys.argv[1:] if it.startswith("--")}
     runs = 20 if "--full" in options else 2
     named = [it for it in sys.argv[1:] if it not in options]
@@ -353,7 +338,7 @@ def main():
         elif is_of_root and os.geteuid():
             checks.skip(f"{name} (needs root)")
         else:
-            handed_in(checks, mailer, runs, odd)
+            submitted(checks, mailer, runs, odd)
     checks.done()
 
 

@@ -5,7 +5,7 @@ import subprocess
 import tempfile
 from pathlib import Path
 
-from tests.support.running import EXAMPLES, ROOT, Checks, program
+from tests.support.running import ROOT, VECTORS, Checks, program
 
 PATIENCE = 120  # seconds that one run of make may take
 TRIES = """#!/usr/bin/env python3
@@ -48,8 +48,8 @@ def main():
     checks.equal("its status", (ran.returncode, ran.stderr), (0, ""))
     checks.true("first it says that nothing is proved", "proves NOTHING" in lines[0])
     checks.true("and last", lines[-1].startswith("Nothing was proved."))
-    checks.true("the answers of batch", (EXAMPLES / "one-bounce.notes").read_text() in ran.stdout)
-    checks.true("its outbox", (EXAMPLES / "one-bounce.outbox").read_text().replace("\r\n", "\n") in ran.stdout)
+    checks.true("the answers of batch", (VECTORS / "one-bounce.notes").read_text() in ran.stdout)
+    checks.true("its outbox", (VECTORS / "one-bounce.outbox").read_text().replace("\r\n", "\n") in ran.stdout)
     for it in ANSWERS:
         checks.true(f"the daemon's answers: {it.splitlines()[0]}", it in ran.stdout)
     for it in ("ann@example.com", "sue@example.com"):

@@ -109,18 +109,44 @@ def check_append_and_flush(checks: Checks):
         )
 
 
+def dated(text: bytes) -> tuple:
+    """The Message-ID of a notice, and its date in seconds since 1970."""
+    head = email.message_from_bytes(text)
+    return head["Message-ID"], email.utils.parsedate_to_datetime(head["Date"]).timestamp()
+
+
 def check_dates(checks: Checks):
-    """Notices of one second: each is dated by the clock, and no two have the same Message-ID."""
+    """A notice is dated by its log. Of the same log it has the same bytes, whichever process makes it; of a log that has
+    another time, or has grown, it has another Message-ID. One without a log is dated by the clock, and like no other."""
+    moment = int(time.time()) - 86_400
     with Postfix() as it:
+
+        def told(seconds: int, appends: int = 0) -> bytes:
+            it.put("one", "bounce")
+            for _ in range(appends):
+                checks.equal("an append", it.ask("bounce", append(ONE, offset=6)), 0)
+            os.utime(it.at(f"bounce/{ONE}"), (moment + seconds, moment + seconds))
+            checks.equal("a flush", it.ask("bounce", asked_in("one", "failure")), 0)
+            return it.server.taken[-1][2]
+
+        first, again, later, grown = told(0), told(0), told(1), told(0, appends=1)
+        it.kill()
+        it.start()
+        checks.equal("the same log again", again, first)
+        checks.equal("the same log, in another process", told(0), first)
+        checks.equal("their date", dated(first)[1], moment)
+        checks.equal("the date of a later log", dated(later)[1], moment + 1)
+        checks.equal("the date of a longer log", dated(grown)[1], moment)
+        checks.equal("Message-IDs", len({dated(text)[0] for text in (first, later, grown)}), 3)
+    with Postfix() as it:
+        it.put("one", "bounce")
         began = int(time.time())
         for _ in range(4):
-            it.put("one", "bounce")
-            checks.equal("a flush", it.ask("bounce", asked_in("one", "failure")), 0)
-        heads = [email.message_from_bytes(text) for *_, text in it.server.taken]
-        checks.equal("Message-IDs", len({head["Message-ID"] for head in heads}), 4)
-        for head in heads:
-            moment = email.utils.parsedate_to_datetime(head["Date"]).timestamp()
-            checks.true(f"{head['Date']} is by the clock", began <= moment <= time.time())
+            checks.equal("without a log", it.ask("bounce", notice(4, ONE, **reported())), 0)
+        heads = [dated(text) for *_, text in it.server.taken]
+        checks.equal("Message-IDs without a log", len({name for name, _ in heads}), 4)
+        for name, date in heads:
+            checks.true(f"{name} is by the clock", began <= date <= time.time())
 
 
 def check_modes(checks: Checks):
@@ -746,7 +772,7 @@ def check_reasons(checks: Checks):
     quoted, whole = '"bob smith"@example.org', (FILES / "one/bounce").read_bytes()
     for about, log, request, wanted in (
         ("no request", None, listed(what="ever"), "no request: bounce: passed on: an attribute has another name"),
-        ("no queue id", None, notice(1, "A/B"), "no request: bounce: passed on: the queue id is none"),
+        ("no queue id", None, notice(1, "A/B"), "no request: bounce: passed on: the queue id is malformed"),
         ("an append", None, append(ONE, quoted), "the recipient can't be said in a log"),
         ("no log", None, notice(1, ONE), "the log is missing"),
         ("a damaged log", whole + b"what?\n\n", notice(1, ONE), f"the log is damaged at byte {len(whole)}"),
@@ -917,7 +943,8 @@ def check_full_disk(checks: Checks):
 
 
 def check_kills(checks: Checks):
-    """Killed by SIGKILL or SIGTERM while a notice is handed in: its log stays, and the next process hands it in."""
+    """Killed by SIGKILL or SIGTERM while a notice is handed in: its log stays, and the next process hands in the same
+    bytes."""
     for how in (signal.SIGKILL, signal.SIGTERM):
         with Postfix() as it:
             it.put("one")
@@ -945,6 +972,7 @@ def check_kills(checks: Checks):
                 ),
                 (0, 1, False),
             )
+            checks.equal(f"{how.name}: the same notice", it.server.taken[taken:], it.server.taken[:1])
 
 
 def asked_until_done(it: Postfix, message: str):
@@ -961,7 +989,8 @@ def asked_until_done(it: Postfix, message: str):
 
 
 def check_kills_at_work(checks: Checks):
-    """Killed again and again while it works: each sender gets at least one notice, of its own recipients alone."""
+    """Killed again and again while it works: each sender gets at least one notice, of its own recipients alone, and it
+    has the same bytes if it comes again."""
     messages = [f"A{number}" for number in range(MESSAGES)]
     with Postfix() as it:
         it.at("deferred/A").mkdir()
@@ -993,6 +1022,8 @@ def check_kills_at_work(checks: Checks):
         print(f"  {MESSAGES} messages, {len(it.lines())} starts and notices, {len(told)} told")
         checks.equal("each is told", sorted({name.decode() for names in told for name in names}), sorted(messages))
         checks.true("and only of its own recipient", all(len(set(names)) == 1 for names in told))
+        texts = {text for _, _, text in it.server.taken}
+        checks.equal("and by the same bytes each time", len(texts), len(messages))
         checks.equal("no log is left", os.listdir(it.at("bounce")), [])
 
 

@@ -1,15 +1,51 @@
-"""Keeps docs/REFUSALS.md true: each number of docs/FORMATS.md has a row there, with the same words, and no other has;
-each test that a row names is there, in a file that has the number. A number has one home in the code, the module
-fault_code, and one in the contracts, FaultCode: both have exactly these numbers under the same names, each is named by
-a shipped crate, and no other file says a number where a refusal or a fault is meant."""
+"""Each number of noticed-protocol(5) is met by a test, which exists in a file that has the number; what a test asserts
+isn't read. A number has one home in the code, the module fault_code, and one in the contracts, FaultCode: both have
+exactly these numbers under the same names, each is named by a shipped crate, and no other file says a number where a
+refusal or a fault is meant. `python3 -m tests.contracts` prints which test meets which number."""
 import re
 from pathlib import Path
 
+from tests.printed import fault_words
 from tests.support.running import ROOT, Checks
 
-FORMATS, REFUSALS = (ROOT / "docs" / name for name in ("FORMATS.md", "REFUSALS.md"))
-ROW = re.compile(r"^\| (\d+) \| ([^|]+) \| ([^|]+) \|$", re.M)
-TEST = re.compile(r"`([\w./]+): (\w+)`")
+# The numbers that a test meets, by its file and function. A file of a crate is named without `crates/`.
+MEETS = {
+    "dsn_bytes_tests/src/report.rt: nothing_after_the_fault": [32],
+    "dsn_crew_tests/src/crew/keepers.rt: refused_request_ends_a_crew": [45],
+    "dsn_crew_tests/src/desk/gone.rt: agent_without_its_collector_is_lost": [41],
+    "noticed_lib_tests/src/batch.rt: devices_that_fail_in_mid_stream": [14, 31],
+    "noticed_lib_tests/src/batch.rt: host_with_an_underscore": [51],
+    "tests/arguments.py: main": [61],
+    "tests/crew_connections.py: check_endless": [44],
+    "tests/crew_connections.py: serve": [35],
+    "tests/daemon.py: odd_clients": [46],
+    "tests/daemon_faults.py: sockets": [61],
+    "tests/daemon_limits.py: requests": [44, 47],
+    "tests/growths_refused.py: check_calls": [9, 42],
+    "tests/growths_refused.py: main": [9],
+    "tests/journal_faults.py: check_ended": [45],
+    "tests/journal_faults.py: files": [71, 73, 74, 75, 76, 77],
+    "tests/journal_faults.py: lost_bytes": [75],
+    "tests/journal_faults.py: not_opened": [72],
+    "tests/journal_faults.py: outboxes": [31],
+    "tests/journal_faults.py: short_marks": [71],
+    "tests/journal_limits.py: raised": [74],
+    "tests/journal_listing.py: files": [71, 73, 74, 75, 76, 77],
+    "tests/journal_listing.py: folders": [72],
+    "tests/journal_listing.py: lost_lines": [33],
+    "tests/limits.py: requests": [47],
+    "tests/refused_bodies.py: main": [*range(1, 9), 10, *range(15, 31)],
+    "tests/send.py: answers": [11, 12, 21, 22, 23, 24, 34, 46, 48],
+    "tests/send.py: connections": [35, 61],
+    "tests/send.py: inputs": [13, 14],
+    "tests/send.py: outputs": [33],
+    "tests/streams.py: check_broken_input": [14],
+    "tests/streams.py: check_broken_outbox": [31],
+    "tests/streams.py: check_cuts": [13],
+    "tests/streams.py: check_lengths": [11, 12],
+    "tests/threads.py: main": [43],
+    "tests/threads.py: refused": [42],
+}
 HOMES = {"src": ROOT / "crates/dsn_text/src/fault_code.rt", "specs": ROOT / "crates/dsn_text/specs/FaultCode.antt"}
 CONSTANT = re.compile(r"^pub const (\w+): u32 = (\d+);$", re.M)
 DEFINITION = re.compile(r"^(\w+)_code = (\d+)$", re.M)
@@ -26,11 +62,6 @@ IN_CONTRACTS = re.compile(
     r"|\(Some (\d+)|ended_with (\d+)|fault_line (\d+)|code == (\d+)"
 )
 COMMENT = re.compile(r"^\s*(?://|--).*$", re.M)
-
-
-def section(text: str, title: str) -> str:
-    """A section of a page, from its title to the next one."""
-    return re.split(r"^## ", text.split(title, 1)[1], maxsplit=1, flags=re.M)[0]
 
 
 def shipped(part: str) -> list:
@@ -59,30 +90,31 @@ def check_homes(checks: Checks, told: dict):
             checks.equal(f"numbers in {path.relative_to(ROOT)}", [it.group() for it in pattern.finditer(text)], [])
 
 
-def meets(path: Path, name: str, number: str) -> bool:
+def meets(path: Path, name: str, number: int) -> bool:
     """Whether a file has a function of that name, and the number in it or in the file's constants and helpers."""
     text = path.read_text()
     return bool(re.search(rf"(?:fn|def) {name}\b", text) and re.search(rf"(?<![\d.]){number}(?![\d.])", text))
 
 
+def table() -> str:
+    """A row for each number: its words, and the tests that meet it."""
+    rows = ["| Number | Refusal or fault | Tests |", "|---|---|---|"]
+    for number, words in fault_words().items():
+        tests = ", ".join(f"`{test}`" for test, numbers in MEETS.items() if number in numbers)
+        rows.append(f"| {number} | {words} | {tests} |")
+    return "\n".join(rows)
+
+
 def main():
-    checks = Checks("refusals: docs/REFUSALS.md has each refusal with the tests that meet it")
-    told = {
-        int(number): words.strip()
-        for number, words, _ in ROW.findall(section(FORMATS.read_text(), "## 16. All numbers"))
-    }
-    rows = {int(number): (words.strip(), tests) for number, words, tests in ROW.findall(REFUSALS.read_text())}
-    checks.equal("the numbers of FORMATS.md and of REFUSALS.md", sorted(rows), sorted(told))
+    checks = Checks("refusals: a test meets each number, which has one home in the code and one in the contracts")
+    told, met = fault_words(), set().union(*MEETS.values())
+    checks.equal("the numbers that have words and those that a test meets", sorted(met), sorted(told))
     check_homes(checks, told)
-    for number, (words, tests) in rows.items():
-        checks.equal(f"the words of {number}", words, told.get(number))
-        named = TEST.findall(tests)
-        checks.true(f"a test of {number}", named)
-        for file, name in named:
-            path = ROOT / (file if file.startswith("tests/") else f"crates/{file}")
-            checks.true(
-                f"{number}: {file} has {name} and the number", path.is_file() and meets(path, name, str(number))
-            )
+    for test, numbers in MEETS.items():
+        file, _, name = test.partition(": ")
+        path = ROOT / (file if file.startswith("tests/") else f"crates/{file}")
+        for number in numbers:
+            checks.true(f"{file} has {name} and {number}", path.is_file() and meets(path, name, number))
     checks.done()
 
 

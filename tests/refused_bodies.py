@@ -1,5 +1,5 @@
 """Bodies at the bounds of each field and one byte past them, one byte away from a legal one, or cut: whether the
-program accepts each as its first request, and else the number of its refusal (docs/FORMATS.md, sections 3 and 4)."""
+program accepts each as its first request, and else the number of its refusal (noticed-protocol(5))."""
 import os
 from concurrent.futures import ThreadPoolExecutor
 

@@ -3,6 +3,7 @@ and its open logs have their ages. Beside it nothing changes: who reads the stat
 import os
 import re
 import socket
+import tempfile
 import threading
 import time
 from collections import Counter
@@ -14,7 +15,7 @@ from tests.support.running import Checks, run
 
 CLIENTS, MESSAGES = 4, 150
 SECOND = 1.0
-METRIC = re.compile(rb'(# (HELP|TYPE) noticed_[a-z_]+ .+|noticed_[a-z_]+(\{reply="[a-z_]+"\})? [0-9]+)')
+METRIC = re.compile(rb'(# (HELP|TYPE) noticed_[a-z_]+ .+|noticed_[a-z_]+(\{(reply|kind)="[a-z_]+"\})? [0-9]+)')
 REPLIES = {
     1: "logged",
     2: "closed",
@@ -58,6 +59,9 @@ def requests_of(name: bytes) -> list:
     ]
 
 
+KINDS = {"append": 5, "flush": 3, "forget": 2, "discard": 1}  # how many of them
+
+
 def client_of(daemon: Daemon, at: int, replies: Counter):
     """A client that counts its answers by their replies."""
     with daemon.connect() as client:
@@ -84,6 +88,9 @@ def load(checks: Checks):
         for name in REPLIES.values():
             checks.equal(f"answers: {name}", told[f"answered_{name}"], str(total[name]))
         many = CLIENTS * MESSAGES
+        for kind, each in KINDS.items():
+            checks.equal(f"requests: {kind}", told[f"requests_{kind}"], str(each * many))
+        checks.true("no journal", "journal_size" not in told)
         checks.equal("open keys", told["keys_open"], str(many))
         checks.equal("closed keys", told["keys_closed"], str(3 * many))
         checks.equal("held keys", told["keys_held"], str(4 * many))
@@ -124,6 +131,22 @@ def ages(checks: Checks):
         checks.true("their ages", int(logs[0][3]) - int(logs[1][3]) in (2, 3))
 
 
+def journal_bytes(checks: Checks):
+    """How much of a journal has records: as many bytes as its file has."""
+    with tempfile.TemporaryDirectory(prefix="noticed-") as room:
+        folder = Path(room) / "journal"
+        folder.mkdir()
+        (folder / "journal").write_bytes(bytes(65_536))
+        with Daemon(1, 10, options=("--journal", str(folder), "--outbox", str(Path(room) / "outbox"))) as daemon:
+            with daemon.connect() as client:
+                for at in range(3):
+                    asked(client, append(at, b"K"))
+                    used = len((folder / "journal").read_bytes().rstrip(b"\0"))
+                    told = counts(daemon)
+                    found = (told["journal_used"], told["journal_size"])
+                    checks.equal("bytes of the journal", found, (str(used), "65536"))
+
+
 def metrics(checks: Checks):
     """Each line is one of the text format, and each metric has its kind."""
     with Daemon(1, 10) as daemon:
@@ -136,6 +159,7 @@ def metrics(checks: Checks):
         checks.equal("each metric has its kind", named, kinds)
         checks.true("a notice", b"noticed_notices_written_total 1" in lines)
         checks.true("its answer", b'noticed_answers_total{reply="sealed"} 1' in lines)
+        checks.true("its request", b'noticed_requests_total{kind="flush"} 1' in lines)
         both = run(["status", "--open", "--prometheus", daemon.path])
         checks.equal("both options", both.status, 2)
 
@@ -193,7 +217,7 @@ def key_lines(checks: Checks):
 
 def main():
     checks = Checks("status: what a daemon says of itself beside its agents")
-    for check in (load, held_agents, ages, metrics, socket_files, slow_reader, key_lines):
+    for check in (load, held_agents, ages, journal_bytes, metrics, socket_files, slow_reader, key_lines):
         check(checks)
     checks.done()
 

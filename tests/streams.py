@@ -4,7 +4,7 @@ import subprocess
 import time
 
 from tests.support.faults import fault_line
-from tests.support.running import EXAMPLES, HOST, LIMIT, Checks, Ran, batch, empty_outbox, program
+from tests.support.running import HOST, LIMIT, VECTORS, Checks, Ran, batch, empty_outbox, examples, program
 
 PAUSE = 0.0005  # seconds between two pieces, so that the program reads them one by one
 
@@ -35,11 +35,10 @@ def closed_pipe() -> int:
 
 def check_pieces(checks: Checks):
     """The pieces in which the input arrives change nothing."""
-    for frames in sorted(EXAMPLES.glob("*.frames")):
-        outbox, notes = (frames.with_suffix(it).read_bytes() for it in (".outbox", ".notes"))
-        wanted = Ran(outbox, notes, int(frames.with_suffix(".status").read_text()))
+    for it in examples():
+        wanted = Ran(it.bytes("outbox"), it.bytes("notes"), it.status)
         for size in (1, 2, 3):
-            checks.equal(f"{frames.stem}, {size} at a time", in_pieces(frames.read_bytes(), size), wanted)
+            checks.equal(f"{it.name}, {size} at a time", in_pieces(it.bytes("frames"), size), wanted)
 
 
 def check_cuts(checks: Checks, given: bytes, whole: bytes):
@@ -112,7 +111,7 @@ def main():
     checks = Checks(
         "streams: input in pieces, cut at each byte, out of bounds, broken; outputs that are closed or full"
     )
-    given, whole = ((EXAMPLES / f"one-bounce.{it}").read_bytes() for it in ("frames", "outbox"))
+    given, whole = ((VECTORS / f"one-bounce.{it}").read_bytes() for it in ("frames", "outbox"))
     check_pieces(checks)
     check_cuts(checks, given, whole)
     check_lengths(checks, given)

@@ -12,14 +12,14 @@ from typing import Optional
 from tests.support.daemon_and_clients import Daemon, answer, append, asked
 from tests.support.preloading import built, compare_ends, each_refused, preloading
 from tests.support.faults import fault_line
-from tests.support.running import EXAMPLES, HOST, ROOT, Checks, Ran, empty_outbox
+from tests.support.running import HOST, ROOT, VECTORS, Checks, Ran, empty_outbox
 
 PROBE = os.environ.get("PROBE") or str(ROOT / "crates/probe/out/probe")
 PATIENCE = 20  # seconds that a run may take
 MOST = 300  # growths of a run; more than this and the sweep is broken
 
 # the notice that agent 0's log comes to
-OUTBOX = (EXAMPLES / "one-bounce.outbox").read_bytes().replace(b"ann@example.com", b"ann@example")
+OUTBOX = (VECTORS / "one-bounce.outbox").read_bytes().replace(b"ann@example.com", b"ann@example")
 UNBEGUN = Ran(b"", b"", 1)  # the program's own memory was refused
 
 

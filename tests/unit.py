@@ -1,14 +1,13 @@
-"""Checks examples/noticed.service and its socket without systemd: their keys, by a parser; their steps in systemd's own order
-(the folders are made, then the commands run), in a folder of this script's own with nothing there; the modes and owners
-that come of it; the runs that follow one another, and their ends; and the whole of it by `systemd-analyze verify` and
-`security` where that is installed. As root the daemon runs as an account of its own, and others try to get at its
-socket and its outbox. And examples/noticed-feed.service: that it follows the outbox of the first, as an account that
-may read it, is waited for as long as a reply may take, and keeps nothing from the mail program that it runs.
-tests/boot.py tries both under systemd. And examples/noticed-postfix.socket and .service: their keys, and that the
-command takes the sockets in a queue folder that is put in place of Postfix's. tests/boot_postfix.py tries both under
-systemd."""
+"""Checks dist/noticed.service and its socket without systemd: their keys, by a parser; their steps in systemd's own
+order (the folders are made, then the commands run), in a folder of this script's own with nothing there; the modes and
+owners that come of it; the runs that follow one another, and their ends; and the whole of it by `systemd-analyze
+verify` and `security` where that is installed. As root the daemon runs as an account of its own, and others try to get
+at its socket and its journal. Its notices go to a mail server of this script. tests/boot.py tries them under systemd.
+And dist/noticed-postfix.socket and .service: their keys, and that the command takes the sockets in a queue folder
+of this script's, which a main.cf names. tests/boot_postfix.py tries both under systemd."""
 import contextlib
 import os
+import pwd
 import re
 import shlex
 import shutil
@@ -22,28 +21,15 @@ from dataclasses import dataclass
 from pathlib import Path
 
 from tests.support.daemon_and_clients import FIRST_FRAME, FRAMES, NOTES, PATIENCE
+from tests.support.mail_servers import MailServer, comes_to
 from tests.support.private_postfix import HANDS_ON
-from tests.support.running import EXAMPLES, HOST, ROOT, Checks, Ran, empty_outbox, program
+from tests.support.running import DIST, HOST, ROOT, Checks, Ran, program
 
-UNIT, SOCKET = EXAMPLES / "noticed.service", EXAMPLES / "noticed.socket"
-INSTANCE, INSTANCE_SOCKET = EXAMPLES / "noticed@.service", EXAMPLES / "noticed@.socket"
-FEEDER = EXAMPLES / "noticed-feed.service"
-POSTFIX, SOCKETS = EXAMPLES / "noticed-postfix.service", EXAMPLES / "noticed-postfix.socket"
+UNIT, SOCKET = DIST / "noticed.service", DIST / "noticed.socket"
+INSTANCE, INSTANCE_SOCKET = DIST / "noticed@.service", DIST / "noticed@.socket"
+POSTFIX, SOCKETS = DIST / "noticed-postfix.service", DIST / "noticed-postfix.socket"
 QUEUE = "/var/spool/postfix"  # Postfix's folder, as Debian has it
 DAEMON, AGENT, STRANGER = 64801, 64802, 64803  # accounts that no machine has; the daemon's group has its number
-# Keys of a unit that hide files from what it runs, or take rights away; and those that the feeder's has as comments.
-KEEPS = (
-    "Protect",
-    "Private",
-    "Restrict",
-    "SystemCall",
-    "Capability",
-    "NoNewPrivileges",
-    "ReadOnly",
-    "ReadWrite",
-    "Inaccessible",
-)
-OPTION = re.compile(r"^#(?=[A-Z][A-Za-z]+=)", re.MULTILINE)
 WANTED = {
     "Type": ["notify"],
     "User": ["noticed"],
@@ -59,7 +45,9 @@ WANTED = {
     "RestartPreventExitStatus": ["2"],
     "NoNewPrivileges": ["yes"],
     "ProtectSystem": ["strict"],
-    "RestrictAddressFamilies": ["AF_UNIX"],
+    "RestrictAddressFamilies": ["AF_UNIX AF_INET AF_INET6"],
+    "IPAddressDeny": ["any"],
+    "IPAddressAllow": ["localhost"],
 }
 WANTED_OF_SOCKET = {
     "ListenStream": ["/run/noticed/socket"],
@@ -67,6 +55,7 @@ WANTED_OF_SOCKET = {
     "SocketGroup": ["noticed"],
     "SocketMode": ["0660"],
 }
+MANUAL = re.compile(r"man:([\w-]+)\((\d)\)")  # what a unit's documentation names
 EXPOSURE = 1.0  # what `systemd-analyze security` may say at most
 
 # Of the unit for Postfix: its account, that it is there before Postfix asks, and what it may get at.
@@ -81,8 +70,8 @@ WANTED_OF_POSTFIX = {
     "CapabilityBoundingSet": [""],
     "ProtectSystem": ["strict"],
     "ReadWritePaths": [QUEUE],
-    "RestrictAddressFamilies": ["AF_UNIX AF_INET AF_INET6"],
-    "IPAddressAllow": ["localhost"],
+    "RestrictAddressFamilies": ["AF_UNIX"],
+    "IPAddressDeny": ["any"],
 }
 
 
@@ -98,7 +87,7 @@ WANTED_OF_SOCKETS = {
 }
 
 
-OF_OTHERS = {"postfix.service", "sendmail.c", "exim.c"}  # files of other programs that the pages name
+GUIDES = ("postfix.md", "operating.md", "troubleshooting.md", "first-client.md")  # the installed pages
 
 
 def sections_of(text: str) -> dict:
@@ -118,12 +107,6 @@ def words_of(command: str) -> list:
     return [it.replace("$$", "$").replace("%%", "%") for it in shlex.split(command)]
 
 
-def seconds_of(time_span: str) -> int:
-    """The seconds of one of systemd's time spans, of one number and one unit."""
-    number, unit = re.fullmatch(r"(\d+)(s|min|)", time_span).groups()
-    return int(number) * (60 if unit == "min" else 1)
-
-
 @dataclass
 class Machine:
     """A folder that stands for a machine where the unit was never started: `make install` was done, and there is
@@ -138,14 +121,15 @@ class Machine:
         for folder in ("run", "var/lib"):
             (self.room / folder).mkdir(parents=True)
         install(self.room)
-        self.starts, self.options = 0, ""
+        self.server, self.options = MailServer(), ""
+        self.configure((self.room / "etc/noticed/noticed.conf").read_text())
         self.listener = socket.socket(socket.AF_UNIX)
         self.manager = socket.socket(socket.AF_UNIX, socket.SOCK_DGRAM)
         self.manager.settimeout(PATIENCE)
 
     def __enter__(self):
         """Makes what tmpfiles.d and the socket unit have."""
-        line = (self.room / "usr/local/lib/tmpfiles.d/noticed.conf").read_text().splitlines()[-1].split()
+        line = (self.room / "usr/lib/tmpfiles.d/noticed.conf").read_text().splitlines()[-1].split()
         folder = self.path(line[1])
         folder.mkdir(parents=True)
         folder.chmod(int(line[2], 8))
@@ -163,6 +147,11 @@ class Machine:
         self.listener.close()
         self.manager.close()
 
+    def configure(self, text: str):
+        """Writes the configuration file, with this machine's mail server."""
+        text = text.replace("hand-in = localhost:25", f"hand-in = {self.server.address}")
+        (self.room / "etc/noticed/noticed.conf").write_text(text)
+
     def path(self, name: str) -> Path:
         """Where a path of the unit is on this machine."""
         return self.room / name.lstrip("/")
@@ -175,7 +164,7 @@ class Machine:
                 words += values.get(it[1:], "").split()
             else:
                 words.append(re.sub(r"\$\{(\w+)\}", lambda found: values.get(found[1], ""), it))
-        return [re.sub(r"(?<![\w/])/(?=(run|var|etc|usr/local)/)", f"{self.room}/", it) for it in words]
+        return [re.sub(r"(?<![\w/])/(?=(run|var|etc|usr)/)", f"{self.room}/", it) for it in words]
 
     def one(self, key: str, default: str = "") -> str:
         """The value of a key that stands once."""
@@ -202,7 +191,7 @@ class Machine:
         self.folders()
         # (the interpreter may lie where that account can't get to)
         drop = ["setpriv", f"--reuid={DAEMON}", f"--regid={DAEMON}", "--clear-groups", "--"] if self.account else []
-        values = {"INVOCATION_ID": f"{self.starts:032x}", "NOTICED_OPTIONS": self.options}
+        values = {"NOTICED_OPTIONS": self.options}
         words = [sys.executable, "-c", HANDS_ON, str(self.listener.fileno()), *drop, *self.here(command, values)]
         with open(self.room / "journal", "ab") as journal:
             return subprocess.Popen(
@@ -216,16 +205,9 @@ class Machine:
                 umask=int(self.one("UMask", "0022"), 8),
             )
 
-    def start(self) -> subprocess.Popen:
-        """Runs what comes before the daemon, and begins it."""
-        self.starts += 1
-        for before in self.service.get("ExecStartPre", []):
-            self.begin(before).wait(timeout=PATIENCE)
-        return self.begin(self.one("ExecStart"))
-
     def started(self, checks: Checks) -> subprocess.Popen:
         """A start, which is over once the daemon says so."""
-        daemon = self.start()
+        daemon = self.begin(self.one("ExecStart"))
         told = b""
         with contextlib.suppress(TimeoutError):
             while told != b"READY=1":
@@ -242,12 +224,8 @@ class Machine:
         return self.room / "run/noticed/socket"
 
     @property
-    def outbox(self) -> Path:
-        return self.room / "var/lib/noticed/outbox"
-
-    def outboxes(self) -> list:
-        """The outboxes of runs before, in their order."""
-        return [it.read_bytes() for it in sorted(self.outbox.parent.glob("outbox.*"))]
+    def journal(self) -> Path:
+        return self.room / "var/lib/noticed/journal"
 
     def notes(self) -> bytes:
         """What the daemon wrote to the journal."""
@@ -256,7 +234,7 @@ class Machine:
     def send(self, given: bytes = FRAMES, account: int = AGENT, groups=(DAEMON,)) -> Ran:
         """Runs `noticed send` as an account with these groups."""
         how = {"user": account, "group": account, "extra_groups": groups} if self.account else {}
-        words = [str(self.room / "usr/local/bin/noticed"), "send", str(self.socket)]
+        words = [str(self.room / "usr/bin/noticed"), "send", str(self.socket)]
         ended = subprocess.run(words, input=given, capture_output=True, check=False, timeout=PATIENCE, **how)
         return Ran(ended.stdout, ended.stderr, ended.returncode)
 
@@ -271,18 +249,18 @@ class Machine:
 def install(room: Path):
     """`make install` into a folder."""
     words = ["make", "--silent", f"--old-file={program()}", "install", f"BUILT={program()}", f"DESTDIR={room}"]
-    subprocess.run([*words, "PREFIX=/usr/local"], cwd=ROOT, stdout=subprocess.DEVNULL, check=True, timeout=PATIENCE)
+    subprocess.run([*words, "PREFIX=/usr"], cwd=ROOT, stdout=subprocess.DEVNULL, check=True, timeout=PATIENCE)
 
 
 def has_accounts(checks: Checks) -> bool:
     """Whether commands can be run as other accounts here."""
     if os.geteuid():
-        checks.skip("other accounts at the outbox (needs root)")
+        checks.skip("other accounts at the journal (needs root)")
         return False
     try:
         return subprocess.run(["true"], check=False, user=DAEMON, group=DAEMON, extra_groups=[AGENT]).returncode == 0
     except (OSError, subprocess.SubprocessError):
-        checks.skip("other accounts at the outbox (no command can be run as another account here)")
+        checks.skip("other accounts at the journal (no command can be run as another account here)")
         return False
 
 
@@ -304,7 +282,7 @@ def check_keys(checks: Checks, sections: dict):
         checks.equal(f"the socket: {key}", given.get(key), value)
     commands = [it for key, values in sections["Service"].items() if key.startswith("Exec") for it in values]
     programs = {words_of(it.lstrip("-"))[0] for it in commands}
-    checks.equal("no script runs", programs, {"/usr/bin/find", "/usr/local/bin/noticed"})
+    checks.equal("no other program runs", programs, {"/usr/bin/noticed"})
 
 
 def check_instance(checks: Checks):
@@ -328,9 +306,12 @@ def check_instance(checks: Checks):
 def check_access(checks: Checks, machine: Machine):
     """A first start as the unit has it, and who can do what then."""
     daemon = machine.started(checks)
-    paths = [machine.socket.parent, machine.socket, machine.outbox.parent, machine.outbox]
-    checks.equal("modes", [mode_of(it) for it in paths], ["drwxr-x---", "srw-rw----", "drwx------", "-rw-------"])
+    journal = machine.journal
+    paths = [machine.socket.parent, machine.socket, journal.parent, journal, journal / "refused"]
+    modes = ["drwxr-x---", "srw-rw----", "drwx------", "drwx------", "-rw-------"]
+    checks.equal("modes", [mode_of(it) for it in paths], modes)
     checks.equal("an agent's account sends a message", machine.send(), Ran(NOTES, b"", 0))
+    checks.true("the mail server has its notice", comes_to(lambda: len(machine.server.taken), 1))
     if machine.account:
         checks.equal("owners", {(it.stat().st_uid, it.stat().st_gid) for it in paths}, {(DAEMON, DAEMON)})
         checks.equal("an account that isn't in the group", machine.send(account=STRANGER, groups=[]).status, 1)
@@ -342,40 +323,36 @@ def check_access(checks: Checks, machine: Machine):
 def check_others(checks: Checks, machine: Machine):
     """What an agent's account can't do, though it is in the group that may connect."""
     tries = {
-        "read the outbox": f"cat {machine.outbox}",
-        "cut the outbox": f": > {machine.outbox}",
-        "list the outboxes": f"ls {machine.outbox.parent}",
+        "read the journal": f"cat {machine.journal}/journal",
+        "cut the journal": f": > {machine.journal}/journal",
+        "read what was refused": f"cat {machine.journal}/refused",
+        "list the folder": f"ls {machine.journal.parent}",
         "remove the socket": f"rm {machine.socket}",
         "move the socket": f"mv {machine.socket} {machine.socket}.stopping",
         "put a file beside the socket": f": > {machine.socket}.mine",
         "lock the run's file": f"flock --nonblock {machine.socket}.run true",
-        "stop the daemon": f"{machine.room}/usr/local/bin/noticed stop {machine.socket}",
+        "stop the daemon": f"{machine.room}/usr/bin/noticed stop {machine.socket}",
     }
     for what, command in tries.items():
         checks.true(f"an agent can't {what}", machine.shell(command, AGENT) != 0)
-    checks.true("the daemon's account can read the outbox", machine.shell(f"cat {machine.outbox}", DAEMON) == 0)
+    checks.true("the daemon's account can read it", machine.shell(f"cat {machine.journal}/refused", DAEMON) == 0)
 
 
 def check_runs(checks: Checks, machine: Machine):
-    """Two runs to their last connections, each with an outbox of its own; then a stop, and a kill."""
+    """Two runs to their last connections, whose notices come once each; then a stop, and a kill."""
+    machine.configure("host = mx.example.net\nagents = 1\nmax-use = 2\njournal = journal\nhand-in = localhost:25\n")
     for runs in (1, 2):
-        machine.options = ""
-        (machine.path("/etc/noticed/noticed.conf")).write_text(
-            "host = mx.example.net\nagents = 1\nmax-use = 2\njournal = journal\noutbox = outbox\n"
-        )
         daemon = machine.started(checks)
         frames = FRAMES.replace(b"A1B2C3", b"A1B2C%d" % runs)
         checks.equal("an agent's account sends a message", machine.send(frames).status, 0)
+        checks.true("its notice comes", comes_to(lambda: len(machine.server.taken), runs))
         checks.equal("the run's last connection", machine.send(b""), Ran(b"", b"", 0))
         checks.equal("the run ends", daemon.wait(timeout=PATIENCE), 0)
-        checks.equal("the outboxes of runs before", len(machine.outboxes()), runs - 1)
         checks.equal("systemd's command after it", machine.stop(), 1)
     machine.options = "--end-on-fault --log"
     daemon = machine.started(checks)
-    checks.equal("two outboxes", [it.count(b"\r\nMessage-ID: ") for it in machine.outboxes()], [1, 1])
     checks.equal("an outcome that nobody flushes", machine.send(FRAMES[:FIRST_FRAME]).outbox, b"0 logged 0\n")
     checks.equal("an orderly stop", (machine.stop(), daemon.wait(timeout=PATIENCE)), (0, 0))
-    checks.equal("the outbox of a run that was stopped", machine.outbox.read_bytes(), empty_outbox())
     checks.true("what is open is named", b"open B A1B2C3 1\n" in machine.notes())
     checks.true("options of the environment", b"\nending: the run was stopped\n" in machine.notes())
     daemon = machine.started(checks)
@@ -384,67 +361,48 @@ def check_runs(checks: Checks, machine: Machine):
     daemon = machine.started(checks)
     checks.equal("after a kill, the log is kept", machine.send(FRAMES[:FIRST_FRAME]).outbox, b"0 logged 1\n")
     checks.equal("the stop", (machine.stop(), daemon.wait(timeout=PATIENCE)), (0, 0))
-    checks.true("an outbox with nothing in it isn't kept", all(machine.outboxes()))
+    ids = [it.partition(b"Message-ID: <")[2].partition(b".17")[0] for _, it in machine.server.taken]
+    checks.equal("each notice came once", ids, [b"B.A1B2C1", b"B.A1B2C2"])
     checks.equal("the socket's folder", [it.name for it in machine.socket.parent.iterdir()], ["socket"])
 
 
 def check_wrong(checks: Checks, machine: Machine):
     """A wrong value ends the start with the status at which systemd tries no more."""
     machine.path("/etc/noticed/noticed.conf").write_text("host = mx.example.net\nagent = 1\n")
-    daemon = machine.start()
+    daemon = machine.begin(machine.one("ExecStart"))
     checks.equal("a wrong key", str(daemon.wait(timeout=PATIENCE)), machine.one("RestartPreventExitStatus"))
     checks.true("is named with its line", b"noticed.conf:2: has an unknown key: 'agent'\n" in machine.notes())
 
 
 def check_installed(checks: Checks, machine: Machine, *commands: str):
     """`make install` puts the units there, each file that they name, and what the pages for operators name."""
-    named = [it for command in commands for it in words_of(command) if it.startswith(("/usr/local/", "/etc/noticed/"))]
+    named = [it for command in commands for it in words_of(command) if it.startswith(("/usr/", "/etc/noticed/"))]
     checks.equal(
         "files that the units name and that aren't installed",
         [it for it in named if not machine.path(it).is_file()],
         [],
     )
-    units, folder = machine.path("/usr/local/lib/systemd/system"), machine.path("/usr/local/share/doc/noticed")
-    wanted = {it.name for kind in ("service", "socket") for it in EXAMPLES.glob(f"noticed*.{kind}")}
+    units, folder = machine.path("/usr/lib/systemd/system"), machine.path("/usr/share/doc/noticed")
+    wanted = {it.name for kind in ("service", "socket") for it in DIST.glob(f"noticed*.{kind}")}
     checks.equal("units that are installed", {it.name for it in units.iterdir()}, wanted)
-    places = [units, folder, *(machine.path(f"/usr/local/{it}") for it in ("libexec/noticed", "lib/sysusers.d"))]
-    places += [machine.path("/usr/local/lib/tmpfiles.d"), machine.path("/etc/noticed")]
-    for page in ("DEPLOY.md", "FEEDER.md"):
+    manual = machine.path("/usr/share/man")
+    for name, section in {it for unit in units.iterdir() for it in MANUAL.findall(unit.read_text())}:
+        checks.true(f"{name}({section}) is installed", (manual / f"man{section}/{name}.{section}").is_file())
+    folders = ("share/noticed/clients/python", "lib/sysusers.d", "lib/tmpfiles.d")
+    places = [units, folder, *(machine.path(f"/usr/{it}") for it in folders), machine.path("/etc/noticed")]
+    there = {it.name for place in places for it in place.iterdir()}
+    for page in GUIDES:
         text = (folder / page).read_text()
-        there = {it.name for place in places for it in place.iterdir()}
         files = set(re.findall(r"(?<![\w/.@-])[\w-]+\.(?:py|sh|conf|service|socket|c|frames|md)\b", text))
-        checks.equal(f"files that {page} names and that aren't installed", sorted(files - there - OF_OTHERS), [])
-        elsewhere = re.findall(r"(?<![\w/])(?:docs|examples|tests|bench|crates)[/.]\w+", text)
+        made = set(re.findall(r"^\$ cat > (\S+)", text, re.M))
+        checks.equal(f"files that {page} names and that aren't installed", sorted(files - there - made), [])
+        elsewhere = re.findall(r"(?<![\w/])(?:docs|dist|examples|tests|bench|crates)[/.]\w+", text)
         checks.equal(f"places of the repository that {page} names", elsewhere, [])
 
 
-def check_feeder(checks: Checks, sections: dict):
-    """The feeder is the script of examples/, follows the daemon's outbox, and has the account and the folder of it."""
-    given, service = sections_of(FEEDER.read_text()), sections["Service"]
-    checks.equal("the feeder: sections", list(given), ["Unit", "Service", "Install"])
-    for key in ("User", "Group", "WorkingDirectory"):
-        checks.equal(f"the feeder: {key}", given["Service"].get(key), service[key])
-    words = words_of(given["Service"]["ExecStart"][0])
-    checks.true("the feeder: the script", (EXAMPLES / Path(words[1]).name).is_file())
-    checks.equal(
-        "the feeder: what it follows", words[words.index("--follow") + 1], f"{service['WorkingDirectory'][0]}/outbox"
-    )
-    patience = int(re.search(r"^PATIENCE = (\d+)", (EXAMPLES / "feed.py").read_text(), re.M)[1])
-    checks.true(
-        "the feeder: its supervisor waits longer than a reply may take",
-        seconds_of(given["Service"]["TimeoutStopSec"][0]) > patience,
-    )
-    checks.equal("the feeder: what is signalled", given["Service"]["KillMode"], ["process"])
-    checks.equal(
-        "the feeder: what keeps something from its mail program",
-        [it for it in given["Service"] if it.startswith(KEEPS)],
-        [],
-    )
-
-
-def check_postfix(checks: Checks):
-    """The units for Postfix: the service has its account, its folder and loopback, the sockets are in that folder, and
-    the command takes them; without them it is tried again."""
+def check_postfix(checks: Checks, machine: Machine):
+    """The units for Postfix: the service has its account and its folder, the sockets are in that folder, and the
+    command takes them; without them it is tried again."""
     given, sockets = sections_of(POSTFIX.read_text()), sections_of(SOCKETS.read_text())
     for name, keys in WANTED_OF_SOCKETS.items():
         for key, value in keys.items():
@@ -457,18 +415,25 @@ def check_postfix(checks: Checks):
     )
     checks.equal("for Postfix: the count of starts has no limit", given["Unit"].get("StartLimitIntervalSec"), ["0"])
     checks.equal("for Postfix: its sockets are there first", given["Unit"].get("Requires"), [SOCKETS.name])
+    if not shutil.which("postconf") or not os.access("/usr/bin/python3", os.X_OK):
+        checks.skip("the command for Postfix (needs Postfix's postconf and /usr/bin/python3)")
+        return
     (command,) = given["Service"]["ExecStart"]
-    words = words_of(command)
-    checks.equal("for Postfix: what is written to is its folder", words.count(QUEUE), 1)
-    with tempfile.TemporaryDirectory(prefix="noticed-") as name:
-        words = [program(), *(name if it == QUEUE else it for it in words[1:])]
-        ended = subprocess.run(words, stdin=subprocess.DEVNULL, capture_output=True, check=False, timeout=PATIENCE)
-        checks.equal("for Postfix: without sockets", (ended.returncode, ended.stderr[:8]), (1, b"fault 61"))
-        (Path(name) / "private").mkdir()
-        check_inherits(checks, words, name, [it.replace(QUEUE, name) for it in sockets["Socket"]["ListenStream"]])
+    queue, account = machine.path(QUEUE), pwd.getpwnam("nobody") if not os.geteuid() else pwd.getpwuid(os.geteuid())
+    queue.mkdir(parents=True)
+    (queue / "master.cf").touch()
+    (queue / "main.cf").write_text(f"queue_directory = {queue}\nmyhostname = {HOST}\nmail_owner = {account.pw_name}\n")
+    drop = ["setpriv", f"--reuid={account.pw_uid}", f"--regid={account.pw_gid}", "--clear-groups"]
+    words = [*([] if os.geteuid() else drop), *machine.here(command, {})]
+    words = ["env", "--ignore-environment", f"MAIL_CONFIG={queue}", "PATH=/usr/sbin:/usr/bin", *words]
+    ended = subprocess.run(words, stdin=subprocess.DEVNULL, capture_output=True, check=False, timeout=PATIENCE)
+    checks.equal("for Postfix: without sockets", (ended.returncode, ended.stderr[:8]), (1, b"fault 61"))
+    (queue / "private").mkdir()
+    os.chown(queue / "private", account.pw_uid, account.pw_gid)
+    check_inherits(checks, words, queue, [it.replace(QUEUE, str(queue)) for it in sockets["Socket"]["ListenStream"]])
 
 
-def check_inherits(checks: Checks, words: list, folder: str, paths: list):
+def check_inherits(checks: Checks, words: list, folder: Path, paths: list):
     """A command for Postfix takes sockets that were made for it, and is ended by a signal."""
     with contextlib.ExitStack() as kept:
         given = [kept.enter_context(socket.socket(socket.AF_UNIX)) for _ in paths]
@@ -495,12 +460,12 @@ def check_verify(checks: Checks, room: Path):
     how["env"] = {**os.environ, "LC_ALL": "C"}
     folder = room / "units"
     folder.mkdir()
-    for it in (room / "usr/local/lib/systemd/system").iterdir():
+    for it in (room / "usr/lib/systemd/system").iterdir():
         # (systemd asks for the program and the manual page where `make install` puts them)
-        text = it.read_text().replace("/usr/local/bin/noticed ", f"{program()} ")
+        text = it.read_text().replace("/usr/bin/noticed ", f"{program()} ")
+        text = text.replace("/usr/sbin/", f"{room}/usr/sbin/")
         text = re.sub(r"^Documentation=.*\n", "", text, flags=re.M)
         (folder / it.name.replace("@.", "@west.")).write_text(text)
-    (folder / f"set.{FEEDER.name}").write_text(OPTION.sub("", (folder / FEEDER.name).read_text()))
     for it in sorted(folder.iterdir()):
         verified = subprocess.run(["systemd-analyze", "verify", "--man=no", str(it)], **how)
         checks.equal(f"verify {it.name}", (verified.returncode, verified.stdout + verified.stderr), (0, ""))
@@ -512,7 +477,7 @@ def check_verify(checks: Checks, room: Path):
 
 
 def main():
-    checks = Checks("unit: the systemd units of examples/, and the steps of the daemon's without systemd")
+    checks = Checks("unit: the systemd units of dist/, and the steps of the daemon's without systemd")
     sections = sections_of(UNIT.read_text())
     account = has_accounts(checks)
     check_keys(checks, sections)
@@ -523,11 +488,10 @@ def main():
                 check(checks, machine)
     with tempfile.TemporaryDirectory(prefix="noticed-") as name:
         machine = Machine(Path(name), sections["Service"], account)
-        commands = [sections_of(it.read_text())["Service"]["ExecStart"][0] for it in (UNIT, FEEDER, POSTFIX)]
+        commands = [sections_of(it.read_text())["Service"]["ExecStart"][0] for it in (UNIT, POSTFIX)]
         check_installed(checks, machine, *commands)
         check_verify(checks, machine.room)
-    check_feeder(checks, sections)
-    check_postfix(checks)
+        check_postfix(checks, machine)
     checks.done()
 
 

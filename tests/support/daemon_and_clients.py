@@ -10,18 +10,18 @@ import time
 from pathlib import Path
 
 from tests.support.faults import fault_line
-from tests.support.running import EXAMPLES, HOST, Ran, example_module, program, run
+from tests.support.running import HOST, VECTORS, Ran, program, run
+from vectors import frames
 
 PATIENCE = 60  # seconds that a daemon or a client may take for one step, on a slow and busy machine; more is a hang
 PIECE = 32_768  # bytes that are written to a socket at once: less than its buffer holds
 MOMENT = 0.002  # seconds between two looks at something that is about to happen
 
-FRAMES = (EXAMPLES / "one-bounce.frames").read_bytes()
-OUTBOX = (EXAMPLES / "one-bounce.outbox").read_bytes()
-NOTES = (EXAMPLES / "one-bounce.notes").read_bytes()
+FRAMES = (VECTORS / "one-bounce.frames").read_bytes()
+OUTBOX = (VECTORS / "one-bounce.outbox").read_bytes()
+NOTES = (VECTORS / "one-bounce.notes").read_bytes()
 FIRST_FRAME = 52  # bytes of the example's append
 
-frames = example_module("frames")
 
 
 def answer(reply: int, number: int = 0, value: int = 0) -> bytes:

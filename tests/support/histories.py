@@ -1,5 +1,5 @@
 """Whether what a daemon did is one history: an order of all requests taken that keeps each connection's order and what
-was answered before something else was asked, in which each answer is what the logs give (docs/FORMATS.md, section 5),
+was answered before something else was asked, in which each answer is what the logs give (noticed-protocol(5)),
 and whose letters and open logs are those that the daemon wrote."""
 from dataclasses import dataclass
 from typing import Optional

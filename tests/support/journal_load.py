@@ -1,7 +1,8 @@
-"""A load on daemons over one journal, each with an outbox of its own, which are killed one after another: clients of
-which some are hostile, and the model of what the journal must have kept. Of each key it has the worlds that may be:
-one, where each request about it was answered; and where one was sent and not answered, that with it and that without.
-What is answered, what the journal has and what the outbox has takes worlds away, and one must be left."""
+"""A load on daemons over one journal, each with an outbox of its own or all with one mail server, which are killed one
+after another: clients of which some are hostile, and the model of what the journal must have kept. Of each key it has
+the worlds that may be: one, where each request about it was answered; and where one was sent and not answered, that
+with it and that without. What is answered, what the journal has and what the outbox has takes worlds away, and one must
+be left."""
 import contextlib
 import hashlib
 import random
@@ -13,7 +14,7 @@ import threading
 import time
 from pathlib import Path
 
-from tests.support.daemon_and_clients import Daemon, flush, heard
+from tests.support.daemon_and_clients import Daemon, flush, heard, until
 from tests.support.faults import fault_line
 from tests.support.formats import journal
 from tests.support.formats.bodies import APPEND, DISCARD, FLUSH, Request, decoded
@@ -21,10 +22,11 @@ from tests.support.formats.logs import CLOSED, FORGOTTEN, NOT_CLOSED, Letter, Li
 from tests.support.formats.notices import SERVICE_LETTERS, mail
 from tests.support.formats.sessions import Fault, answer, answers
 from tests.support.hostile import LETTERS_AND_DIGITS, Hostile
+from tests.support.mail_servers import MailServer
 from tests.support.preloading import built, preloading
-from tests.support.running import HOST, Checks, Ran, example_module, run
+from tests.support.running import HOST, Checks, Ran, run
+from vectors import frames
 
-FRAMES = example_module("frames")
 CLIENTS, HOSTILE = 16, 4  # clients, and how many of them are hostile
 SWITCH = 0.0002  # seconds that one of them may keep the others waiting
 LOOK = 0.005  # seconds between two looks at the journal's file
@@ -33,6 +35,7 @@ GREETING = f"EHLO {HOST}\r\n".encode()
 END = b"\r\n.\r\n"
 MESSAGE_ID = re.compile(rb"^Message-ID: <([BDT])\.([0-9A-Za-z]+)\.\d+\.(\d+)@", re.M)
 OPEN_LINE = re.compile(rb"^open ([BDT]) (\w+) (\d+)$", re.M)
+LONGEST_REPLY = 0.004  # seconds until a mail server replies to a message
 SERVICE_OF = {letter: service for service, letter in SERVICE_LETTERS.items()}
 FREE = ((), ())  # the world of a key that was never used: no log, no letters
 
@@ -103,10 +106,10 @@ class Model:
             ends = [applied(it, request) for it in self.of(request.key)]
             self.narrow(f"{given} answered {request}", request.key, {after for said, after in ends if said == given})
 
-    def tell(self, frames: list):
+    def tell(self, answers: list):
         """Takes in the serials that the frames of answers tell: none is told twice, in any run."""
         with self.lock:
-            for serial in (int.from_bytes(it[14:], "big") for it in frames if len(it) > 14):
+            for serial in (int.from_bytes(it[14:], "big") for it in answers if len(it) > 14):
                 self.checks.true(f"serial {serial} is told once", serial not in self.told)
                 self.told.add(serial)
 
@@ -120,7 +123,7 @@ class Model:
                 self.worlds[it.key] = self.of(it.key) | chains[it.key]
 
     def letter(self, text: bytes, is_first: bool):
-        """The outbox has this letter next, as the first of a run or a later one."""
+        """This letter comes next, as the first of a run or a later one."""
         service, queue_id, serial = MESSAGE_ID.search(text).groups()
         key, serial, digest = (SERVICE_OF[service], queue_id), int(serial), hashlib.sha256(text).digest()
         if serial == len(self.sums):
@@ -135,7 +138,7 @@ class Model:
         self.checks.equal(f"letter {serial}, again", digest, self.sums[serial] if serial < len(self.sums) else None)
 
     def check_letters(self):
-        """All letters that were made stand in the outbox, and no others."""
+        """All letters that were made have come, and no others."""
         for key in [*self.worlds, *(set(self.found) - set(self.worlds))]:
             found = self.found.get(key, [])
             left = set()
@@ -172,6 +175,7 @@ class Outbox:
 
     def __init__(self, path: Path, model: Model):
         self.path, self.model, self.at, self.greeted, self.first, self.cut = path, model, 0, False, True, b""
+        self.options = ("--outbox", path)
 
     def read(self) -> bytes:
         """Takes the letters that are whole, and what stands after them."""
@@ -211,6 +215,48 @@ class Outbox:
         self.at, self.greeted, self.first = 0, False, True
         return rest
 
+    def check_end(self, notes: bytes):
+        """An orderly end finished the outbox, with all letters."""
+        self.model.checks.equal("the outbox ends", self.end_run(), b"QUIT\r\n")
+        self.model.check_letters()
+
+
+class Mailbox(MailServer):
+    """A mail server that takes all letters of all runs, and replies a moment later: a run may be killed before."""
+
+    def __init__(self, folder: Path, model: Model, dice: random.Random):
+        self.folder, self.model, self.dice, self.first = folder, model, dice, True
+        super().__init__()
+        self.options = ("--hand-in", self.address)
+
+    def message(self, stream) -> bytes:
+        """A message in the form of an outbox."""
+        lines = [b"MAIL FROM:<>\r\n" + self.commands[-2] + b"\r\nDATA\r\n"]
+        while lines[-1] != b".\r\n":
+            lines.append(stream.readline())
+            if not lines[-1].endswith(b"\r\n"):
+                raise EOFError
+        self.model.letter(b"".join(lines), self.first)
+        self.first = False
+        time.sleep(self.dice.random() * LONGEST_REPLY)
+        return b""
+
+    def read(self) -> bytes:
+        """Waits until all letters of a run have come and are marked."""
+        until(lambda: b"unmarked " not in run(["journal", self.folder]).outbox)
+        return b""
+
+    def end_run(self):
+        """Waits until all that a run sent was read: connections are served one after another."""
+        host, port = self.address.split(":")
+        with socket.create_connection((host, int(port))) as it:
+            heard(it, 1)
+        self.first = True
+
+    def check_end(self, notes: bytes):
+        """After an orderly end some letters may wait, which the next run submits."""
+        self.end_run()
+
 
 class Client:
     """A client that keeps to the rules, but leaves now and then: its keys are its own."""
@@ -232,7 +278,7 @@ class Client:
     def request(self, number: int) -> bytes:
         """The frame of a request."""
         if len(self.closed) > 8:
-            return FRAMES.forget(number, *self.closed[0])
+            return frames.forget(number, *self.closed[0])
         if self.closed and self.dice.random() < 0.05:
             return self.append(number, self.dice.choice(self.closed))
         if len(self.open) < 2 or len(self.open) < 4 and self.dice.random() < 0.3:
@@ -242,7 +288,7 @@ class Client:
         if kind < 0.6:
             return self.append(number, key)
         if kind > 0.95:
-            return FRAMES.discard(number, *key)
+            return frames.discard(number, *key)
         header = b"Subject: %d\n" % number * self.dice.choice(self.lines)
         service, queue_id = key
         return flush(
@@ -257,7 +303,7 @@ class Client:
     def append(self, number: int, key: tuple) -> bytes:
         """The frame of an append."""
         action, status = {1: (1, b"5.1.1"), 2: (2, b"4.4.1"), 3: (3, b"2.0.0")}[key[0]]
-        return FRAMES.append(
+        return frames.append(
             number,
             *key,
             b"bob%d@example.org" % self.dice.randrange(1000),
@@ -294,16 +340,16 @@ class Client:
         for _ in range(self.dice.randrange(1, 30)):
             if ends.is_set():
                 return
-            frames = [self.request(number + it) for it in range(self.dice.choice([1, 1, 2, 4, 8]))]
-            requests, end = [decoded(it[4:]) for it in frames], self.dice.random()
+            made = [self.request(number + it) for it in range(self.dice.choice([1, 1, 2, 4, 8]))]
+            requests, end = [decoded(it[4:]) for it in made], self.dice.random()
             if end < 0.02:
                 with contextlib.suppress(OSError):
-                    stream.sendall(frames[0][: self.dice.randrange(1, len(frames[0]))])
+                    stream.sendall(made[0][: self.dice.randrange(1, len(made[0]))])
                 return
             whole = []
             with contextlib.suppress(OSError):
-                stream.sendall(b"".join(frames))
-                whole = answers_heard(stream, len(frames)) if end > 0.04 else []
+                stream.sendall(b"".join(made))
+                whole = answers_heard(stream, len(made)) if end > 0.04 else []
             self.model.tell(whole)
             for it, (_, _, reply, place, value) in zip(requests, map(said, whole)):
                 self.model.checks.equal("an answer's number", place, number)
@@ -381,18 +427,26 @@ class HostileClient:
         """Closes its logs and forgets them, once their run has ended; no more of them than a table holds are so held at
         once."""
         for key in self.keys:
-            for frame in (FRAMES.discard(0, *key), FRAMES.forget(0, *key)):
+            for frame in (frames.discard(0, *key), frames.forget(0, *key)):
                 ask(frame)
         self.keys = []
 
 
 class Load:
-    """A journal's folder, an outbox, and daemons over both, one after another. The journal's file has `size` bytes, or
-    is the daemon's own. A header has one of these numbers of `lines`. A sync of the outbox takes `slow` milliseconds
-    more."""
+    """A journal's folder, an outbox or a mail server, and daemons over both, one after another. The journal's file has
+    `size` bytes, or is the daemon's own. A header has one of these numbers of `lines`. A sync of the outbox takes
+    `slow` milliseconds more."""
 
     def __init__(
-        self, checks: Checks, room: Path, dice: random.Random, size=0, hostile=HOSTILE, lines=(0, 0, 0, 2, 60), slow=0
+        self,
+        checks: Checks,
+        room: Path,
+        dice: random.Random,
+        size=0,
+        hostile=HOSTILE,
+        lines=(0, 0, 0, 2, 60),
+        slow=0,
+        submits=False,
     ):
         self.checks, self.room, self.dice, self.model = checks, room, dice, Model(checks)
         self.slow = preloading(built(room, "slow"), SLOW=room / "outbox", MILLISECONDS=slow) if slow else None
@@ -400,22 +454,23 @@ class Load:
         self.folder.mkdir(mode=0o700)
         if size:
             (self.folder / "journal").write_bytes(bytes(size))
-        self.outbox = Outbox(room / "outbox", self.model)
+        outbox = room / "outbox"
+        self.outbox = Mailbox(self.folder, self.model, dice) if submits else Outbox(outbox, self.model)
         self.clients = [Client(it, self.model, dice, lines) for it in range(CLIENTS - hostile)]
         self.hostile = [HostileClient(it, self.model, dice) for it in range(hostile)]
 
     def daemon(self, **how) -> Daemon:
         """A daemon over both."""
         self.runs += 1
-        options = ("--journal", self.folder, "--outbox", self.room / "outbox")
+        options = ("--journal", self.folder, *self.outbox.options)
         return Daemon(16, 1_000_000, options=options, **{"env": self.slow, **how})
 
     def serves(self, daemon: Daemon, forgets: bool = False) -> bool:
-        """Waits until a daemon serves: by then all letters of earlier runs stand in the outbox, and the journal has all
-        that was answered. False where it ended before."""
+        """Waits until a daemon serves: by then all letters of earlier runs stand in the outbox, or come to the mail
+        server soon, and the journal has all that was answered. False where it ended before."""
         try:
             with daemon.connect() as it:
-                it.sendall(FRAMES.forget(0, 1, b"NEVER"))
+                it.sendall(frames.forget(0, 1, b"NEVER"))
                 if heard(it, 14) != answer(0, NOT_CLOSED, 0):
                     return False
         except OSError:
@@ -441,9 +496,9 @@ class Load:
                 if request.key not in self.model.worlds:
                     return
                 numbered = (
-                    FRAMES.discard(place, *request.key)
+                    frames.discard(place, *request.key)
                     if request.kind == DISCARD
-                    else FRAMES.forget(place, *request.key)
+                    else frames.forget(place, *request.key)
                 )
                 stream.sendall(numbered)
                 got = answers_heard(stream, 1)
@@ -533,6 +588,7 @@ class Load:
         with self.daemon() as daemon:
             self.checks.true("the last run serves", self.serves(daemon, forgets=True))
             self.flush_all(daemon)
+            self.outbox.read()
             self.stop(daemon)
         self.model.check_letters()
 
@@ -546,8 +602,7 @@ class Load:
         if ended.status != 0:
             self.outbox.end_run()
             return
-        self.checks.equal("the outbox ends", self.outbox.end_run(), b"QUIT\r\n")
-        self.model.check_letters()
+        self.outbox.check_end(ended.notes)
         self.model.check_open_lines(ended.notes)
 
     def check_full(self, what: str):

@@ -76,7 +76,7 @@ HEADER_CHECKS = """
 /^X-Check: bcc/ BCC later.copy@example.org
 """
 # A program in front submits its notices to this server, which refuses and changes none. Its cleanup(8) is that of
-# docs/DEPLOY.md.
+# dist/noticed-postfix.
 HAND_IN = """
 127.0.0.1:{hand_in} inet n - n - - smtpd
     -o syslog_name=postfix/hand-in

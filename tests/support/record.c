@@ -1,6 +1,7 @@
 /* Preloaded into a program (LD_PRELOAD), it writes a line for each of its reads and writes to the file that the
    environment variable RECORD names: the call, the descriptor, how many bytes were asked for, how many were answered
-   (or -1), and the first bytes of a write in hexadecimal. (strace isn't on every machine, and may not trace.) */
+   (or -1), and the first bytes of a write in hexadecimal. A limit of time for a socket's reads is a line `limit`, with
+   its seconds in place of the bytes asked for. (strace isn't on every machine, and may not trace.) */
 #define _GNU_SOURCE
 #include <dlfcn.h>
 #include <errno.h>
@@ -8,6 +9,8 @@
 #include <stdio.h>
 #include <stdlib.h>
 #include <string.h>
+#include <sys/socket.h>
+#include <sys/time.h>
 #include <unistd.h>
 
 #define SHOWN 48 /* bytes of a text that a line has */
@@ -54,5 +57,17 @@ ssize_t write(int descriptor, const void *text, size_t size)
 {
     ssize_t answered = real_write()(descriptor, (void *)text, size);
     record("write", descriptor, size, answered, text);
+    return answered;
+}
+
+int setsockopt(int descriptor, int level, int option, const void *value, socklen_t size)
+{
+    static int (*real)(int, int, int, const void *, socklen_t);
+    int answered;
+    if (!real)
+        real = (int (*)(int, int, int, const void *, socklen_t))dlsym(RTLD_NEXT, "setsockopt");
+    answered = real(descriptor, level, option, value, size);
+    if (level == SOL_SOCKET && option == SO_RCVTIMEO)
+        record("limit", descriptor, (size_t)((const struct timeval *)value)->tv_sec, answered, NULL);
     return answered;
 }

@@ -1,4 +1,5 @@
 """What the scripts of tests/ share: the program under test, running it, and counting what failed."""
+import json
 import os
 import subprocess
 import sys
@@ -9,6 +10,8 @@ sys.dont_write_bytecode = True
 
 ROOT = Path(__file__).resolve().parents[2]
 EXAMPLES = ROOT / "examples"
+DIST = ROOT / "dist"
+VECTORS = ROOT / "vectors"
 HOST = "mx.example.net"
 LIMIT = 120  # seconds that one run may take
 
@@ -47,18 +50,33 @@ def batch(given=b"", **how) -> Ran:
     return run(["batch", HOST], given, **how)
 
 
+@dataclass
+class Example:
+    """A worked example of vectors/, as its index.json has it."""
+
+    name: str
+    shows: str
+    files: list
+    host: str
+    status: int
+
+    def path(self, suffix: str) -> Path:
+        """One of its files."""
+        return VECTORS / f"{self.name}.{suffix}"
+
+    def bytes(self, suffix: str) -> bytes:
+        """What one of its files has."""
+        return self.path(suffix).read_bytes()
+
+
+def examples() -> list:
+    """The worked examples."""
+    return [Example(**it) for it in json.loads((VECTORS / "index.json").read_text(encoding="utf-8"))["examples"]]
+
+
 def empty_outbox(host=HOST) -> bytes:
     """The outbox of a run that made no notice."""
     return f"EHLO {host}\r\nQUIT\r\n".encode()
-
-
-def example_module(name: str):
-    """The module of examples/NAME.py. Users run these files by their paths, and they import one another by their names:
-    so it is known by its name alone, too."""
-    if name not in sys.modules:
-        __import__(f"{EXAMPLES.name}.{name}")
-        sys.modules[name] = sys.modules[f"{EXAMPLES.name}.{name}"]
-    return sys.modules[name]
 
 
 class Checks:

@@ -9,8 +9,6 @@ import tempfile
 import time
 from pathlib import Path
 
-from tests.support.running import ROOT
-
 KEPT = Path("/var/cache/noticed-boot")  # where it is kept, unless another folder is named
 PACKAGES = "systemd,systemd-sysv,dbus,python3"
 PATIENCE = 60  # seconds that one step in a container may take
@@ -24,16 +22,17 @@ def suite() -> str:
     return found[1] if found else "bookworm"
 
 
-def base_system(folder: Path) -> Path:
-    """Debian's base system, which is made in a folder, unless it is there. One that was cut off is made anew."""
+def base_system(folder: Path, named: str = suite()) -> Path:
+    """The base system of a suite of Debian, which is made in a folder, unless it is there. One that was cut off is made
+    anew."""
     system = folder / "system"
     if (folder / "made").exists():
         return system
-    print(f"  debootstrap makes Debian {suite()} in {folder} ..", flush=True)
+    print(f"  debootstrap makes Debian {named} in {folder} ..", flush=True)
     folder.mkdir(parents=True, exist_ok=True)
     shutil.rmtree(system, ignore_errors=True)
     with open(folder / "debootstrap.log", "wb") as log:
-        words = ["debootstrap", "--variant=minbase", f"--include={PACKAGES}", suite(), str(system)]
+        words = ["debootstrap", "--variant=minbase", f"--include={PACKAGES}", named, str(system)]
         subprocess.run(words, stdout=log, stderr=log, check=True)
     (folder / "made").touch()
     return system
@@ -183,7 +182,7 @@ class Container(Layer):
     def run(self, *words, given=b"") -> subprocess.CompletedProcess:
         """Runs a command in the container."""
         entering = ["nsenter", f"--target={self.leader()}", "--all", "--", *words]
-        return subprocess.run(entering, input=given, capture_output=True, check=False, timeout=PATIENCE)
+        return subprocess.run(entering, input=given, capture_output=True, check=False, timeout=PATIENCE, env=WITHIN)
 
     def said(self, *words, given=b"") -> str:
         """What a command in the container wrote to its standard output."""
@@ -192,13 +191,6 @@ class Container(Layer):
     def file(self, name: str) -> Path:
         """A file of the container's disk, as it is seen from here."""
         return self.root / name.lstrip("/")
-
-
-def deploy_block(start: str) -> str:
-    """The one fenced block of docs/DEPLOY.md that begins so, byte for byte as somebody copies it."""
-    page = (ROOT / "docs/DEPLOY.md").read_text()
-    (block,) = [it for it in re.findall(r"^```\w*\n(.*?)^```$", page, re.M | re.S) if it.startswith(start)]
-    return block
 
 
 def lacking(tools: dict) -> list:

@@ -1,10 +1,12 @@
 """What `make try` runs: the demo without a proof. `rt try` compiles the program once, with checks that stop it at an
 index out of bounds, an overflow or a bad access, and runs it twice: `batch` on an example, then a daemon of two agents.
-The daemon's two clients are this script's, by the connection of examples/client.py, in the place of `noticed send`.
-Nothing is proved by it, and no program is kept. Its status is 0 where both runs ended with status 0."""
+The daemon's two clients are this script's, in the place of `noticed send`. Nothing is proved by it, and no program is
+kept. Its status is 0 if both runs ended with status 0."""
 import os
 import re
 import shutil
+import socket
+import struct
 import subprocess
 import sys
 import tempfile
@@ -12,13 +14,16 @@ import threading
 import time
 from pathlib import Path
 
-from tests.support.running import EXAMPLES, HOST, ROOT, example_module
+from tests.support.daemon_and_clients import heard
+from tests.support.formats.sessions import WORDS
+from tests.support.running import EXAMPLES, HOST, ROOT, VECTORS
+from vectors import frames
 
 RT = os.environ.get("RT") or "rt"
-client = example_module("client")
 EXAMPLE = "one-bounce.frames"
 RUNS = ("batch", "daemon")  # in this order
 MOMENT = 0.05  # seconds between two looks for the socket
+PATIENCE = 60  # seconds that an answer may take
 CASE = re.compile(r"^case=(\w+) run=(.*)\n", re.MULTILINE)
 
 
@@ -26,7 +31,7 @@ def prepared(room: Path):
     """Writes what the two runs are given: the input, and the arguments."""
     cases = room / "cases"
     cases.mkdir()
-    shutil.copy(EXAMPLES / EXAMPLE, cases / "batch")
+    shutil.copy(VECTORS / EXAMPLE, cases / "batch")
     (cases / "batch.args").write_text(f"batch\n{HOST}\n")
     (cases / "daemon").touch()
     (cases / "daemon.args").write_text(f"serve\n{room}/socket\n{HOST}\n2\n1\n")
@@ -52,11 +57,17 @@ class Client(threading.Thread):
 
     def ask(self):
         """Asks all, once the daemon is there."""
-        connection = client.Connection(str(self.socket), client.Patience())
-        with connection.stream:
-            for it in client.from_words("\n".join(self.lines)):
-                answer = connection.ask(lambda number, it=it: client.frames.frame_of(it.kind, number, it.fields))
-                self.answers.append(client.words_of(*answer))
+        with socket.socket(socket.AF_UNIX, socket.SOCK_STREAM) as stream:
+            stream.settimeout(PATIENCE)
+            stream.connect(str(self.socket))
+            for frame in frames.frames_in(self.lines):
+                stream.sendall(frame)
+                answer = heard(stream, 14)
+                if len(answer) < 14:
+                    raise ConnectionError("the connection ended")
+                reply, _, value = struct.unpack(">BII", answer[5:])
+                words = WORDS[reply].decode()
+                self.answers.append(words % value if "%" in words else words)
 
     def show(self):
         """Prints each request with its answer."""
@@ -80,7 +91,7 @@ def parts_of(said: str, notes: str) -> dict:
 def show(parts: dict, clients: list):
     """Prints both runs."""
     outbox, notes, end = parts["batch"]
-    print(f"\n== Answers: standard error of 'noticed batch {HOST}' on examples/{EXAMPLE}\n{notes}")
+    print(f"\n== Answers: standard error of 'noticed batch {HOST}' on vectors/{EXAMPLE}\n{notes}")
     print(f"== Outbox: standard output, an SMTP client's side with the notice in it\n{outbox}")
     print(f"== End: {end}\n\n== Daemon: noticed serve socket {HOST} 2 1")
     for it in clients:

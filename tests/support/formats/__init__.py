@@ -1,5 +1,6 @@
-"""docs/FORMATS.md as a plain program that shares nothing with the daemon's code: what the fuzzers compare it with.
+"""The manual pages of section 5 as a plain program that shares nothing with the daemon's code: what the fuzzers compare
+it with.
 
-bodies: requests and their refusals (sections 3 and 4); logs: what a request does (section 5); notices: dates, returned
-lines, boundary, notice, outbox (sections 8 to 12); sessions: frames, answers, a whole run of `batch` (sections 2, 6, 7
-and 13)."""
+noticed-protocol(5): bodies (requests and their refusals), logs (what a request does), sessions (frames, answers, a
+whole run of `batch`). noticed-notice(5): notices (dates, returned lines, boundary, notice, outbox). noticed-journal(5):
+journal and listing."""

@@ -1,4 +1,4 @@
-"""What a request's body says, or the refusal that it gets (docs/FORMATS.md, sections 3 and 4)."""
+"""What a request's body says, or the refusal that it gets (noticed-protocol(5))."""
 import re
 from dataclasses import dataclass, replace
 from typing import Optional

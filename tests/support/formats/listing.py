@@ -1,4 +1,4 @@
-"""What `noticed journal` prints of a journal's file and its marks (docs/FORMATS.md, sections 14 and 18)."""
+"""What `noticed journal` prints of a journal's file and its marks (noticed-journal(5))."""
 from . import journal
 from .bodies import decoded
 from .logs import Limits, Logs

@@ -1,4 +1,4 @@
-"""A notice, and the outbox of the notices (docs/FORMATS.md, sections 8 to 12)."""
+"""A notice, and the outbox of the notices (noticed-notice(5))."""
 import re
 from datetime import datetime, timedelta
 
@@ -19,6 +19,56 @@ PARAGRAPHS = {
     DEFER: b"Your message has not yet been delivered to the recipients below.",
     TRACE: b"This is the delivery report for your message.",
     SUCCESS: b"Your message was delivered to the recipients below.",
+}
+CONSEQUENCES = {
+    BOUNCE: b"No further attempt will be made.",
+    DEFER: b"You do not need to send it again.",
+    TRACE: b"You or your mail program requested this report.",
+    SUCCESS: b"You or your mail program requested this report.",
+}
+NOT_YOU = "Your own address was not accepted as the sender of the message."
+# What a status means, by its subject and detail, and else by its subject (RFC 3463 section 3).
+MEANINGS = {
+    "1.1": "The address does not exist. Check how it is spelled.",
+    "1.2": "The part after the @ does not exist. Check how it is spelled.",
+    "1.3": "The address is not written correctly. Check how it is spelled.",
+    "1.4": "The address matches more than one recipient.",
+    "1.6": "The recipient has moved, and the new address is not known.",
+    "1.7": NOT_YOU,
+    "1.8": NOT_YOU,
+    "1.10": "The part after the @ accepts no mail. Check how it is spelled.",
+    "1": "There is a problem with the address.",
+    "2.1": "The mailbox is disabled, or does not accept messages now.",
+    "2.2": "The mailbox is full.",
+    "2.3": "The message is larger than the mailbox accepts.",
+    "2.4": "There is a problem with the mailing list of this address.",
+    "2": "There is a problem with the recipient's mailbox.",
+    "3.1": "The recipient's mail system has no space left.",
+    "3.2": "The recipient's mail system does not accept messages now.",
+    "3.4": "The message is too large for the recipient's mail system.",
+    "3.5": "The recipient's mail system is not configured correctly.",
+    "3": "There is a problem in the recipient's mail system.",
+    "4.1": "The recipient's mail server could not be reached.",
+    "4.2": "The connection to the recipient's mail server was lost.",
+    "4.3": "The recipient's mail server could not be looked up.",
+    "4.4": "No mail server was found for the address. Check how it is spelled.",
+    "4.5": "The recipient's mail server is too busy.",
+    "4.6": "The message went in a circle between mail servers.",
+    "4.7": "The message could not be delivered in time.",
+    "4": "There is a problem on the way to the recipient's mail server.",
+    "5.3": "The message has too many recipients.",
+    "5": "The mail servers did not understand each other.",
+    "6.1": "The recipient's mail system does not accept this kind of content.",
+    "6": "The recipient's mail system cannot handle the content of the message.",
+    "7.2": "You are not permitted to write to this mailing list.",
+    "7.26": "The recipient's mail system could not verify that you sent the message.",
+    "7": "The recipient's mail system refused the message under one of its rules.",
+}
+NO_MEANING = "The mail system could not deliver the message."
+SUCCESSES = {
+    DELIVERED: b"The message was delivered.",
+    RELAYED: b"The message was passed to a mail system that does not report deliveries.",
+    EXPANDED: b"The message was delivered, and passed on to other recipients.",
 }
 RETURNED_OF = {BOUNCE: b"Undelivered Message", DEFER: b"Delayed Message", TRACE: b"Message", SUCCESS: b"Message"}
 WEEKDAYS = "Mon Tue Wed Thu Fri Sat Sun".split()
@@ -69,15 +119,40 @@ def worded_as(letter: Letter) -> int:
     return SUCCESS if letter.draft.wording == BY_OUTCOME and letter.key[0] == TRACE and succeeds else letter.key[0]
 
 
+def meaning(outcome) -> bytes:
+    """What happened to a recipient, in plain words."""
+    if outcome.action in SUCCESSES:
+        return SUCCESSES[outcome.action]
+    _, subject, detail = outcome.status.decode().split(".")
+    return MEANINGS.get(f"{subject}.{detail}", MEANINGS.get(subject, NO_MEANING)).encode()
+
+
+def explained(outcome) -> list:
+    """The lines on what happened to a recipient, where the wording is by outcome."""
+    lines = [b"    " + meaning(outcome)] + [b"    " + it for it in [outcome.reason] if it]
+    if outcome.diagnostic and outcome.diagnostic not in (outcome.reason or b""):
+        lines += [b"    %s said:" % (outcome.mta or b"The recipient's mail system"), b"      " + outcome.diagnostic]
+    if outcome.retry_until is not None:
+        lines.append(b"    It will be tried again until " + date(outcome.retry_until))
+    return lines
+
+
 def first_part(host: bytes, letter: Letter) -> list:
     """The lines for people."""
     lines = [b"Content-Description: Notification", b"Content-Type: text/plain; charset=us-ascii", b""]
-    lines += [b"This is the mail system at host " + host + b".", b"", PARAGRAPHS[worded_as(letter)], b""]
+    lines += [b"This is the mail system at host " + host + b".", b"", PARAGRAPHS[worded_as(letter)]]
+    by_outcome = letter.draft.wording == BY_OUTCOME
+    if by_outcome:
+        help_line = b"For help, write to <postmaster@%s> and include this notice." % host
+        lines += [CONSEQUENCES[worded_as(letter)], help_line]
+    lines.append(b"")
     for it in letter.outcomes:
-        told = letter.draft.wording == BY_OUTCOME and it.original and it.original != it.recipient
+        told = by_outcome and it.original and it.original != it.recipient
         origin = b" (expanded from <%s>)" % it.original if told else b""
         lines.append(b"<%s>%s: %s (%s)" % (it.recipient, origin, ACTION_WORDS[it.action], it.status))
-        if it.reason:
+        if by_outcome:
+            lines += explained(it)
+        elif it.reason:
             lines.append(b"    " + it.reason)
     return lines + [b""]
 

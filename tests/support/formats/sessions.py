@@ -1,4 +1,4 @@
-"""Frames, answers, and a whole run of `batch` (docs/FORMATS.md, sections 2, 6, 7 and 13)."""
+"""Frames, answers, and a whole run of `batch` (noticed-protocol(5))."""
 import struct
 from typing import Optional
 

@@ -1,23 +1,14 @@
-"""What the scripts that run examples/feed.py share: outboxes, a mail server, submission programs, the feeder."""
+"""What the scripts share that give notices to a mail server: outboxes, and small servers that misbehave as they are
+told."""
 import contextlib
-import os
-import re
-import signal
 import socket
-import subprocess
-import sys
-import tempfile
 import threading
 import time
 from collections import Counter
-from pathlib import Path
 
 from tests.support.daemon_and_clients import flush, frames
-from tests.support.running import EXAMPLES, LIMIT, batch
+from tests.support.running import batch
 
-FEEDER = os.environ.get("FEEDER") or str(EXAMPLES / "feed.py")
-FEED = [sys.executable, FEEDER]
-WATCHED = str(Path(__file__).parent / "watched.py")
 PATIENCE = 120  # seconds that anything may take that is waited for, on a machine that is slow or busy
 
 
@@ -66,6 +57,10 @@ class MailServer:
             with contextlib.suppress(OSError, EOFError), connection, connection.makefile("rwb") as stream:
                 self.serve(stream)
             self.serving = 0
+
+    def is_idle(self) -> bool:
+        """Whether the connection that was served is over: a client that leaves doesn't wait until its QUIT is read."""
+        return comes_to(lambda: 1 - self.serving, 1)
 
     def serve(self, stream):
         """One connection: a reply to each command before the next is read."""
@@ -118,9 +113,9 @@ class MailServer:
 class StrictServer(MailServer):
     """A mail server that knows EHLO, MAIL, RCPT, DATA and QUIT alone: at any other command it hangs up. Each of its
     replies has two lines. So many times it closes (421), or hangs up (no reply), in place of its reply to a word; `end`
-    is that of a message's end. At one recipient it always hangs up."""
+    is that of a message's end. At one recipient it always hangs up, and it puts off those of a set."""
 
-    hangs_up_at = b""
+    hangs_up_at, refuses = b"", ()
 
     def __init__(self, closes=(), hangs_up=(), port=0):
         self.closes, self.hangs_up, self.connections = Counter(closes), Counter(hangs_up), 0
@@ -143,122 +138,32 @@ class StrictServer(MailServer):
             self.recipient = command[9:-1]
             if self.recipient == self.hangs_up_at:
                 raise EOFError
+            if self.recipient in self.refuses:
+                self.say(stream, b"450 4.2.0 try again")
+                return
         self.answer(stream, word, {"DATA": b"354", "QUIT": b"221"}.get(word, b"250"))
         if word == "DATA":
-            message = self.message(stream)
+            self.given = (self.recipient, self.message(stream))
             self.answer(stream, "end", b"250")
-            self.taken.append((self.recipient, message))
 
     def answer(self, stream, word: str, code: bytes):
-        """A reply, unless the connection ends here."""
+        """A reply, unless the connection ends here. What was given is taken before its reply, after which a client looks."""
         for ends, reply in ((self.closes, b"421-bye\r\n421 now"), (self.hangs_up, b"")):
             if ends[word] > 0:
                 ends[word] -= 1
                 if reply:
                     self.say(stream, reply)
                 raise EOFError
+        if word == "end":
+            self.taken.append(self.given)
         self.say(stream, code + b"-more\r\n" + code + b" ok")
 
 
-def feed(words, outbox: bytes):
-    """Runs the feeder on an outbox: its status and what it says."""
-    ran = subprocess.run([*FEED, *words], input=outbox, capture_output=True, timeout=LIMIT, check=False)
-    return ran.returncode, ran.stderr.decode().splitlines()
-
-
-def comes_to(count, wanted: int, patience: float = PATIENCE) -> bool:
-    """Whether a count comes to a number in time."""
+def comes_to(count, wanted: int, patience: float = PATIENCE, pause: float = 0.01) -> bool:
+    """Whether a count comes to a number in time. There is a pause between two looks."""
     began = time.monotonic()
     while time.monotonic() - began < patience:
         if (now := count()) >= wanted:
             return now == wanted
-        time.sleep(0.01)
+        time.sleep(pause)
     return False
-
-
-def submission(room: str, text: str) -> str:
-    """A submission program in this folder, by its text; it begins with the recipient in `last`."""
-    program = Path(room) / "submit"
-    program.write_text(f"#!/bin/sh\nfor last; do :; done\n{text}")
-    program.chmod(0o755)
-    return str(program)
-
-
-def feed_file(words, path):
-    """Runs the feeder on a file as its standard input: its status and what it says."""
-    with open(path, "rb") as outbox:
-        ran = subprocess.run([*FEED, *words], stdin=outbox, capture_output=True, timeout=LIMIT, check=False)
-    return ran.returncode, ran.stderr.decode().splitlines()
-
-
-class Fed:
-    """A feeder that runs beside its test, until it is stopped. `first` is a text of Python that runs before it."""
-
-    def __init__(self, *words, first="", **how):
-        self.err, self.slept = tempfile.TemporaryFile(), 0
-        self.pauses, told = os.pipe()
-        os.set_blocking(self.pauses, False)
-        command = [sys.executable, WATCHED, str(told), first, FEEDER, *map(str, words)]
-        self.running = subprocess.Popen(command, stderr=self.err, pass_fds=[told], **how)
-        os.close(told)
-
-    def __enter__(self):
-        return self
-
-    def __exit__(self, *_):
-        self.running.kill()
-        self.running.wait()
-        if self.running.stdin:
-            self.running.stdin.close()
-        self.err.close()
-        os.close(self.pauses)
-
-    def given(self, text: bytes):
-        """Writes all that comes on its standard input."""
-        self.running.stdin.write(text)
-        self.running.stdin.close()
-
-    def said(self) -> list:
-        """The lines that it has said so far."""
-        return os.pread(self.err.fileno(), 1 << 24, 0).decode().splitlines()
-
-    def sleeps(self) -> int:
-        """How often it has begun to sleep so far."""
-        with contextlib.suppress(BlockingIOError):
-            while more := os.read(self.pauses, 4096):
-                self.slept += len(more)
-        return self.slept
-
-    def rests(self) -> bool:
-        """Waits until it has looked for something to do once more, from now on, and found nothing: it sleeps after
-        that. The first sleep may be that of a look that had begun before."""
-        before = self.sleeps()
-        return comes_to(lambda: min(self.sleeps() - before, 2), 2)
-
-    def handles(self, number: int = signal.SIGTERM) -> bool:
-        """Waits until it handles a signal, so that it isn't ended by it, or until it has ended."""
-        return comes_to(lambda: int(self.running.poll() is not None or is_handled(self.running.pid, number)), 1)
-
-    def end(self, number: int = signal.SIGTERM) -> tuple:
-        """Sends it a signal: its status and what it said."""
-        if number != signal.SIGKILL:
-            self.handles(number)
-        self.running.send_signal(number)
-        return self.ended()
-
-    def ended(self) -> tuple:
-        """Waits for its end: its status and what it said."""
-        return self.running.wait(timeout=LIMIT), self.said()
-
-
-class Following(Fed):
-    """A feeder that follows an outbox, until it is stopped."""
-
-    def __init__(self, path, *words, **how):
-        super().__init__("--follow", path, *words, **how)
-
-
-def is_handled(process: int, number: int) -> bool:
-    """Whether a process has a function of its own for a signal."""
-    mask = re.search(r"^SigCgt:\s*([0-9a-f]+)", Path(f"/proc/{process}/status").read_text(), re.MULTILINE)
-    return bool(int(mask[1], 16) >> (number - 1) & 1)

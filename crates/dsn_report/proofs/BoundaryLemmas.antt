@@ -1,19 +1,25 @@
 -- How one returned line restricts the boundary's number, and how the table of ruled-out numbers grows.
-use Rattle.std.proofs.Common.{◌≡◌, ℕ, suc, cond, ◌+◌, ◌/◌, ◌%◌, ◌<◌, inl, inr, Bool, true, false, ◌||◌, List, [], ◌∷◌, ◌++◌, length, length-append, append_assoc, take, drop, map, get_or, codes, refl, sym, ap, subst, ◌∙◌, arith, if◌then◌else◌, slice_set}
-use Rattle.std.specs.Prelude.{not, position, ◌==◌, nat_eq, IfSome, IfNone, IsTrue, IsFalse, Option, Some, None}
-use Rattle.std.specs.List.{list_any, position_or_len, starts_with}
-use Rattle.std.proofs.lemmas.Bool.{false_from_ne_true, false≢true, not-false, not-true, or_parts}
-use Rattle.std.proofs.Math.Bool.{or-true}
+use Rattle.std.proofs.Common.{◌≡◌, ℕ, zero, suc, cond, ◌+◌, ◌/◌, ◌%◌, ◌^◌, ◌<◌, ◌≤◌, inl, inr, Bool, true, false, ◌&&◌, ◌||◌, List, [], ◌∷◌, ◌++◌, length, length-append, append_assoc, take, drop, map, get_or, codes, refl, sym, ap, subst, ◌∙◌, arith, if◌then◌else◌, slice_set}
+use Rattle.std.specs.Prelude.{decimal, not, position, ◌==◌, nat_eq, IfSome, IfNone, IsTrue, IsFalse, Option, Some, None}
+use Rattle.std.specs.List.{list_all, list_any, position_or_len, starts_with}
+use Rattle.std.proofs.lemmas.Bool.{and_parts, false_from_ne_true, false≢true, le-leb, not-false, not-true, or_parts}
+use Rattle.std.proofs.Math.Bool.{or-false, or-true}
 use Rattle.std.proofs.lemmas.Bool.Decides.{Decides-eqb, eqb_tells, leb_tells}
 use Rattle.std.proofs.Math.Seq.{take-append_seam}
-use Rattle.std.proofs.lemmas.List.{append_cancel_left, get_or-set_same, get_or-set_other}
+use Rattle.std.proofs.lemmas.Fmt.{decimal_is_IsNumeral}
+use Rattle.std.proofs.lemmas.List.{append_cancel_left, get_or_default, get_or-set_same, get_or-set_other}
+use Rattle.std.proofs.lemmas.List.Folds.{list_all-append}
 use Rattle.std.proofs.lemmas.List.Quantifiers.{position-Some}
-use Rattle.std.proofs.lemmas.List.Sums.{fails_before_first}
+use Rattle.std.proofs.lemmas.List.Sums.{fails_before_first, list_all-from_AllPass}
 use Rattle.std.proofs.lemmas.Slice.Eq.{starts_is}
+use Rattle.std.proofs.lemmas.Str.Parse.{digit_at}
 use Rattle.dsn_outcome.specs.Letter.{Letter}
-use Rattle.dsn_text.specs.Text.{is_printable}
-use Rattle.dsn_report.specs.Boundary.{IsBoundaryNumber, boundary_front, boundary_text, four_digits, is_delimiter, is_ruled_out, returned_lines}
-use Rattle.dsn_report.specs.inner.Boundary.{is_dashed, rules_out}
+use Rattle.dsn_text.specs.Service.{service_letter}
+use Rattle.dsn_text.specs.Text.{IsQueueId, is_letter_or_digit, is_printable}
+use Rattle.dsn_text.specs.declared.service.Service.{Service}
+use Rattle.dsn_text.specs.declared.service.Service.TheVariants.{Bounce, Defer, Trace}
+use Rattle.dsn_report.specs.Boundary.{IsBoundaryNumber, boundary_front, boundary_text, four_digits, is_delimiter, is_ruled_out, letter_name, returned_lines}
+use Rattle.dsn_report.specs.inner.Boundary.{is_dashed, is_delimiter_byte, rules_out}
 use Rattle.dsn_report.specs.inner.NoticeLines.{byte_shown, line_shown, lines_shown, taken_lines}
 
 -- a text that begins with another one is that text and a rest
@@ -89,6 +95,84 @@ no-front front line inner outer other k =
     other (four_digits k ++ drop (length (front ++ four_digits k)) inner)
     (begins-with (front ++ four_digits k) inner (sym (starts_with-append (codes "--") inner (front ++ four_digits k)) ∙ ap (is_delimiter (front ++ four_digits k)) (sym outer) ∙ is)
     ∙ append_assoc front (four_digits k) _))
+
+-- ---- a delimiter in a shown line
+
+-- a byte of a delimiter is shown unchanged, and no other byte is shown as one
+shown-same : (whole : Bool) (byte wanted : ℕ) → is_delimiter_byte wanted ≡ true → nat_eq wanted (byte_shown whole byte) ≡ nat_eq wanted byte
+shown-same true byte wanted plain = refl
+shown-same false byte wanted plain = here (is_printable byte || (byte == 9)) refl
+  where
+    here : (kept : Bool) → (is_printable byte || (byte == 9)) ≡ kept → nat_eq wanted (if kept then byte else 63) ≡ nat_eq wanted byte
+    here true is = refl
+    here false is = grind (arith, is, plain)
+
+shown-begins : (whole : Bool) (most : ℕ) (needle line : List ℕ) → length needle ≤ most → list_all is_delimiter_byte needle ≡ true
+    → starts_with nat_eq (take most (map (byte_shown whole) line)) needle ≡ starts_with nat_eq line needle
+shown-begins whole most [] line short plain = refl
+shown-begins whole zero (wanted ∷ needle) line short plain = absurd (omega (arith, short))
+shown-begins whole (suc most) (wanted ∷ needle) [] short plain = refl
+shown-begins whole (suc most) (wanted ∷ needle) (byte ∷ line) short plain =
+    let parts = and_parts (is_delimiter_byte wanted) (list_all is_delimiter_byte needle) plain in
+    λ i. shown-same whole byte wanted parts.0 i && shown-begins whole most needle line (omega (arith, short)) parts.1 i
+
+plain-append : (xs ys : List ℕ) → list_all is_delimiter_byte xs ≡ true → list_all is_delimiter_byte ys ≡ true → list_all is_delimiter_byte (xs ++ ys) ≡ true
+plain-append xs ys first second = list_all-append is_delimiter_byte xs ys ∙ rw (first, second) refl
+
+plain-digit : (byte : ℕ) → 48 ≤ byte → byte ≤ 57 → is_delimiter_byte byte ≡ true
+plain-digit byte low high = rw (le-leb 48 byte low, le-leb byte 57 high) refl
+
+plain-digits : (k : ℕ) → k < 10000 → list_all is_delimiter_byte (four_digits k) ≡ true
+plain-digits k below =
+    rw (
+      plain-digit (48 + k / 1000) (omega arith) (omega arith),
+      plain-digit (48 + k / 100 % 10) (omega arith) (omega arith),
+      plain-digit (48 + k / 10 % 10) (omega arith) (omega arith),
+      plain-digit (48 + k % 10) (omega arith) (omega arith),
+    ) refl
+
+shown-delimiter : (whole : Bool) (front line : List ℕ) (k : ℕ) → k < 10000 → length front ≤ 56 → list_all is_delimiter_byte front ≡ true
+    → is_delimiter (front ++ four_digits k) (line_shown whole line) ≡ is_delimiter (front ++ four_digits k) line
+shown-delimiter whole front line k below short plain =
+    shown-begins whole 998 (codes "--" ++ (front ++ four_digits k)) line
+    (omega (arith, short, length-append front (four_digits k)))
+    (plain-append (codes "--") (front ++ four_digits k) refl (plain-append front (four_digits k) plain (plain-digits k below)))
+
+-- a line is a delimiter when it is shown if it is one as it came; the front is given as three equal texts
+pub delimiter-shown : (whole : Bool) (front own bytes line : List ℕ) → own ≡ front → length own ≤ 56 → list_all is_delimiter_byte own ≡ true → bytes ≡ own
+    → (k : ℕ) → k < 10000 → is_delimiter (front ++ four_digits k) (line_shown whole line) ≡ is_delimiter (bytes ++ four_digits k) line
+delimiter-shown whole front own bytes line is short plain same k below =
+    ap (λ text. is_delimiter (text ++ four_digits k) (line_shown whole line)) (sym is)
+    ∙ shown-delimiter whole own line k below short plain
+    ∙ ap (λ text. is_delimiter (text ++ four_digits k) line) (sym same)
+
+plain-decimal : (n : ℕ) → n < 2 ^ 64 → list_all is_delimiter_byte (decimal n) ≡ true
+plain-decimal n few =
+    list_all-from_AllPass is_delimiter_byte (decimal n) (λ k d below.
+    let digit = digit_at (decimal n) k (decimal_is_IsNumeral n few).0.1 below in
+    let same = get_or_default (decimal n) k d 0 below in
+    plain-digit (get_or (decimal n) k d) (omega (arith, digit.0, same)) (omega (arith, digit.1, same)))
+
+plain-id : (id : List ℕ) → list_all is_letter_or_digit id ≡ true → list_all is_delimiter_byte id ≡ true
+plain-id [] plain = refl
+plain-id (byte ∷ id) plain =
+    let parts = and_parts (is_letter_or_digit byte) (list_all is_letter_or_digit id) plain in
+    rw (parts.0, plain-id id parts.1) refl
+
+plain-service : (service : Service) → list_all is_delimiter_byte (service_letter service ∷ codes ".") ≡ true
+plain-service Bounce = refl
+plain-service Defer = refl
+plain-service Trace = refl
+
+-- the letter's name has only bytes of a delimiter
+pub plain-name : (letter : Letter) → IsQueueId letter.key.id → letter.draft.moment < 2 ^ 64 → list_all is_delimiter_byte (letter_name letter) ≡ true
+plain-name letter legal few =
+    let service = service_letter letter.key.service ∷ codes "." in
+    plain-append (service ++ letter.key.id ++ codes ".") (decimal letter.draft.moment)
+    (plain-append (service ++ letter.key.id) (codes ".")
+    (plain-append service letter.key.id (plain-service letter.key.service) (plain-id letter.key.id (and_parts _ (list_all is_letter_or_digit letter.key.id) legal).1))
+    refl)
+    (plain-decimal letter.draft.moment few)
 
 -- a byte that is shown as a dash is a dash
 shown-dash : (whole : Bool) (byte : ℕ) → byte_shown whole byte ≡ 45 → byte ≡ 45
@@ -172,34 +256,39 @@ position-None p xs d none k below = elim (leb_tells (suc (position_or_len p xs))
     some≢none : (n : ℕ) → Some n ≡ None → ⊥
     some≢none n e = cc
 
--- the final table shows for each number whether it is ruled out
-ruled_out-rules_out : (letter : Letter) (front : List ℕ) (all : List (List ℕ)) (number : ℕ) → front ≡ boundary_front letter → all ≡ returned_lines letter.draft
-    → rules_out front all number ≡ is_ruled_out letter number
-unfolding is_ruled_out boundary_text
-ruled_out-rules_out letter front all number f l = rw (f, l) refl
-
 abbrev pub IsTable : List ℕ → List (List ℕ) → List Bool → Type 0
 IsTable front all table = (number : ℕ) → number < 2980 → get_or table number false ≡ rules_out front all number
 
+-- if no lines are left, the table shows which numbers are ruled out
+pub IsMarked-all : (front : List ℕ) (whole : Bool) (all : List (List ℕ)) (table : List Bool) (left : List (List ℕ)) → left ≡ [] → IsMarked front whole all table left → IsTable front all table
+IsMarked-all front whole all table left e so_far = λ number below.
+    sym (so_far number below ∙ ap (λ left. get_or table number false || list_any (is_delimiter (front ++ four_digits number)) (map (line_shown whole) left)) e ∙ or-false (get_or table number false))
+
+-- the final table shows for each number whether it is ruled out
+ruled_out-rules_out : (letter : Letter) (all : List (List ℕ)) (number : ℕ) → all ≡ returned_lines letter.draft
+    → rules_out (boundary_front letter) all number ≡ is_ruled_out letter number
+unfolding is_ruled_out boundary_text
+ruled_out-rules_out letter all number l = rw l refl
+
 -- the first free number in the table is that of the boundary
-pub IsBoundaryNumber-first : (letter : Letter) (front : List ℕ) (all : List (List ℕ)) (table : List Bool) (number : ℕ) → front ≡ boundary_front letter → all ≡ returned_lines letter.draft
-    → length table ≡ 2980 → IsTable front all table → position not table ≡ Some number → IsBoundaryNumber letter number
-IsBoundaryNumber-first letter front all table number f l size read_off first =
+pub IsBoundaryNumber-first : (letter : Letter) (all : List (List ℕ)) (table : List Bool) (number : ℕ) → all ≡ returned_lines letter.draft
+    → length table ≡ 2980 → IsTable (boundary_front letter) all table → position not table ≡ Some number → IsBoundaryNumber letter number
+IsBoundaryNumber-first letter all table number l size read_off first =
     let found = position-Some not table number false first in
     record {
       free =
-          sym (ruled_out-rules_out letter front all number f l) ∙ sym (read_off number (omega (arith, found.0, size)))
+          sym (ruled_out-rules_out letter all number l) ∙ sym (read_off number (omega (arith, found.0, size)))
           ∙ not-true (get_or table number false) found.1;
       least = λ smaller below.
-          sym (ruled_out-rules_out letter front all smaller f l) ∙ sym (read_off smaller (omega (arith, found.0, size, below)))
+          sym (ruled_out-rules_out letter all smaller l) ∙ sym (read_off smaller (omega (arith, found.0, size, below)))
           ∙ not-false (get_or table smaller false) (found.2 smaller below);
     }
 
 -- a table without a free number means that all its numbers are ruled out
-pub all-ruled_out : (letter : Letter) (front : List ℕ) (all : List (List ℕ)) (table : List Bool) → front ≡ boundary_front letter → all ≡ returned_lines letter.draft
-    → length table ≡ 2980 → IsTable front all table → position not table ≡ None → (number : ℕ) → number < 2980 → is_ruled_out letter number ≡ true
-all-ruled_out letter front all table f l size read_off none number below =
-    sym (ruled_out-rules_out letter front all number f l) ∙ sym (read_off number below)
+pub all-ruled_out : (letter : Letter) (all : List (List ℕ)) (table : List Bool) → all ≡ returned_lines letter.draft
+    → length table ≡ 2980 → IsTable (boundary_front letter) all table → position not table ≡ None → (number : ℕ) → number < 2980 → is_ruled_out letter number ≡ true
+all-ruled_out letter all table l size read_off none number below =
+    sym (ruled_out-rules_out letter all number l) ∙ sym (read_off number below)
     ∙ not-false (get_or table number false) (position-None not table false none number (omega (arith, size, below)))
 
 -- lines that don't begin with two dashes rule out no number

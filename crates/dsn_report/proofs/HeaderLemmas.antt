@@ -1,5 +1,5 @@
 -- The lines of a header, one at a time.
-use Rattle.std.proofs.Common.{min, ◌≡◌, ℕ, suc, ◌+◌, ◌-◌, ◌<◌, ◌≤◌, Bool, true, false, not, List, [], ◌∷◌, ◌++◌, length, take, drop, get_or, map, refl, sym, ap, subst, ◌∙◌, cond, arith, add-one, if◌then◌else◌}
+use Rattle.std.proofs.Common.{min, ◌≡◌, ℕ, suc, ◌+◌, ◌<◌, ◌≤◌, Bool, true, false, not, List, [], ◌∷◌, ◌++◌, length, take, drop, get_or, map, refl, sym, ap, subst, ◌∙◌, cond, arith, if◌then◌else◌}
 use Rattle.std.specs.Prelude.{◌==◌}
 use Rattle.std.specs.List.{All, list_all, onto_first, slice_split, before_first, prefix_len}
 use Rattle.std.specs.Str.Lines.{lines, lines_of_parts, strip_carriage_return}
@@ -131,14 +131,6 @@ shown-returned draft = here (returns_message draft) refl
     here : (whole : Bool) → returns_message draft ≡ whole → lines_shown whole draft.header ≡ (if whole then lines draft.header else map shown_line (header_lines draft.header))
     here true is = lines-kept (lines draft.header) (and_parts (is_message draft.returned) _ is).1
     here false is = refl
-
--- the line after a dot
-pub line-behind : (len : ℕ) (shown line : List ℕ) → take (len + 1) shown ≡ 46 ∷ line → take (len + 1 - 1) (drop 1 shown) ≡ line
-line-behind len [] line e = let none : take (suc len) [] ≡ 46 ∷ line = rw add-one at e in absurd cc
-line-behind len (byte ∷ rest) line e =
-    let behind : byte ∷ take len rest ≡ 46 ∷ line = rw add-one at e in
-    let same : len + 1 - 1 ≡ len = omega arith in
-    rw same (cc)
 
 -- if there are no lines, there is no returned part
 pub returned_part-none : (boundary description content_type : List ℕ) (ls : List (List ℕ)) → (length ls == 0) ≡ true → returned_part boundary description content_type ls ≡ []

@@ -6,7 +6,6 @@ ghost use Rattle.dsn_report.specs.Boundary.{IsBoundaryNumber, boundary_number, b
 ghost use Rattle.dsn_report.specs.inner.Boundary.{is_dashed};
 ghost use Rattle.dsn_report.specs.inner.NoticeLines.{lines_shown, taken_lines};
 
-use crate::letter_boundary::boundary_front;
 use crate::returned_text::ReturnedText;
 use crate::ruled_out_boundaries::{first_free, numbers_ruled_out};
 use dsn_outcome::Letter;
@@ -70,8 +69,7 @@ fn least_free(letter: &Letter, returned: ReturnedText<'_>) -> u16
     ensures { IsBoundaryNumber letter.now result }
 {
     letter.header().bytes();
-    let front = boundary_front(letter);
-    let ruled_out = numbers_ruled_out(front.bytes(), returned);
+    let ruled_out = numbers_ruled_out(letter, returned);
     match first_free(&ruled_out) {
         Some(number) => number as u16,
         // The text has too few bytes to rule out every number of the table.

@@ -1,8 +1,9 @@
 //! The name and the serial of a letter, and the boundaries that begin with its name.
 //! Implements noticed-notice(5).
-ghost use Rattle.std.specs.Prelude.{◌≡◌, ◌+◌, ◌<◌, ◌≤◌, decimal, length};
+ghost use Rattle.std.specs.Prelude.{◌≡◌, ◌+◌, ◌<◌, ◌≤◌, IsTrue, decimal, length};
+ghost use Rattle.std.specs.List.{list_all};
 ghost use Rattle.dsn_report.specs.Boundary.{letter_name, boundary_front, boundary_numbers, boundary_text};
-ghost use Rattle.dsn_report.specs.inner.Boundary.{longest_letter_name};
+ghost use Rattle.dsn_report.specs.inner.Boundary.{is_delimiter_byte, longest_letter_name};
 
 use dsn_outcome::{Letter, ShortText};
 
@@ -13,6 +14,7 @@ pub(crate) const NUMBER_LEN: usize = 4;
 fn letter_name(letter: &Letter) -> ShortText
     ensures name { result ≡ letter_name letter.now }
     ensures short { length result ≤ longest_letter_name }
+    ensures plain { IsTrue (list_all is_delimiter_byte result) }
 {
     let key = letter.key();
     let mut name = ShortText::new();
@@ -37,6 +39,7 @@ pub(crate) fn serial_text(letter: &Letter) -> ShortText
 pub(crate) fn boundary_front(letter: &Letter) -> ShortText
     ensures front { result ≡ boundary_front letter.now }
     ensures short { length result ≤ longest_letter_name + 1 }
+    ensures plain { IsTrue (list_all is_delimiter_byte result) }
 {
     let mut front = letter_name(letter);
     front.push(b".");

@@ -2,33 +2,34 @@
 //! Implements noticed-notice(5).
 ghost use Rattle.std.specs.Prelude.{◌≡◌, ◌≢◌, ◌+◌, ◌*◌, ◌<◌, ℕ, ◌++◌, IsTrue, IsFalse, IfNone, IfSome, slice_index_or, nat_eq, false, not, position};
 ghost use Rattle.std.specs.List.{starts_with};
-ghost use Rattle.dsn_report.specs.Boundary.{boundary_numbers, four_digits, is_delimiter};
+ghost use Rattle.dsn_report.specs.Boundary.{boundary_front, boundary_numbers, four_digits, is_delimiter};
 ghost use Rattle.dsn_report.specs.inner.Boundary.{rules_out};
 ghost use Rattle.dsn_report.specs.inner.NoticeLines.{lines_shown};
 
-use crate::returned_lines::{LINE_ROOM, show_line};
+use crate::letter_boundary::boundary_front;
 use crate::returned_text::ReturnedText;
+use dsn_outcome::Letter;
 
 /// More numbers than returned lines can rule out. The proof bounds them by 2,979, since a line that
 /// rules one out takes at least eleven bytes with its line feed. (The shortest takes thirteen, so
 /// 2,520 is the actual maximum.)
 pub(crate) const NUMBERS: usize = 2_980;
 
-/// Which numbers the returned lines rule out, for boundaries that begin with `front`.
-pub(crate) fn numbers_ruled_out(front: &[u8], returned: ReturnedText<'_>) -> [bool; NUMBERS]
+/// Which numbers the returned lines rule out for the boundary of a letter.
+pub(crate) fn numbers_ruled_out(letter: &Letter, returned: ReturnedText<'_>) -> [bool; NUMBERS]
     ensures { (number : ℕ) → number < NUMBERS
         → slice_index_or result number false
-        ≡ rules_out front.now (lines_shown returned.entry.whole returned.entry.bytes.now) number }
+        ≡ rules_out (boundary_front letter.now)
+        (lines_shown returned.entry.whole returned.entry.bytes.now) number }
 {
+    let front = boundary_front(letter);
     let mut ruled_out = [false; NUMBERS];
-    let mut shown = [0; LINE_ROOM];
     for line in returned.lines() {
-        if line.starts_with(b"--") {
-            let len = show_line(line, returned.whole, &mut shown);
-            if let Some(number) = number_ruled_out(front, &shown[1..len + 1]) {
-                if number < NUMBERS {
-                    ruled_out[number] = true;
-                }
+        // The line is compared as it came. A notice shows each byte of a delimiter unchanged, and
+        // no other byte as one of them.
+        if let Some(number) = number_ruled_out(front.bytes(), line) {
+            if number < NUMBERS {
+                ruled_out[number] = true;
             }
         }
     }

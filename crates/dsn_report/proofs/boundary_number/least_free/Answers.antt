@@ -7,15 +7,13 @@ use Rattle.dsn_report.proofs.boundary_number.least_free.Goals as goal
 pub unreachable-requires : goal.unreachable-requires
 unreachable-requires c =
     let letter = c.args.letter.now in
-    let front = c.bytes-2.ensures.same ∙ c.boundary_front-front.ensures.front in
     let returned = lines_shown c.args.returned.whole c.args.returned.bytes.now in
     let short : length letter.draft.header ≤ 32768 = subst (λ header. length header ≤ 32768) c.header.ensures c.bytes.ensures.legal in
     some-free letter short
-    (all-ruled_out letter c.bytes-2.result.now returned c.numbers_ruled_out-ruled_out.result front c.requires (search rules) c.numbers_ruled_out-ruled_out.ensures (sym c.first_free.ensures.first ∙ c.in-None.is))
+    (all-ruled_out letter returned c.numbers_ruled_out-ruled_out.result c.requires (search rules) c.numbers_ruled_out-ruled_out.ensures (sym c.first_free.ensures.first ∙ c.in-None.is))
 
 pub returns : goal.returns
 returns c =
     let letter = c.args.letter.now in
-    let front = c.bytes-2.ensures.same ∙ c.boundary_front-front.ensures.front in
     let returned = lines_shown c.args.returned.whole c.args.returned.bytes.now in
-    IsBoundaryNumber-first letter c.bytes-2.result.now returned c.numbers_ruled_out-ruled_out.result _ front c.requires (search rules) c.numbers_ruled_out-ruled_out.ensures (sym c.first_free.ensures.first ∙ c.in-Some.is)
+    IsBoundaryNumber-first letter returned c.numbers_ruled_out-ruled_out.result _ c.requires (search rules) c.numbers_ruled_out-ruled_out.ensures (sym c.first_free.ensures.first ∙ c.in-Some.is)

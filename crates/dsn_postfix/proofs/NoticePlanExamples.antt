@@ -1,11 +1,12 @@
 -- Worked examples of the notices that requests have, each computed.
 use Rattle.std.proofs.Common.{◌≡◌, ℕ, false, List, [], ◌∷◌, codes, refl, Ok, Err, Some, None}
+use Rattle.std.specs.List.{count_by}
 use Rattle.dsn_text.specs.declared.service.Service.{Service}
 use Rattle.dsn_text.specs.declared.service.Service.TheVariants.{Bounce, Defer, Trace as TraceLog}
 use Rattle.dsn_postfix_files.specs.LogFile.{DamagedLog, SaidLog, are_whole, entry_at, is_said_line}
 use Rattle.dsn_postfix_files.specs.LogRecord.{LoggedFields, fields_of_lines, unsayable_field}
 use Rattle.dsn_postfix.specs.LoggedAppend.{logged_of, unlogged_of}
-use Rattle.dsn_postfix.specs.NoticePlan.{notices_of, notices_telling, notices_with, portions, told_of, whole_records, with_action}
+use Rattle.dsn_postfix.specs.NoticePlan.{notices_of, notices_telling, notices_with, outcomes_of, portions, says_same, told_of, whole_records, with_action}
 use Rattle.dsn_postfix.specs.PlannedNotice.{NoticeFacts}
 use Rattle.dsn_postfix_files.specs.QueueRecipients.{RecipientFacts}
 use Rattle.dsn_postfix.specs.QuotedAddress.{needs_no_quotes}
@@ -143,6 +144,13 @@ of_tried_commands = refl
 of_one_failure : told_of Defer (Flush asked) [] (delayed 727 ∷ became (codes "failed") (codes "g@example.org") 727 0 ∷ []) ≡ became (codes "failed") (codes "g@example.org") 727 0 ∷ []
 of_one_failure = refl
 
+-- if only the earlier of two records of one outcome is wanted, it is reported
+abbrev wanting : ℕ → LoggedFields
+wanting flags = became (codes "failed") (codes "g@example.org") 727 flags
+
+unwanted_later : told_of Bounce (Flush asked) [] (wanting 4 ∷ wanting 1 ∷ []) ≡ wanting 4 ∷ []
+unwanted_later = refl
+
 -- a log of recipients that are tried again reports nothing of one that is done; a log of failures does
 abbrev queued_as : ℕ → RecipientState → RecipientFacts
 queued_as place state = record { place = place; address = codes "g@example.org"; original = []; dsn_original = []; notify_flags = 0; state = state }
@@ -183,6 +191,13 @@ three_notices = refl
 
 nobody_wanted : notices_with Bounce (Flush asked) asked [] (Ok (never ∷ delay ∷ [])) ≡ Ok []
 nobody_wanted = refl
+
+-- one outcome of one notice reports what three records of it say
+once_in_two_notices : notices_with Bounce (Verp asked (codes "+=")) asked [] (Ok (wanting 4 ∷ wanting 4 ∷ both ∷ wanting 1 ∷ [])) ≡ Ok (to_each (wanting 4) ∷ to_each both ∷ [])
+once_in_two_notices = refl
+
+counted_once : count_by (says_same (wanting 1)) (outcomes_of (to_each (wanting 4) ∷ to_each both ∷ [])) ≡ 1
+counted_once = refl
 
 -- a report of what would be done
 abbrev deliverable : LoggedFields

@@ -1,7 +1,7 @@
 -- The notices that a request has of a log: each outcome that the recipient's NOTIFY value wants is in one of them,
 -- once, in the log's order.
 use Rattle.std.specs.Prelude.{◌≡◌, ◌==◌, ◌<◌, ◌≤◌, ◌&&◌, ◌||◌, not, nat_lt, Bool, true, false, ℕ, zero, suc, List, [], ◌∷◌, take, drop, length, map, codes, Option, Some, None, Result, Ok, Err, if◌then◌else◌}
-use Rattle.std.specs.List.{AllByRecursion, filter, flat_map, list_all, list_any}
+use Rattle.std.specs.List.{AllByRecursion, Any, Contains, count_by, filter, flat_map, list_all, list_any}
 use Rattle.std.specs.Str.{bytes_eq}
 use Rattle.dsn_text.specs.declared.service.Service.{Service}
 use Rattle.dsn_text.specs.declared.service.Service.TheVariants.{Bounce, Defer, Trace as TraceLog}
@@ -255,11 +255,6 @@ IsPlanFault planned (Unsaid reason) = planned ≡ Err reason
 
 -- ---- laws of notices
 
--- no outcome is in two records
-abbrev pub HasEachOnce : List LoggedFields → Type 0
-HasEachOnce [] = Unit {0}
-HasEachOnce (fields ∷ later) = (list_any (is_same_outcome fields) later ≡ false) × HasEachOnce later
-
 -- the outcomes that notices report, one after another
 abbrev pub outcomes_of : List NoticeFacts → List LoggedFields
 outcomes_of notices = flat_map (λ (notice : NoticeFacts). notice.outcomes) notices
@@ -268,12 +263,25 @@ outcomes_of notices = flat_map (λ (notice : NoticeFacts). notice.outcomes) noti
 abbrev pub TellsOfSome : ℕ → NoticeFacts → Type 0
 TellsOfSome most notice = (0 < length notice.outcomes) × (length notice.outcomes ≤ most)
 
--- an outcome is reported, with the same place, address, status, action and reason
-abbrev pub IsToldBy : List LoggedFields → LoggedFields → Type 0
-IsToldBy told fields = list_any (says_same fields) told ≡ true
+-- a record is wanted, and a notice reports it with what an outcome says
+abbrev pub is_reported_as : Service → PostfixRequest → List RecipientFacts → LoggedFields → LoggedFields → Bool
+is_reported_as service request queued outcome fields =
+    is_wanted service request queued fields && says_same outcome (told_as request fields)
 
+-- an outcome is that of a wanted record
+abbrev pub IsOfWanted : Service → PostfixRequest → List RecipientFacts → List LoggedFields → LoggedFields → Type 0
+IsOfWanted service request queued records outcome =
+    Any (λ (fields : LoggedFields). (is_wanted service request queued fields ≡ true) × (told_as request fields ≡ outcome)) records
+
+-- What notices report of the records of a log. The last record of each wanted outcome, in the log's order (`told`). So
+-- each wanted record of a known place exactly once, in one notice (`each`); of an unknown place each wanted record, which
+-- is an outcome of its own (`unplaced`); and nothing else (`own`). No notice is empty or too long (`some`).
 pub record TellEachOnce (service : Service) (request : PostfixRequest) (queued : List RecipientFacts) (records : List LoggedFields) (notices : List NoticeFacts) : Type 0 where
   pub told : outcomes_of notices ≡ told_of service request queued records
-  pub once : HasEachOnce (outcomes_of notices)
-  pub all : AllByRecursion (IsToldBy (outcomes_of notices)) (wanted_of service request queued records)
+  pub each : (fields : LoggedFields) → Contains records fields → is_wanted service request queued fields ≡ true
+      → 0 < fields.offset → count_by (says_same (told_as request fields)) (outcomes_of notices) ≡ 1
+  pub unplaced : (fields : LoggedFields) → fields.offset ≡ 0
+      → count_by (says_same (told_as request fields)) (outcomes_of notices)
+      ≡ count_by (is_reported_as service request queued (told_as request fields)) records
+  pub own : AllByRecursion (IsOfWanted service request queued records) (outcomes_of notices)
   pub some : AllByRecursion (TellsOfSome (most_told request)) notices

@@ -222,10 +222,11 @@ fn notices_telling<'a>(
 /// Plans the notices of a request to a service, from the queue file's recipients and the bytes of
 /// the log's file, if there is one.
 /// Each outcome that the recipient's NOTIFY value wants is in exactly one notice, once, in the
-/// log's order; no other outcome is. Records with the same known place, address, status, action and
-/// reason are one outcome, and the last of them is reported. A log of deferred recipients reports
-/// nothing of a recipient that is done. A notice of failure has the action `failed`, whatever the
-/// log's. A message from the null sender, or from the double-bounce address, has no notice.
+/// log's order; no other outcome is. Wanted records with the same known place, address, status,
+/// action and reason are one outcome, and the last of them is reported. A log of deferred
+/// recipients reports nothing of a recipient that is done. A notice of failure has the action
+/// `failed`, whatever the log's. A message from the null sender, or from the double-bounce address,
+/// has no notice.
 /// Returns `Unsaid` if the notices can't be expressed, and `NoMemory` only if memory for them was
 /// refused.
 #[tactic(auto, unfolding(crate::specs::NoticePlan::notices_of))]

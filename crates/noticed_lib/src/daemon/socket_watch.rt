@@ -30,6 +30,10 @@ const LONG_BUSY: u64 = 30;
 /// refuses the next; the next run's agents don't. The rest is for the run's last ten seconds.
 const MOST_FRAMES: u64 = 900_000;
 
+/// After how many milliseconds the run's files are looked at again. A busy client asks before each
+/// frame, and each look is two calls of the system.
+const BETWEEN_LOOKS: u64 = 100;
+
 /// The moment at which all agents got busy, if some aren't.
 const NEVER: u64 = u64::MAX;
 
@@ -86,6 +90,8 @@ pub struct SocketWatch<'a, R> {
     all_busy_since: AtomicU64,
     /// How many frames have begun.
     frames: AtomicU64,
+    /// How many milliseconds after the watch was made the run's files are looked at next.
+    next_look: AtomicU64,
     ending: AtomicBool,
     /// The system's number of the first error of an accept; 0 for none.
     accept_error: AtomicI32,
@@ -121,6 +127,7 @@ impl<'a, R: Files + Eprint + Clock + Env + AllocGlobal> SocketWatch<'a, R> {
             busy: AtomicU32::new(0),
             all_busy_since: AtomicU64::new(NEVER),
             frames: AtomicU64::new(0),
+            next_look: AtomicU64::new(0),
             ending: AtomicBool::new(false),
             accept_error: AtomicI32::new(0),
             board: Board::new(alloc),
@@ -182,6 +189,18 @@ impl<R: Files + Eprint + Clock> SocketWatch<'_, R> {
     /// Whether the socket's path is that of its file.
     fn has_its_socket(&self) -> bool {
         self.has_file(self.paths.socket, self.socket_file)
+    }
+
+    /// Whether the run's files are to be looked at now. Of several agents one is told so.
+    fn is_look_due(&self) -> bool {
+        let now = u64::try_from(self.elapsed().as_millis()).unwrap_or(u64::MAX);
+        let due = self.next_look.load(Ordering::SeqCst);
+        let next = now.saturating_add(BETWEEN_LOOKS);
+        now >= due
+            && self
+                .next_look
+                .compare_exchange(due, next, Ordering::SeqCst, Ordering::SeqCst)
+                .is_ok()
     }
 
     /// Ends the run if one of its files is gone.
@@ -279,7 +298,7 @@ impl<R: Files + Eprint + Clock> Watch for SocketWatch<'_, R> {
     }
 
     fn look(&self) {
-        if !self.is_ending() {
+        if !self.is_ending() && self.is_look_due() {
             self.look_at_files();
         }
         if let Some(manager) = &self.manager {

@@ -216,6 +216,12 @@ ALLOWED = [
         lambda there, met, _: met if there.startswith(b"rfc822; MAILER-DAEMON@") else there,
     ),
     Difference(
+        "no sender",
+        "given back",
+        "as above, in the Return-Path",
+        lambda there, *_: re.sub(rb"\AReturn-Path: <MAILER-DAEMON@[^\n]*>\n", b"Return-Path: <>\n", there),
+    ),
+    Difference(
         "domain of From",
         "From",
         "noticed writes HOST, bounce(8) leaves it to cleanup(8), which writes myorigin",
@@ -248,12 +254,6 @@ ALLOWED = [
         "recipients",
         "noticed names the original recipient if it isn't the final one, bounce(8) always",
         without_repeated_originals,
-    ),
-    Difference(
-        "no Return-Path",
-        "given back",
-        "bounce(8) writes a line that the queue file doesn't have",
-        lambda there, *_: re.sub(rb"\AReturn-Path: [^\n]*\n", b"", there),
     ),
     Difference(
         "header in place of the message",

@@ -314,7 +314,8 @@ def check_size_limit(checks: Checks):
             checks.equal(f"limit {limit} of {size} bytes: asked", it.ask("bounce", asked_in("one", "failure")), 0)
             part = it.server.taken[0][2].split(b"\r\n--")[3]
             kind, wanted = (b"message/rfc822", lines) if size <= limit else (b"text/rfc822-headers", header)
-            returned = b"Content-Type: %s\r\n\r\n" % kind + b"".join(line + b"\r\n" for line in wanted)
+            whole = [b"Return-Path: <ann@example.com>", *wanted]
+            returned = b"Content-Type: %s\r\n\r\n" % kind + b"".join(line + b"\r\n" for line in whole)
             checks.true(f"limit {limit} of {size} bytes: {kind}", part.endswith(returned))
 
 
@@ -329,8 +330,9 @@ def check_sender(checks: Checks):
         for what, sender in (("a sender", b"ann@example.com"), ("no sender", b"owner-list@example.com")):
             checks.equal(f"{what}: asked", it.ask("bounce", request), 0)
             _, path, text = it.server.taken[-1]
-            found = (path.strip(), re.findall(rb"\r\nX-Postfix-Sender: (.*?)\r\n", text))
-            checks.equal(f"{what}: told", found, (b"RCPT TO:<owner-list@example.com>", [b"rfc822; " + sender]))
+            found = (path.strip(), re.findall(rb"\r\n(?:X-Postfix-Sender|Return-Path): (.*?)\r\n", text))
+            named = [b"rfc822; " + sender, b"<" + sender + b">"]
+            checks.equal(f"{what}: told", found, (b"RCPT TO:<owner-list@example.com>", named))
             file.write_bytes(without)
 
 

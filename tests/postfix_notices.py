@@ -98,7 +98,7 @@ class Made:
         self.message = groups[0].split(b"\n")
         self.recipients = [[words(line) for line in group.split(b"\n")] for group in groups[1:]]
         content = returned.partition(b"\n\n")[2]
-        self.back = content.partition(b"\n")[2]  # without the Return-Path that bounce(8) writes before it
+        self.line, _, self.back = content.partition(b"\n")  # the Return-Path, and the text behind it
 
     def said(self, name: bytes) -> bytes:
         found = [it.partition(b": ")[2] for it in self.message if it.startswith(name + b": ")]
@@ -160,7 +160,9 @@ def compare_text(checks: Checks, what: str, message: dict, notice: dict, made: M
         [sorted(map(words, it)) for it in told_here],
         [sorted(map(words, it)) for it in told_there],
     )
-    checks.true(f"{what}: something is given back", bool(back) == bool(made.back))
+    line, _, behind = back.partition(b"\r\n")
+    checks.equal(f"{what}: the line in front of what it gives back", line, made.line)
+    checks.true(f"{what}: something is given back", bool(behind) == bool(made.back))
 
 
 def compare(checks: Checks, what: str, case: str, message: dict, notice: dict, made: Made):

@@ -97,6 +97,7 @@ Diagnostic-Code: smtp; 550 5.1.1 no such user here\r\n\
 Content-Description: Undelivered Message Headers\r\n\
 Content-Type: text/rfc822-headers\r\n\
 \r\n\
+Return-Path: <ann@example.com>\r\n\
 Subject: hello\r\n\
 \r\n\
 --B.090B8A85C9C.1700000000.0000--\r\n";
@@ -113,6 +114,7 @@ Diagnostic-Code: smtp; 550 5.1.1 no such user here\r\n\
 Content-Description: Undelivered Message Headers\r\n\
 Content-Type: text/rfc822-headers\r\n\
 \r\n\
+Return-Path: <ann@example.com>\r\n\
 Subject: hello\r\n\
 \r\n\
 --B.090B8A85C9C.1700000000.0000--\r\n";
@@ -120,6 +122,7 @@ Subject: hello\r\n\
 /// The message itself, returned whole.
 const WHOLE_MESSAGE: &[u8] = b"Content-Type: message/rfc822\r\n\
 \r\n\
+Return-Path: <ann@example.com>\r\n\
 Subject: hello\r\n\
 \r\n\
 Hello.\r\n\
@@ -129,6 +132,7 @@ Hello.\r\n\
 /// The header of the message, returned in its place.
 const HEADER_ALONE: &[u8] = b"Content-Type: text/rfc822-headers\r\n\
 \r\n\
+Return-Path: <ann@example.com>\r\n\
 Subject: hello\r\n\
 \r\n\
 --B.090B8A85C9C.1700000000.0000--\r\n";
@@ -151,6 +155,7 @@ Will-Retry-Until: Sun, 19 Nov 2023 21:13:20 +0000\r\n\
 Content-Description: Delayed Message Headers\r\n\
 Content-Type: text/rfc822-headers\r\n\
 \r\n\
+Return-Path: <ann@example.com>\r\n\
 Subject: hello\r\n\
 \r\n\
 --D.090B8A85C9C.1700000000.0000--\r\n";

@@ -1,5 +1,5 @@
 -- Letters made of the front of a message's text are those made of its whole text.
-use Rattle.std.proofs.Common.{◌≡◌, ◌<◌, ◌≤◌, ◌∙◌, ℕ, Bool, true, false, List, [], ◌∷◌, Option, Some, None, ap, arith, length, length-take, refl, subst, sym, take, take_all, if◌then◌else◌}
+use Rattle.std.proofs.Common.{◌≡◌, ◌<◌, ◌≤◌, ◌∙◌, ◌+◌, ◌++◌, ℕ, Bool, true, false, List, [], ◌∷◌, Option, Some, None, ap, arith, length, length-append, length-take, refl, subst, sym, take, take_all, if◌then◌else◌}
 use Rattle.std.specs.List.{list_any}
 use Rattle.std.specs.Option.{is_some, option_map, option_map_or}
 use Rattle.std.specs.Prelude.{◌&&◌, nat_le, nat_lt}
@@ -19,7 +19,7 @@ use Rattle.dsn_postfix_files.specs.MessageHeader.{AreSameUpTo, front_size, longe
 use Rattle.dsn_postfix_notices.specs.declared.letters.letter_fault.LetterFault.{LetterFault}
 use Rattle.dsn_postfix_notices.specs.declared.letters.letter_fault.LetterFault.TheVariants.{Arrival, Count, Quotes}
 use Rattle.dsn_postfix_notices.specs.letters.LetterFault.{of_draft}
-use Rattle.dsn_postfix_notices.specs.letters.NoticeDraft.{IsDraftTold, draft_fields_told, first_draft_fault_told, is_returned_whole, returned_as, returned_text, tried_until}
+use Rattle.dsn_postfix_notices.specs.letters.NoticeDraft.{IsDraftTold, draft_fields_told, first_draft_fault_told, is_message_told, is_returned_whole, return_path_line, returned_as, returned_text, tried_until}
 use Rattle.dsn_postfix_notices.specs.letters.NoticeLetter.{first_fault_of_told, first_letter_fault, first_of, has_a_count}
 use Rattle.dsn_postfix_notices.specs.letters.ReportedMessage.{MessageSaid}
 use Rattle.dsn_postfix_notices.specs.requests.RequestLetters.{AreLettersOf, IsSaidLetter, has_fault, next_serial}
@@ -66,28 +66,40 @@ front-same text = front-by text (nat_lt (front_size longest_header) (length text
 too-long : (text : List ℕ) → longest_header < length text → nat_le (length text) longest_header ≡ false
 too-long text long = grind (arith, long)
 
-whole-by : (part : ReturnedPart) (size_limit : ℕ) (one other : List ℕ) → AreSameUpTo longest_header one other
-    → is_returned_whole part size_limit one ≡ is_returned_whole part size_limit other
-whole-by Whole size_limit one other (same is) = ap (is_returned_whole Whole size_limit) is
-whole-by Whole size_limit one other (longer first second) =
-    (λ i. nat_le (length one) size_limit && too-long one first i)
+too-long-behind : (line text : List ℕ) → longest_header < length text → nat_le (length line + length text) longest_header ≡ false
+too-long-behind line text long = grind (arith, long)
+
+whole-by : (part : ReturnedPart) (size_limit : ℕ) (line one other : List ℕ) → AreSameUpTo longest_header one other
+    → is_returned_whole part size_limit line one ≡ is_returned_whole part size_limit line other
+whole-by Whole size_limit line one other (same is) = ap (is_returned_whole Whole size_limit line) is
+whole-by Whole size_limit line one other (longer first second) =
+    (λ i. nat_le (length one) size_limit && too-long-behind line one first i)
     ∙ never (nat_le (length one) size_limit) (nat_le (length other) size_limit)
-    ∙ (λ i. nat_le (length other) size_limit && sym (too-long other second) i)
-whole-by Header size_limit one other are = refl
+    ∙ (λ i. nat_le (length other) size_limit && sym (too-long-behind line other second) i)
+whole-by Header size_limit line one other are = refl
 
-whole-same : (part : ReturnedPart) (size_limit : ℕ) (text : List ℕ) → is_returned_whole part size_limit (front_of text) ≡ is_returned_whole part size_limit text
-whole-same part size_limit text = whole-by part size_limit (front_of text) text (front-same text)
+whole-same : (part : ReturnedPart) (size_limit : ℕ) (line text : List ℕ) → is_returned_whole part size_limit line (front_of text) ≡ is_returned_whole part size_limit line text
+whole-same part size_limit line text = whole-by part size_limit line (front_of text) text (front-same text)
 
-returned-by : FrontsShow → (whole : Bool) (text : List ℕ) → AreSameUpTo longest_header (returned_text whole (front_of text)) (returned_text whole text)
-returned-by shows true text = front-same text
-returned-by shows false text = shows longest_header text
+behind-same : (line one other : List ℕ) → AreSameUpTo longest_header one other → AreSameUpTo longest_header (line ++ one) (line ++ other)
+behind-same line one other (same is) = same (ap (λ (text : List ℕ). line ++ text) is)
+behind-same line one other (longer first second) =
+    longer (omega (arith, first, length-append line one)) (omega (arith, second, length-append line other))
+
+returned-by : FrontsShow → (whole : Bool) (line text : List ℕ) → AreSameUpTo longest_header (returned_text whole line (front_of text)) (returned_text whole line text)
+returned-by shows true line text = behind-same line (front_of text) text (front-same text)
+returned-by shows false line text = behind-same line (message_header (front_of text)) (message_header text) (shows longest_header text)
+
+told-same : (message : MessageSaid) (notice : NoticeFacts) → is_message_told (with_front message) notice ≡ is_message_told message notice
+told-same message notice = whole-same notice.returned message.size_limit (return_path_line message.sender) message.text
 
 returned-same : FrontsShow → (message : MessageSaid) (notice : NoticeFacts)
     → AreSameUpTo longest_header (draft_fields_told (with_front message) notice).header (draft_fields_told message notice).header
 returned-same shows message notice =
-    subst (λ (whole : Bool). AreSameUpTo longest_header (returned_text whole (front_of message.text)) (returned_text (is_returned_whole notice.returned message.size_limit message.text) message.text))
-    (sym (whole-same notice.returned message.size_limit message.text))
-    (returned-by shows (is_returned_whole notice.returned message.size_limit message.text) message.text)
+    let line = return_path_line message.sender in
+    subst (λ (whole : Bool). AreSameUpTo longest_header (returned_text whole line (front_of message.text)) (returned_text (is_message_told message notice) line message.text))
+    (sym (told-same message notice))
+    (returned-by shows (is_message_told message notice) line message.text)
 
 -- ---- faults
 
@@ -109,8 +121,7 @@ fault_by fields fits = if fits then first_draft_fault (record {
 draft-fault-same : FrontsShow → (message : MessageSaid) (notice : NoticeFacts)
     → first_draft_fault (draft_fields_told (with_front message) notice) ≡ first_draft_fault (draft_fields_told message notice)
 draft-fault-same shows message notice =
-    let whole : is_returned_whole notice.returned message.size_limit (front_of message.text) ≡ is_returned_whole notice.returned message.size_limit message.text =
-    whole-same notice.returned message.size_limit message.text in
+    let whole : is_message_told (with_front message) notice ≡ is_message_told message notice = told-same message notice in
     let fits : nat_le (length (draft_fields_told (with_front message) notice).header) longest_header ≡ nat_le (length (draft_fields_told message notice).header) longest_header =
     fits-same (draft_fields_told (with_front message) notice).header (draft_fields_told message notice).header (returned-same shows message notice) in
     λ i. fault_by (record {
@@ -198,7 +209,7 @@ said-letter shows message moment serial notice letter is =
           return_path_is = told.return_path_is;
           envelope_id_is = told.envelope_id_is;
           header_is = told.header_is ∙ header-by (with_front message) notice (draft_fields_told message notice).header is.sayable (returned-same shows message notice);
-          returned_is = subst (λ (whole : Bool). letter.draft.returned ≡ returned_as whole) (whole-same notice.returned message.size_limit message.text) told.returned_is;
+          returned_is = subst (λ (whole : Bool). letter.draft.returned ≡ returned_as whole) (told-same message notice) told.returned_is;
           worded_by_outcome = told.worded_by_outcome;
           extensions_is = told.extensions_is;
           none_expected = told.none_expected;

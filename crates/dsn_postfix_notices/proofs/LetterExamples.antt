@@ -1,14 +1,14 @@
 -- Worked examples of what a notice reports for a log's record and says of its message, each computed. The records and
 -- the notices are those of Postfix 3.7.11.
-use Rattle.std.proofs.Common.{◌≡◌, ℕ, true, false, List, [], ◌∷◌, ◌++◌, Some, None, codes, refl}
+use Rattle.std.proofs.Common.{◌≡◌, ℕ, ◌+◌, true, false, List, [], Some, None, codes, length, refl}
+use Rattle.std.specs.Prelude.{◌&&◌, nat_le}
 use Rattle.dsn_outcome.specs.Outcome.{Fields, first_outcome_fault}
-use Rattle.dsn_outcome.specs.declared.outcome_fault.OutcomeFault.TheVariants.{BadStatus, OriginalType}
 use Rattle.dsn_text.specs.Extension.{are_extension_lines, is_extension_line, is_extension_text}
-use Rattle.dsn_text.specs.declared.service.Service.TheVariants.{Bounce, Defer, Trace}
+use Rattle.dsn_text.specs.declared.service.Service.TheVariants.{Bounce, Defer}
+use Rattle.dsn_postfix.specs.QuotedAddress.{needs_no_quotes}
 use Rattle.dsn_postfix.specs.declared.returned_part.ReturnedPart.TheVariants.{Whole, Header}
 use Rattle.dsn_postfix_files.specs.LogRecord.{LoggedFields}
-use Rattle.dsn_postfix_notices.specs.declared.letters.letter_fault.LetterFault.TheVariants.{Outcome, RemoteType}
-use Rattle.dsn_postfix_notices.specs.letters.NoticeDraft.{is_returned_whole, postfix_fields, returned_text, tried_until}
+use Rattle.dsn_postfix_notices.specs.letters.NoticeDraft.{is_returned_whole, postfix_fields, return_path_line, returned_text, tried_until}
 use Rattle.dsn_postfix_notices.specs.letters.PlainStatus.{plain_status}
 use Rattle.dsn_postfix_notices.specs.letters.ToldOutcome.{diagnostic_said, fields_told, first_told_fault, original_said, unless_final}
 
@@ -183,22 +183,47 @@ they_are_extension_fields : is_extension_text (codes "X-Postfix-Queue-ID: 090B8A
 unfolding are_extension_lines is_extension_line
 they_are_extension_fields = refl
 
-whole_if_wanted : is_returned_whole Whole 50000 (codes "A: b\n\nc\n") ≡ true
+-- the line in front of what is returned
+line_of_ann : return_path_line (codes "ann@example.com") ≡ codes "Return-Path: <ann@example.com>\n"
+unfolding needs_no_quotes
+line_of_ann = refl
+
+line_of_the_null_sender : return_path_line [] ≡ codes "Return-Path: <>\n"
+line_of_the_null_sender = refl
+
+-- a sender that needs quotes, and one that would end the line
+no_line_with_quotes : return_path_line (codes "ann,bob@example.com") ≡ []
+unfolding needs_no_quotes
+no_line_with_quotes = refl
+
+no_line_of_two : return_path_line (codes "a\nX-B: c") ≡ []
+no_line_of_two = refl
+
+whole_if_wanted : is_returned_whole Whole 50000 (codes "P: q\n") (codes "A: b\n\nc\n") ≡ true
 whole_if_wanted = refl
 
-header_if_wanted : returned_text (is_returned_whole Header 50000 (codes "A: b\n\nc\n")) (codes "A: b\n\nc\n") ≡ codes "A: b\n"
+message_behind_its_line : returned_text true (codes "P: q\n") (codes "A: b\n\nc\n") ≡ codes "P: q\nA: b\n\nc\n"
+message_behind_its_line = refl
+
+header_if_wanted : is_returned_whole Header 50000 (codes "P: q\n") (codes "A: b\n\nc\n") ≡ false
 header_if_wanted = refl
 
--- bounce_size_limit: the last byte that it allows, and one more
-whole_at_the_limit : is_returned_whole Whole 8 (codes "A: b\n\nc\n") ≡ true
+header_behind_its_line : returned_text false (codes "P: q\n") (codes "A: b\n\nc\n") ≡ codes "P: q\nA: b\n"
+header_behind_its_line = refl
+
+-- bounce_size_limit counts the message alone: the last byte that it allows, and one more
+whole_at_the_limit : is_returned_whole Whole 8 (codes "P: q\n") (codes "A: b\n\nc\n") ≡ true
 whole_at_the_limit = refl
 
-header_beyond_the_limit : returned_text (is_returned_whole Whole 7 (codes "A: b\n\nc\n")) (codes "A: b\n\nc\n") ≡ codes "A: b\n"
+header_beyond_the_limit : is_returned_whole Whole 7 (codes "P: q\n") (codes "A: b\n\nc\n") ≡ false
 header_beyond_the_limit = refl
 
--- as with Postfix, the limit cuts no header
-header_over_the_limit : returned_text (is_returned_whole Whole 1 (codes "A: b\n\nc\n")) (codes "A: b\n\nc\n") ≡ codes "A: b\n"
-header_over_the_limit = refl
+-- the room of a notice counts the line too: the last byte that fits, and one more
+room_for_the_rest : (text : List ℕ) → length text ≡ 32763 → is_returned_whole Whole 50000 (codes "P: q\n") text ≡ true
+room_for_the_rest text is = λ i. nat_le (is i) 50000 && nat_le (5 + is i) 32768
+
+no_room_for_the_rest : (text : List ℕ) → length text ≡ 32764 → is_returned_whole Whole 50000 (codes "P: q\n") text ≡ false
+no_room_for_the_rest text is = λ i. nat_le (is i) 50000 && nat_le (5 + is i) 32768
 
 failures_are_final : tried_until Bounce 1700000000 432000 ≡ None
 failures_are_final = refl

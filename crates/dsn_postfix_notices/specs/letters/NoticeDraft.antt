@@ -1,6 +1,6 @@
 -- What a planned notice says of its message, as the fields of a draft.
 use Rattle.std.specs.Option.{option_map}
-use Rattle.std.specs.Prelude.{◌≡◌, ℕ, ◌+◌, Bool, true, false, ◌&&◌, nat_le, List, [], ◌∷◌, ◌++◌, length, codes, Option, Some, None, if◌then◌else◌}
+use Rattle.std.specs.Prelude.{◌≡◌, ℕ, ◌+◌, ◌==◌, Bool, true, false, ◌&&◌, ◌||◌, nat_le, List, [], ◌++◌, length, codes, Option, Some, None, if◌then◌else◌}
 use Rattle.dsn_outcome.specs.Draft.{Draft, DraftFields, first_draft_fault}
 use Rattle.dsn_outcome.specs.declared.returned.Returned.{Returned}
 use Rattle.dsn_outcome.specs.declared.returned.Returned.TheVariants as returned
@@ -52,15 +52,30 @@ abbrev pub postfix_fields : List ℕ → List ℕ → List ℕ
 postfix_fields queue_id sender =
     postfix_field (codes "X-Postfix-Queue-ID: ") queue_id ++ sender_field sender
 
--- A message is returned whole if that is requested, and if it is neither longer than what the mail system returns nor
--- longer than a notice has room for. Otherwise its header is returned, whatever its length.
-abbrev pub is_returned_whole : ReturnedPart → ℕ → List ℕ → Bool
-is_returned_whole Whole size_limit text = nat_le (length text) size_limit && nat_le (length text) longest_header
-is_returned_whole Header size_limit text = false
+-- a field can name the null sender, and an address without quotes (RFC 5321 section 4.1.2)
+abbrev pub is_named_sender : List ℕ → Bool
+is_named_sender sender = length sender == 0 || (is_address sender && needs_no_quotes sender)
 
-abbrev pub returned_text : Bool → List ℕ → List ℕ
-returned_text true text = text
-returned_text false text = message_header text
+-- the line with the sender that is before what is returned of a message (RFC 5321 section 4.4), as bounce(8) writes it
+abbrev pub return_path_line : List ℕ → List ℕ
+return_path_line sender =
+    if is_named_sender sender then codes "Return-Path: <" ++ (sender ++ codes ">\n") else []
+
+-- A message is returned whole if that is requested, if it is not longer than what the mail system returns, and if a
+-- notice has room for it behind this line. Otherwise its header is returned, whatever its length.
+abbrev pub is_returned_whole : ReturnedPart → ℕ → List ℕ → List ℕ → Bool
+is_returned_whole Whole size_limit line text =
+    nat_le (length text) size_limit && nat_le (length line + length text) longest_header
+is_returned_whole Header size_limit line text = false
+
+abbrev pub returned_text : Bool → List ℕ → List ℕ → List ℕ
+returned_text true line text = line ++ text
+returned_text false line text = line ++ message_header text
+
+-- whether a notice returns its message whole
+abbrev pub is_message_told : MessageSaid → NoticeFacts → Bool
+is_message_told message notice =
+    is_returned_whole notice.returned message.size_limit (return_path_line message.sender) message.text
 
 abbrev pub returned_as : Bool → Returned
 returned_as true = returned.Message
@@ -70,8 +85,8 @@ abbrev pub draft_fields_told : MessageSaid → NoticeFacts → DraftFields
 draft_fields_told message notice = record {
   return_path = notice_address notice;
   envelope_id = message.envelope_id;
-  header = returned_text (is_returned_whole notice.returned message.size_limit message.text) message.text;
-  returned = Some (returned_as (is_returned_whole notice.returned message.size_limit message.text));
+  header = returned_text (is_message_told message notice) (return_path_line message.sender) message.text;
+  returned = Some (returned_as (is_message_told message notice));
   -- the wording follows the outcomes
   wording = Some ByOutcome;
   extensions = postfix_fields message.queue_id message.sender;
@@ -91,7 +106,7 @@ pub record IsDraftTold (message : MessageSaid) (notice : NoticeFacts) (moment ar
   pub return_path_is : draft.return_path ≡ unless_empty (notice_address notice)
   pub envelope_id_is : draft.envelope_id ≡ unless_empty message.envelope_id
   pub header_is : draft.header ≡ (draft_fields_told message notice).header
-  pub returned_is : draft.returned ≡ returned_as (is_returned_whole notice.returned message.size_limit message.text)
+  pub returned_is : draft.returned ≡ returned_as (is_message_told message notice)
   pub worded_by_outcome : draft.wording ≡ ByOutcome
   pub extensions_is : draft.extensions ≡ postfix_fields message.queue_id message.sender
   pub none_expected : draft.expected ≡ None

@@ -2,7 +2,7 @@
 //! Implements docs/postfix-internals.md, "The notice of a Postfix log".
 ghost use Rattle.std.specs.Prelude.{◌≡◌, ◌≤◌, ◌++◌, codes, IfErr, IfOk, IsSome, None, OnOk};
 ghost use Rattle.dsn_postfix_notices.specs.letters.LetterFault.{IsLetterFault};
-ghost use Rattle.dsn_postfix_notices.specs.letters.NoticeDraft.{IsDraftTold, first_draft_fault_told, is_returned_whole, is_said_sender, postfix_fields, returned_as, returned_text, sender_field, tried_until};
+ghost use Rattle.dsn_postfix_notices.specs.letters.NoticeDraft.{IsDraftTold, first_draft_fault_told, is_named_sender, is_returned_whole, is_said_sender, postfix_fields, return_path_line, returned_as, returned_text, sender_field, tried_until};
 ghost use Rattle.dsn_postfix_notices.specs.letters.ReportedMessage.{message_said_in};
 
 use crate::letters::letter_fault::LetterFault;
@@ -65,22 +65,48 @@ fn postfix_fields(alloc: Global, queue_id: &[u8], sender: &[u8]) -> Result<Vec<u
     Ok(fields)
 }
 
-/// Whether a message is returned whole; `size_limit` is in bytes.
-fn is_returned_whole(part: ReturnedPart, size_limit: u32, text: &[u8]) -> bool
-    ensures { result ≡ is_returned_whole part size_limit text.now }
+/// Whether a field can name a sender: the null sender, or a valid address without quotes.
+fn is_named_sender(sender: &[u8]) -> bool
+    ensures { result ≡ is_named_sender sender.now }
+{
+    sender.is_empty() || Address::is_valid(sender) && needs_no_quotes(sender)
+}
+
+/// The line with a message's sender that is before what is returned of it, or no bytes if a field
+/// cannot name the sender.
+fn return_path_line(alloc: Global, sender: &[u8]) -> Result<Vec<u8>, AllocError>
+    ensures { IfOk result (λ line. line.items ≡ return_path_line sender.now) }
+{
+    let mut line = Vec::new(alloc);
+    if is_named_sender(sender) {
+        line.extend_from_slice(b"Return-Path: <")?;
+        line.extend_from_slice(sender)?;
+        line.extend_from_slice(b">\n")?;
+    }
+    Ok(line)
+}
+
+/// Whether a message is returned whole behind the line of its sender; `size_limit` is in bytes.
+fn is_returned_whole(part: ReturnedPart, size_limit: u32, line: &[u8], text: &[u8]) -> bool
+    ensures { result ≡ is_returned_whole part size_limit line.now text.now }
 {
     match part {
-        // This counts the text; bounce(8) counts the queue file.
-        ReturnedPart::Whole => text.len() <= size_limit as usize && text.len() <= LONGEST_HEADER,
+        // The first limit counts the text, where bounce(8) counts the queue file.
+        ReturnedPart::Whole => {
+            text.len() <= size_limit as usize && line.len() + text.len() <= LONGEST_HEADER
+        }
         ReturnedPart::Header => false,
     }
 }
 
-/// The part of a message that is returned.
-fn returned_text(whole: bool, text: &[u8]) -> &[u8]
-    ensures { result.now ≡ returned_text whole text.now }
+/// The part of a message that is returned, behind the line of its sender.
+fn returned_text(line: Vec<u8>, whole: bool, text: &[u8]) -> Result<Vec<u8>, AllocError>
+    ensures { IfOk result
+        (λ returned. returned.items ≡ returned_text whole line.items text.now) }
 {
-    if whole { text } else { header_of_message(text) }
+    let mut returned = line;
+    returned.extend_from_slice(if whole { text } else { header_of_message(text) })?;
+    Ok(returned)
 }
 
 /// What the draft's `header` field holds.
@@ -120,11 +146,13 @@ pub(super) fn draft_told(
         return Err(LetterFault::Quotes);
     }
     let fields = postfix_fields(alloc, message.queue_id.bytes(), message.sender)?;
-    let whole = is_returned_whole(notice.returned, message.size_limit, message.text);
+    let line = return_path_line(alloc, message.sender)?;
+    let whole = is_returned_whole(notice.returned, message.size_limit, &line, message.text);
+    let returned = returned_text(line, whole, message.text)?;
     let parts = DraftParts {
         return_path: &address,
         envelope_id: message.envelope_id,
-        header: returned_text(whole, message.text),
+        header: &returned,
         expected: None,
         returned: Some(returned_as(whole)),
         wording: Some(Wording::ByOutcome),

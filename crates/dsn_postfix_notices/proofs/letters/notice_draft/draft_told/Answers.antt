@@ -13,7 +13,7 @@ returns-clause-refused c =
     let notice = c.args.notice.now in
     let told = draft_fields_told message notice in
     let same =
-    fields_are c.deref-2.result.now told.return_path told.envelope_id c.returned_text.result.now told.header c.deref-3.result.now told.extensions
+    fields_are c.deref-3.result.now told.return_path told.envelope_id c.deref-4.result.now told.header c.deref-5.result.now told.extensions
     (Some c.returned_as.result) told.returned told.wording told.wording
     (search rules) (search rules) (search rules) (search rules) (search rules) in
     draft_fault_told_is message notice c.in-Err.fault c.from.result (search rules)

@@ -1,7 +1,7 @@
 """dist/noticed-postfix in front of a private Postfix: its commands, as an administrator types them. main.cf and
 master.cf are compared byte for byte before and after. A later change of hash_queue_names is honoured at the next start,
-root is refused as the account of the service, each setting that isn't honoured is named, and a main.cf that refuses
-everything keeps no notice out. Needs root and Debian's package postfix, and is skipped without them."""
+root is refused as the account of the service, each setting that isn't honoured is named, a main.cf that refuses
+everything keeps no notice out, and notices are filtered only if internal_mail_filter_classes says so. Needs root and Debian's package postfix, and is skipped without them."""
 import os
 import pwd
 import shutil
@@ -10,7 +10,17 @@ import subprocess
 import sys
 from pathlib import Path
 
-from tests.support.private_postfix import HANDS_ON, LOGS, PATIENCE, Front, Mailbox, Postfix, comes_true, lacks
+from tests.support.private_postfix import (
+    HANDS_ON,
+    LOGS,
+    PATIENCE,
+    Front,
+    Mailbox,
+    Postfix,
+    comes_true,
+    lacks,
+    mail_filter,
+)
 from tests.support.running import DIST, HOST, Checks, program
 
 SWITCH = {f"{it}_service_name": f"noticed-{it}" for it in LOGS}
@@ -21,7 +31,6 @@ USED = {
     "notify_classes": "bounce, resource, software",
     "bounce_template_file": "/etc/postfix/bounce.cf",
     "enable_threaded_bounces": "yes",
-    "internal_mail_filter_classes": "notify, bounce",
     "myorigin": "example.net",
     "mail_name": "Mailer",
     "header_from_format": "obsolete",
@@ -210,14 +219,15 @@ def check_enabled(checks: Checks, it: Stock):
     notice_comes(checks, it, "at first")
 
 
-def notice_comes(checks: Checks, it: Stock, when: str):
-    """`test` shows a notice that noticed made, and nothing is left."""
+def notice_comes(checks: Checks, it: Stock, when: str) -> list:
+    """`test` shows a notice that noticed made, and nothing is left. Returns the lines."""
     status, lines = it.script("test")
     wanted = f"right: notice to root in {it.room}/mail/root"
     checks.equal(f"test {when}: its status and its last line", (status, lines[-1]), (0, wanted))
     shown = any(line.startswith("Final-Recipient: rfc822; refused@-") for line in lines)
     checks.true(f"test {when}: it shows the notice", shown)
     checks.equal(f"test {when}: what is left", it.left(empty=True), [])
+    return lines
 
 
 def check_hashing(checks: Checks, it: Stock):
@@ -297,6 +307,29 @@ def check_against(checks: Checks, it: Stock):
     it.command("postfix", "reload")
 
 
+def check_filtered(checks: Checks, it: Stock):
+    """With `bounce` in internal_mail_filter_classes a notice passes header_checks and non_smtpd_milters, as one of
+    bounce(8) does; otherwise neither. A change of that setting takes effect with `enable`, and `check` says so."""
+    before, rules = it.texts(), it.room / "etc/prepends"
+    rules.write_text("/^Subject: Undelivered/ PREPEND X-Change: new-field\n")
+    seen = {"by header_checks": "X-Change: new-field", "by the milter": "X-Added: at the end"}
+    anew = f"hand-in at {it.queue}/private/noticed-submit: enable writes noticed-submit of master.cf anew"
+    with mail_filter() as server:
+        milters = f"inet:127.0.0.1:{server.server_address[1]}"
+        it.set(header_checks=f"regexp:{rules}", non_smtpd_milters=milters, smtpd_milters="inet:127.0.0.1:9")
+        for classes, wanted in (("notify, bounce", True), ("notify", False)):
+            it.set(internal_mail_filter_classes=classes)
+            status, lines = it.script("check")
+            checks.equal(f"{classes}: check", (status, beginning(lines, "wrong")), (1, [anew]))
+            checks.equal(f"{classes}: enable", it.script("enable")[0], 0)
+            checks.equal(f"{classes}: check after that", it.script("check")[0], 0)
+            shown = notice_comes(checks, it, f"with {classes}")
+            for what, field in seen.items():
+                checks.equal(f"{classes}: a notice is changed {what}", field in shown, wanted)
+    it.restore(before)
+    it.command("postfix", "reload")
+
+
 def check_disabled(checks: Checks, it: Stock, before: tuple):
     """The way back, with values that main.cf had, and without."""
     checks.equal("disable", (it.script("disable")[0], it.texts()), (0, before))
@@ -326,7 +359,7 @@ def main():
         it.start()
         before = it.texts()
         parts = (check_before, check_account, check_enabled, check_hashing, check_named, check_wrong, check_against)
-        for check in parts:
+        for check in (*parts, check_filtered):
             check(checks, it)
         checks.equal("complaints of Postfix", it.complaints(), [])
         check_disabled(checks, it, before)

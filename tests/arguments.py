@@ -16,7 +16,7 @@ USAGE = (
     b" | hand-in [--done FILE] [--give-up SECONDS] HAND-IN"
     b" | postfix [--lifetime SECONDS] [--bounce-size-limit BYTES] [--double-bounce ADDRESS]"
     b" [--hash-queue-names NAMES]"
-    b" [--hash-queue-depth DEPTH] [--inherited] QUEUE-FOLDER HOST HAND-IN"
+    b" [--hash-queue-depth DEPTH] [--pass-on CLASSES] [--inherited] QUEUE-FOLDER HOST HAND-IN"
     b" | preview [OPTIONS] QUEUE-FOLDER HOST ID\n"
 )
 PATH = b"the path of the socket must have 1 to 107 bytes\n"
@@ -197,8 +197,10 @@ POSTFIX_OPTIONS = {
     "--double-bounce": "a@b",
     "--hash-queue-names": "defer",
     "--hash-queue-depth": "1",
+    "--pass-on": "2bounce",
 }
 NO_NAMES = ["defer;bounce", "../defer", "a_b", "defer\n", "d\u00e9fer", "x" * 101, "defer, " + "x" * 101]
+NO_CLASSES = ["resource", "Bounce", "bounce;delay", "2bounces", "delay\n"]
 # wrong as HAND-IN: no IP address with a port, and no path
 NO_HAND_INS = [
     "",
@@ -289,6 +291,8 @@ RIGHT_OF_POSTFIX = {
     "the most of a size limit": ["--bounce-size-limit", "2147483647", QUEUE, HOST, HAND_IN],
     "no hashed queue": ["--hash-queue-names", "", QUEUE, HOST, HAND_IN],
     "a list of hashed queues": ["--hash-queue-names", "deferred, defer\tbounce", QUEUE, HOST, HAND_IN],
+    "no classes": ["--pass-on", "", QUEUE, HOST, HAND_IN],
+    "a list of classes": ["--pass-on", "bounce, 2bounce\tdelay", QUEUE, HOST, HAND_IN],
     "an address without a domain": ["--double-bounce", "double-bounce", QUEUE, HOST, HAND_IN],
     "inherited sockets": ["--inherited", QUEUE, HOST, HAND_IN],
     "inherited sockets before another option": ["--inherited", "--lifetime", "1", QUEUE, HOST, HAND_IN],
@@ -354,6 +358,7 @@ def wrong_of_postfix() -> dict:
         ("--bounce-size-limit", NO_SIZE_LIMITS),
         ("--hash-queue-depth", NO_DEPTHS),
         ("--hash-queue-names", NO_NAMES),
+        ("--pass-on", NO_CLASSES),
     ):
         wrong |= {f"postfix with {option} {it!r}": ["postfix", option, it, *place] for it in values}
     return wrong

@@ -1,7 +1,8 @@
 """dist/noticed-postfix in front of a private Postfix: its commands, as an administrator types them. main.cf and
 master.cf are compared byte for byte before and after. A later change of hash_queue_names is honoured at the next start,
 root is refused as the account of the service, each setting that isn't honoured is named, a main.cf that refuses
-everything keeps no notice out, and notices are filtered only if internal_mail_filter_classes says so. Needs root and Debian's package postfix, and is skipped without them."""
+everything keeps no notice out. Notices are filtered only if internal_mail_filter_classes says so, and bounce(8) makes
+those of which notify_classes copies the postmaster. Needs root and Debian's package postfix, and is skipped without them."""
 import os
 import pwd
 import shutil
@@ -28,7 +29,6 @@ FILES = ("main.cf", "master.cf")
 PYTHON = "/usr/bin/python3"  # one that Postfix's account can run
 # Settings in use that noticed doesn't honour. This Postfix has `maillog_file` anyway.
 USED = {
-    "notify_classes": "bounce, resource, software",
     "bounce_template_file": "/etc/postfix/bounce.cf",
     "enable_threaded_bounces": "yes",
     "myorigin": "example.net",
@@ -330,6 +330,23 @@ def check_filtered(checks: Checks, it: Stock):
     it.command("postfix", "reload")
 
 
+def check_copies(checks: Checks, it: Stock):
+    """With `bounce` in notify_classes bounce(8) makes the notice, and a copy of it for the postmaster."""
+    before, box = it.texts(), it.room / "mail/root"
+    it.set(notify_classes="resource, 2bounce, bounce", bounce_notice_recipient=f"root@{HOST}")
+    it.command("postfix", "reload")
+    it.restart()
+    words = Path(f"/proc/{it.service.running.pid}/cmdline").read_text().split("\0")
+    checks.equal("notify_classes: the option", words[words.index("--pass-on") + 1], "2bounce,bounce")
+    status, lines = it.script("test")
+    checks.equal("notify_classes: bounce(8) made it", (status, lines[-1].split(": ")[-1]), (1, "bounce(8) made it"))
+    copy = "\nSubject: Postmaster Copy: Undelivered Mail\n"
+    checks.true("notify_classes: the copy", comes_true(lambda: copy in box.read_text()))
+    it.restore(before)
+    it.command("postfix", "reload")
+    it.restart()
+
+
 def check_disabled(checks: Checks, it: Stock, before: tuple):
     """The way back, with values that main.cf had, and without."""
     checks.equal("disable", (it.script("disable")[0], it.texts()), (0, before))
@@ -359,7 +376,7 @@ def main():
         it.start()
         before = it.texts()
         parts = (check_before, check_account, check_enabled, check_hashing, check_named, check_wrong, check_against)
-        for check in (*parts, check_filtered):
+        for check in (*parts, check_filtered, check_copies):
             check(checks, it)
         checks.equal("complaints of Postfix", it.complaints(), [])
         check_disabled(checks, it, before)

@@ -40,6 +40,7 @@ from tests.support.faults import fault_line
 from tests.support.running import HOST, Checks, Ran, run
 
 ONE = "090B8A85C9C"  # the queue id of the message `one`
+LOG_OF_ONE = {"bounce": f"bounce/{ONE}", "defer": f"defer/0/{ONE}", "trace": f"trace/{ONE}"}
 LOG_OF = {"failure": "bounce", "delay": "defer", "expired": "defer", "success": "trace"}
 # Messages of which no notice can be made here (tests/postfix_notices.py says why), so that Postfix's own service is
 # asked.
@@ -803,6 +804,50 @@ def check_reasons(checks: Checks):
         checks.equal("without the service: its lines", it.last_lines(*wanted), wanted)
 
 
+def check_copies(checks: Checks):
+    """With classes of notify_classes, exactly the requests of whose notices bounce(8) sends the postmaster a copy are
+    passed on, as they are (bounce_notify_service.c, bounce_notify_verp.c, bounce_one_service.c, bounce_warn_service.c
+    and bounce_trace_service.c of Postfix). Before a defer log that is passed on, the bounce log is."""
+    ann, nobody, itself = "ann@example.com", "", f"Double-Bounce@{HOST}"
+    more = {3: {"verp_delimiters": "+="}, 4: reported()}
+    services = {1: "bounce", 2: "defer", 3: "bounce", 4: "bounce", 5: "trace"}
+    for classes, copied in (
+        ("bounce", {(kind, sender) for kind in (1, 3, 4) for sender in (ann, nobody)}),
+        ("2bounce", {(kind, nobody) for kind in (1, 3, 4)}),
+        ("delay", {(2, ann), (2, nobody)}),
+        ("", set()),
+    ):
+        with Postfix("--pass-on", classes) as it:
+            own = {name: OwnService(it.folder, name) for name in SERVICES}
+            for kind, sender in ((kind, sender) for kind in services for sender in (ann, nobody, itself)):
+                service, request = services[kind], notice(kind, ONE, sender=sender, **more.get(kind, {}))
+                it.put("one")
+                put_in(it, LOG_OF_ONE[service])
+                own[service].asked.clear()
+                what = f"{classes}: request {kind} from <{sender}>"
+                checks.equal(f"{what}: its answer", it.ask(service, request), 0)
+                wanted = [request] if (kind, sender) in copied else []
+                checks.equal(f"{what}: what is passed on", own[service].asked, wanted)
+                it.at(LOG_OF_ONE[service]).unlink(missing_ok=True)
+            if classes == "bounce":
+                line = f"{ONE}: bounce: passed on: the postmaster gets a copy"
+                checks.true("its line", until(lambda: line in it.lines()))
+                check_copies_of_both(checks, it, own)
+
+
+def check_copies_of_both(checks: Checks, it: Postfix, own: dict):
+    """A defer log with a copy, whose message has a bounce log."""
+    put_in(it, LOG_OF_ONE["bounce"])
+    put_in(it, LOG_OF_ONE["defer"])
+    own["bounce"].asked.clear()
+    own["defer"].asked.clear()
+    request, taken = notice(1, ONE, flags=2), len(it.server.taken)
+    checks.equal("both logs: the answer", it.ask("defer", request), 0)
+    passed_on = (own["bounce"].asked, own["defer"].asked)
+    checks.equal("both logs: what is passed on", passed_on, ([notice(1, ONE)], [request]))
+    checks.equal("both logs: notices of noticed", len(it.server.taken), taken)
+
+
 def check_own_service(checks: Checks, it: Postfix, own: OwnService):
     """The status of Postfix's own service is the answer; a malformed one is -1. The log isn't locked meanwhile."""
     for status, wanted in (
@@ -1226,6 +1271,7 @@ def main():
         check_unix_server,
         check_passed_on,
         check_reasons,
+        check_copies,
         check_send_options,
         check_outcomes,
         check_broken_clients,

@@ -23,12 +23,12 @@ use Rattle.dsn_postfix_notices.specs.requests.CarriedOut.{Cleans, IsCarriedOut, 
 use Rattle.dsn_postfix_notices.specs.requests.Deed.{Answer, Appended, Deed, HandedIn, LogRead, LogReleased, LogRemoved, LogSought, MarkedDone, MessageRead, PassedOn}
 use Rattle.dsn_postfix_notices.specs.requests.MailFound.{readings}
 use Rattle.dsn_postfix_notices.specs.requests.NoticeDeeds.{EndsTelling, IsNotified}
-use Rattle.dsn_postfix_notices.specs.requests.RequestLaws.{AreAllTold, AreHandedIn, AreToldFirst, HandsInOnce, IsLeftToPostfix, IsRemovedAfter, IsTellingDone, StandsOrIsPassedOn, hand_ins}
+use Rattle.dsn_postfix_notices.specs.requests.RequestLaws.{AreAllTold, AreHandedIn, AreToldFirst, HandsInOnce, IsLeftOver, IsLeftToPostfix, IsRemovedAfter, IsTellingDone, StandsOrIsPassedOn, hand_ins}
 use Rattle.dsn_postfix_notices.specs.requests.RequestLetters.{AreLettersOf, first_serial, message_said}
 use Rattle.dsn_postfix_notices.specs.requests.RequestStatus.{RequestAnswer, carried_out, is_carried_out, not_carried_out, status_after, status_passed_on}
 use Rattle.dsn_postfix_notices.specs.requests.Task.{Task, Terms}
 use Rattle.dsn_postfix_notices.proofs.RequestLawLemmas.{Block, RemovesNone, hand_ins-append, is_removal}
-use Rattle.dsn_postfix_notices.proofs.TellingParts.{IsRemovalPart, LeftOver, NotifiedParts, ToldSo, notified_parts, nothing_removed, removed_told}
+use Rattle.dsn_postfix_notices.proofs.TellingParts.{IsRemovalPart, NotifiedParts, ToldSo, notified_parts, nothing_removed, removed_told}
 
 -- ---- which requests
 
@@ -346,7 +346,7 @@ answered_append_stands terms request bytes answer gained out zero =
 
 end_told : (task : Task) (bytes : List ℕ) (answer : RequestAnswer) (telling : Result (Unit {0}) Untold) (front told last : List Deed)
     → ToldSo task telling front told → EndsTelling task.terms.service bytes telling answer last → answer ≡ Ok 0
-    → AreAllTold task front ⊎ (LeftOver task told × (last ≡ PassedOn task.terms.service bytes (Ok 0) ∷ []))
+    → AreAllTold task front ⊎ (IsLeftOver task told × (last ≡ PassedOn task.terms.service bytes (Ok 0) ∷ []))
 end_told task bytes answer (Ok done) front told last so ends zero = inl so
 end_told task bytes answer (Err (PassedOn why)) front told last so passes zero =
     inr (so, passed_with_zero task.terms.service bytes last passes.given passes.passed (status_is 0 (Ok (status_passed_on passes.given)) (sym passes.answer_is ∙ zero)))
@@ -354,18 +354,11 @@ end_told task bytes answer (Err Failed) front told last so ends zero = absurd (n
 end_told task bytes answer (Err UntoldNoMemory) front told last so ends zero = absurd (false_is_true (ap is_err (sym zero) ∙ ends.1))
 
 told_or_passed : (task : Task) (bytes : List ℕ) (told last front others gained : List Deed) → gained ≡ told ++ LogReleased ∷ last → gained ≡ front ++ others → hand_ins others ≡ []
-    → AreAllTold task front ⊎ (LeftOver task told × (last ≡ PassedOn task.terms.service bytes (Ok 0) ∷ []))
+    → AreAllTold task front ⊎ (IsLeftOver task told × (last ≡ PassedOn task.terms.service bytes (Ok 0) ∷ []))
     → AreToldFirst task gained ⊎ IsLeftToPostfix task bytes gained
 told_or_passed task bytes told last front others gained is row none (inl all) = inl (record { first = front; after = others; gained_are = row; told = all; none_handed = none })
 told_or_passed task bytes told last front others gained is row none (inr passed) =
-    let left = passed.0 in
-    inr (record {
-      found = left.found;
-      tried = left.tried;
-      gained_are = is ∙ (λ i. left.told_is i ++ LogReleased ∷ passed.1 i)
-          ∙ append_assoc (readings task left.found) left.tried (LogReleased ∷ PassedOn task.terms.service bytes (Ok 0) ∷ []);
-      why = left.why;
-    })
+    inr (record { tried = told; gained_are = is ∙ ap (λ (deeds : List Deed). told ++ LogReleased ∷ deeds) passed.1; why = passed.0 })
 
 pub told_or_left : (task : Task) (bytes : List ℕ) (answer : RequestAnswer) (gained : List Deed)
     → IsTellingDone task bytes answer gained → answer ≡ Ok 0

@@ -1,6 +1,5 @@
 -- The deeds of a request, composed of those of its steps.
-use Rattle.std.proofs.Common.{◌≡◌, ℕ, Bool, true, false, List, [], ◌∷◌, ◌++◌, Option, Some, None, Result, Ok, Err, refl, sym, ap, subst, ◌∙◌, append_assoc, append-nil, map, drop, drop-cons, get_or, length, suc, ◌<◌, ◌+◌, ◌≤◌, arith}
-use Rattle.std.proofs.lemmas.List.{drop_all}
+use Rattle.std.proofs.Common.{◌≡◌, ℕ, Bool, true, false, List, [], ◌∷◌, ◌++◌, Option, Some, None, Result, Ok, Err, refl, sym, ap, subst, ◌∙◌, append_assoc, map, drop, drop-cons, get_or, length, suc, ◌<◌, ◌+◌, arith}
 use Rattle.std.specs.Prelude.{◌==◌, unwrap_or}
 use Rattle.dsn_outcome.specs.Letter.{Letter}
 use Rattle.dsn_report.specs.Notice.{return_path_of}
@@ -17,12 +16,13 @@ use Rattle.dsn_postfix_notices.specs.requests.AnsweredRequest.{FlushesBounceLog,
 use Rattle.dsn_postfix_notices.specs.requests.AppendDeeds.{IsAppended, record_bytes, tried}
 use Rattle.dsn_postfix_notices.specs.requests.CarriedOut.{IsCarriedOut, queue_id_of}
 use Rattle.dsn_postfix_notices.specs.requests.Deed.{Answer, Appended, Deed, HandedIn, LogReleased, LogSought, MessageRead}
-use Rattle.dsn_postfix_notices.specs.requests.Finishing.{AreMarked, FailsToMark, FinishesAt, StopsAtPlace, marking}
+use Rattle.dsn_postfix_notices.specs.requests.Finishing.{FailsToMark, FinishesAt, StopsAtPlace, marking}
 use Rattle.dsn_postfix_notices.specs.requests.Gains.{Gains, with_deeds}
 use Rattle.dsn_postfix_notices.specs.requests.HandingIn.{AreAccepted, IsNotAccepted, StopsAtLetter, hand_in_of, is_first_after, refusal_of, refused}
 use Rattle.dsn_postfix_notices.specs.requests.MailFound.{FailsToRead, MailRead, log_reading, log_unread, message_reading, message_unread, readings}
 use Rattle.dsn_postfix_notices.specs.inner.MailFound.{ReadsLog}
-use Rattle.dsn_postfix_notices.specs.requests.NoticeDeeds.{EndsTelling, IsNotified, Tells, accepted, no_memory, unsayable}
+use Rattle.dsn_postfix_notices.specs.requests.NoticeDeeds.{EndsTelling, IsNotified, Tells, TellsOrLeaves, accepted, no_memory, unsayable}
+use Rattle.dsn_postfix_notices.specs.requests.PostmasterCopies.{is_copied}
 use Rattle.dsn_postfix_notices.specs.requests.RequestLetters.{AreLettersAsked, CantBeSaid, places_done}
 use Rattle.dsn_postfix_notices.specs.inner.RequestLetters.{IsReason}
 use Rattle.dsn_postfix_notices.specs.requests.RequestStatus.{RequestAnswer, carried_out, is_carried_out, status_after}
@@ -244,8 +244,12 @@ all_told deeds old read handed new task found made telling asked reads accepts f
   are = accepted found made accepts.gained finishes.gained (ap (λ (deeds : List Deed). deeds ++ (accepts.gained ++ finishes.gained)) reads.are) asked accepts.are finishes.are;
 }
 
+pub told_if_not_copied : (task : Task) (telling : Result (Unit {0}) Untold) (gained : List Deed) → is_copied task.terms.settings task.request ≡ false
+    → Tells task telling gained → TellsOrLeaves task telling gained
+told_if_not_copied task telling gained none tells = rw none tells
+
 pub notified : {S : Type 0} → (deeds : S → Option (List Deed)) (old between released new : S) (task : Task) (bytes : List ℕ) (answer : RequestAnswer) (telling : Result (Unit {0}) Untold)
-    → Gains deeds old between (Tells task telling) → deeds released ≡ with_deeds (deeds between) (LogReleased ∷ []) → Gains deeds released new (EndsTelling task.terms.service bytes telling answer)
+    → Gains deeds old between (TellsOrLeaves task telling) → deeds released ≡ with_deeds (deeds between) (LogReleased ∷ []) → Gains deeds released new (EndsTelling task.terms.service bytes telling answer)
     → Gains deeds old new (IsNotified task bytes answer)
 notified deeds old between released new task bytes answer telling first release last = record {
   gained = first.gained ++ LogReleased ∷ last.gained;

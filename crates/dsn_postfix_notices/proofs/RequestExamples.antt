@@ -1,5 +1,5 @@
 -- Worked examples of requests that are carried out, each computed.
-use Rattle.std.proofs.Common.{◌≡◌, ℕ, true, false, List, [], ◌∷◌, ◌++◌, codes, refl, Ok, Err, Some, None}
+use Rattle.std.proofs.Common.{◌≡◌, ℕ, true, false, List, [], ◌∷◌, ◌++◌, codes, refl, Ok, Err, Result, Some, None, ap, subst, ◌∙◌}
 use Rattle.std.specs.Fmt.{digits}
 use Rattle.dsn_text.specs.declared.no_memory.NoMemory.{NoMemory}
 use Rattle.dsn_text.specs.declared.service.Service.{Service}
@@ -20,6 +20,8 @@ use Rattle.dsn_smtp.specs.declared.hand_in_fault.HandInFault.TheVariants.{Refuse
 use Rattle.dsn_smtp.specs.declared.hand_in_step.HandInStep.TheVariants.{Recipient}
 use Rattle.dsn_postfix_notices.specs.declared.requests.pass_reason.PassReason.{PassReason}
 use Rattle.dsn_postfix_notices.specs.declared.requests.pass_reason.PassReason.TheVariants as reason
+use Rattle.dsn_postfix_notices.specs.declared.requests.postmaster_copies.PostmasterCopies.{PostmasterCopies}
+use Rattle.dsn_postfix_notices.specs.declared.requests.untold.Untold.{Untold}
 use Rattle.dsn_postfix_notices.specs.declared.requests.untold.Untold.TheVariants as untold
 use Rattle.dsn_postfix_notices.specs.requests.AnsweredRequest.{IsAnswered, first_flush, without_flags}
 use Rattle.dsn_postfix_notices.specs.requests.AnsweredRequest as answered
@@ -29,11 +31,12 @@ use Rattle.dsn_postfix_notices.specs.requests.Deed.{Answer, Appended, Deed, Hand
 use Rattle.dsn_postfix_notices.specs.requests.Finishing.{is_removal_due}
 use Rattle.dsn_postfix_notices.specs.requests.HandingIn.{refusal_of}
 use Rattle.dsn_postfix_notices.specs.requests.MailFound.{log_unread, readings}
-use Rattle.dsn_postfix_notices.specs.requests.NoticeDeeds.{EndsTelling, unread}
+use Rattle.dsn_postfix_notices.specs.requests.NoticeDeeds.{EndsTelling, IsNotified, unread}
+use Rattle.dsn_postfix_notices.specs.requests.PostmasterCopies.{is_copied}
 use Rattle.dsn_postfix_notices.specs.requests.RequestLaws.{hand_ins}
 use Rattle.dsn_postfix_notices.specs.requests.RequestLetters.{first_serial, message_said, next_serial, places_done}
 use Rattle.dsn_postfix_notices.specs.requests.RequestStatus.{RequestAnswer, not_carried_out}
-use Rattle.dsn_postfix_notices.specs.requests.Task.{Task, Terms}
+use Rattle.dsn_postfix_notices.specs.requests.Task.{SettingsSaid, Task, Terms}
 
 abbrev id : List ℕ
 id = codes "6BB87A7E6A1"
@@ -81,9 +84,21 @@ append_with flags = record {
 
 -- ---- whole requests
 
+abbrev settings_with : PostmasterCopies → SettingsSaid
+settings_with copies = record {
+  host = codes "mx.example.net";
+  double_bounce = codes "double-bounce@mx.example.net";
+  lifetime = 432000;
+  size_limit = 50000;
+  copies = copies;
+}
+
+abbrev no_copies : PostmasterCopies
+no_copies = record { bounce = false; double_bounce = false; delay = false }
+
 abbrev terms_at : Service → ℕ → Terms
 terms_at service serial = record {
-  settings = record { host = codes "mx.example.net"; double_bounce = codes "double-bounce@mx.example.net"; lifetime = 432000; size_limit = 50000 };
+  settings = settings_with no_copies;
   service = service;
   moment = 0;
   serial = serial;
@@ -140,6 +155,88 @@ status_needs_a_deed status (unsayable field some passes) = absurd (no_deed (Pass
 -- no request for notices that is left to Postfix's own service is answered before any deed
 passing_needs_a_deed : (why : PassReason) (answer : RequestAnswer) → EndsTelling Bounce [] (Err (untold.PassedOn why)) answer [] → ⊥
 passing_needs_a_deed why answer passes = no_deed (PassedOn Bounce [] passes.given) passes.passed
+
+-- ---- copies for the postmaster
+
+abbrev of_bounces : PostmasterCopies
+of_bounces = record { bounce = true; double_bounce = false; delay = false }
+
+abbrev of_double_bounces : PostmasterCopies
+of_double_bounces = record { bounce = false; double_bounce = true; delay = false }
+
+abbrev of_delays : PostmasterCopies
+of_delays = record { bounce = false; double_bounce = false; delay = true }
+
+abbrev asked_by : List ℕ → NoticeRequest
+asked_by sender = record {
+  flags = 0;
+  queue_name = codes "active";
+  queue_id = id;
+  encoding = [];
+  names_sendopts = false;
+  send_options = 0;
+  sender = sender;
+  envelope_id = [];
+  returns = 0;
+}
+
+failure_copied : is_copied (settings_with of_bounces) (Flush (asked_by (codes "ann@example.com"))) ≡ true
+failure_copied = refl
+
+failure_of_one_copied : is_copied (settings_with of_bounces) (One (asked_by (codes "ann@example.com")) bob refused) ≡ true
+failure_of_one_copied = refl
+
+failed_notice_copied : is_copied (settings_with of_double_bounces) (Flush (asked_by [])) ≡ true
+failed_notice_copied = refl
+
+-- `bounce` implies `2bounce`, and not the other way round
+failed_notice_implied : is_copied (settings_with of_bounces) (Flush (asked_by [])) ≡ true
+failed_notice_implied = refl
+
+failure_not_implied : is_copied (settings_with of_double_bounces) (Flush (asked_by (codes "ann@example.com"))) ≡ false
+failure_not_implied = refl
+
+own_failure_dropped : is_copied (settings_with of_bounces) (Flush (asked_by (codes "Double-Bounce@mx.example.net"))) ≡ false
+own_failure_dropped = refl
+
+delay_copied : is_copied (settings_with of_delays) (Warn (asked_by (codes "ann@example.com"))) ≡ true
+delay_copied = refl
+
+delay_of_notice_copied : is_copied (settings_with of_delays) (Warn (asked_by [])) ≡ true
+delay_of_notice_copied = refl
+
+failure_is_no_delay : is_copied (settings_with of_delays) (Flush (asked_by (codes "ann@example.com"))) ≡ false
+failure_is_no_delay = refl
+
+delay_is_no_failure : is_copied (settings_with of_bounces) (Warn (asked_by (codes "ann@example.com"))) ≡ false
+delay_is_no_failure = refl
+
+success_not_copied : is_copied (settings_with of_bounces) (Trace (asked_by (codes "ann@example.com"))) ≡ false
+success_not_copied = refl
+
+abbrev copied_task : Task
+copied_task = record {
+  terms = record { settings = settings_with of_bounces; service = Bounce; moment = 0; serial = 0 };
+  request = Flush (asked 0);
+  notice = asked 0;
+}
+
+-- a flush with a copy is passed on with its own bytes: nothing is read, and no notice is submitted
+copied_is_passed_on : IsNotified copied_task (codes "request") (Ok 0) (LogReleased ∷ PassedOn Bounce (codes "request") (Ok 0) ∷ [])
+copied_is_passed_on = record {
+  telling = Err (untold.PassedOn reason.Postmaster);
+  told = [];
+  last = PassedOn Bounce (codes "request") (Ok 0) ∷ [];
+  gained_are = refl;
+  tells = (refl, refl);
+  ends = record { given = Ok 0; passed = refl; answer_is = refl };
+}
+
+-- and no notice of it can be submitted
+copied_submits_none : (answer : RequestAnswer) (gained : List Deed) → IsNotified copied_task (codes "request") answer gained → hand_ins gained ≡ []
+copied_submits_none answer gained is =
+    let ends = subst (λ (telling : Result (Unit {0}) Untold). EndsTelling Bounce (codes "request") telling answer is.last) is.tells.0 is.ends in
+    ap hand_ins (is.gained_are ∙ (λ i. is.tells.1 i ++ LogReleased ∷ ends.passed i))
 
 -- ---- letters that are refused
 

@@ -1,12 +1,11 @@
 -- The parts of the deeds of a request for notices: deeds that remove no log, then the removal, then deeds that remove
 -- no log.
 use Rattle.std.proofs.Common.{◌≡◌, ℕ, Bool, true, false, List, [], ◌∷◌, ◌++◌, Option, Result, Ok, Err, refl, sym, ap, subst, ◌∙◌, append_assoc, append-nil, inl, inr}
-use Rattle.std.specs.Prelude.{◌⊎◌}
+use Rattle.std.specs.Prelude.{◌⊎◌, MatchBool}
 use Rattle.dsn_outcome.specs.Letter.{Letter}
 use Rattle.dsn_text.specs.declared.service.Service.{Service}
-use Rattle.dsn_postfix.specs.declared.postfix_request.NoticeRequest.{NoticeRequest}
-use Rattle.dsn_postfix.specs.declared.postfix_request.PostfixRequest.{PostfixRequest}
 use Rattle.dsn_postfix_notices.specs.declared.requests.deed_fault.DeedFault.{DeedFault}
+use Rattle.dsn_postfix_notices.specs.declared.requests.pass_reason.PassReason.TheVariants.{Postmaster}
 use Rattle.dsn_postfix_notices.specs.declared.requests.untold.Untold.{Untold}
 use Rattle.dsn_postfix_notices.specs.declared.requests.untold.Untold.TheVariants.{Failed, NoMemory, PassedOn}
 use Rattle.dsn_postfix_notices.specs.requests.Deed.{Answer, Deed, LogReleased, LogRemoved, PassedOn}
@@ -16,6 +15,7 @@ use Rattle.dsn_postfix_notices.specs.requests.HandingIn.{AreAccepted, StopsAtLet
 use Rattle.dsn_postfix_notices.specs.requests.MailFound.{MailRead, readings}
 use Rattle.dsn_postfix_notices.specs.requests.NoticeDeeds.{EndsTelling, IsNotified, Tells}
 use Rattle.dsn_postfix_notices.specs.requests.NoticeDeeds as notices
+use Rattle.dsn_postfix_notices.specs.requests.PostmasterCopies.{is_copied}
 use Rattle.dsn_postfix_notices.specs.requests.RequestLaws.{AreAllTold, AreHandedIn, HandsInOnce, IsLeftOver, hand_ins}
 use Rattle.dsn_postfix_notices.specs.requests.RequestLaws as laws
 use Rattle.dsn_postfix_notices.specs.requests.RequestLetters.{AreLettersAsked, places_done}
@@ -77,17 +77,10 @@ pub data IsRemovalPart (task : Task) (front removal : List Deed) : Type 0 where
   removed_told : (answer : Answer) → removal ≡ LogRemoved task.terms.service task.notice.queue_id answer ∷ [] → AreAllTold task front
       → IsRemovalPart task front removal
 
--- what was read, and what was tried before the request was left to Postfix's own service
-pub record LeftOver (task : Task) (told : List Deed) : Type 0 where
-  pub found : MailRead
-  pub tried : List Deed
-  pub told_is : told ≡ readings task found ++ tried
-  pub why : IsLeftOver task found tried
-
 -- the deeds for each result of notifying the sender; they begin with `front`, which removes no log
 abbrev pub ToldSo : Task → Result (Unit {0}) Untold → List Deed → List Deed → Type 0
 ToldSo task (Ok done) front told = AreAllTold task front
-ToldSo task (Err (PassedOn why)) front told = LeftOver task told
+ToldSo task (Err (PassedOn why)) front told = IsLeftOver task told
 ToldSo task (Err Failed) front told = Unit {0}
 ToldSo task (Err NoMemory) front told = Unit {0}
 
@@ -105,13 +98,9 @@ told_if_stopped task found made Failed front gained asked stops = tt
 told_if_stopped task found made NoMemory front gained asked stops = tt
 told_if_stopped task found made (PassedOn reason) front gained asked stops =
     let first = first_refused task.terms.settings.host made reason gained stops in
-    record {
-      found = found;
-      tried = gained;
-      told_is = refl;
-      why = laws.refused first.letter first.others first.fault
-          (subst (λ (letters : List Letter). AreLettersAsked task found letters) first.letters_are asked) first.for_good first.tried;
-    }
+    laws.refused found first.letter first.others first.fault
+    (subst (λ (letters : List Letter). AreLettersAsked task found letters) first.letters_are asked) first.for_good
+    (ap (λ (tried : List Deed). readings task found ++ tried) first.tried)
 
 pub record TellingParts (task : Task) (telling : Result (Unit {0}) Untold) (gained : List Deed) : Type 0 where
   pub front : List Deed
@@ -199,20 +188,26 @@ accepted_parts task found made telling taken rest asked accepted finishes =
       so = told_if_done task telling (AreMarked task.notice places finish.marks) front (read ++ (taken ++ rest)) told finish.ends;
     }
 
-pub telling_parts : (task : Task) (telling : Result (Unit {0}) Untold) (gained : List Deed) → Tells task telling gained → TellingParts task telling gained
+telling_parts : (task : Task) (telling : Result (Unit {0}) Untold) (gained : List Deed) → Tells task telling gained → TellingParts task telling gained
 telling_parts task telling gained (notices.unread t fails) =
     quiet_parts task telling gained (told_as task telling (Err Failed) gained gained t tt) (unread_block task gained fails)
 telling_parts task telling gained (notices.no_memory found t is) =
     quiet_parts task telling gained (told_as task telling (Err NoMemory) gained gained t tt) (block_is gained _ [] is (readings_block task found))
 telling_parts task telling gained (notices.unsayable found why t is unsaid) =
     quiet_parts task telling gained
-    (told_as task telling (Err (PassedOn why)) gained gained t (record { found = found; tried = []; told_is = is ∙ sym (append-nil (readings task found)); why = laws.unsayable unsaid refl }))
+    (told_as task telling (Err (PassedOn why)) gained gained t (laws.unsayable found unsaid is))
     (block_is gained _ [] is (readings_block task found))
 telling_parts task telling gained (notices.stopped found made tried why t is asked stops) =
     subst (λ (end : Result (Unit {0}) Untold). TellingParts task end gained) (sym t)
     (subst (λ (deeds : List Deed). TellingParts task (Err why) deeds) (sym is) (stopped_parts task found made why tried asked stops))
 telling_parts task telling gained (notices.accepted found made taken rest is asked accepted finishes) =
     subst (λ (deeds : List Deed). TellingParts task telling deeds) (sym is) (accepted_parts task found made telling taken rest asked accepted finishes)
+
+telling_parts_by : (task : Task) (copied : Bool) (telling : Result (Unit {0}) Untold) (gained : List Deed) → is_copied task.terms.settings task.request ≡ copied
+    → MatchBool copied ((telling ≡ Err (PassedOn Postmaster)) × (gained ≡ [])) (Tells task telling gained) → TellingParts task telling gained
+telling_parts_by task true telling gained is leaves =
+    quiet_parts task telling gained (told_as task telling (Err (PassedOn Postmaster)) gained gained leaves.0 (laws.copied is leaves.1)) (block_is gained [] [] leaves.1 no_deeds)
+telling_parts_by task false telling gained is tells = telling_parts task telling gained tells
 
 -- ---- the end
 
@@ -248,7 +243,7 @@ notified_parts task bytes answer gained is = record {
   tail_is = refl;
   all = is.gained_are;
   ended = is.telling;
-  telling = telling_parts task is.telling is.told is.tells;
+  telling = telling_parts_by task (is_copied task.terms.settings task.request) is.telling is.told refl is.tells;
   ends = is.ends;
   tail_block = released_block is.last (ends_block task.terms.service bytes is.telling answer is.last is.ends);
 }

@@ -7,6 +7,7 @@ pub mod Gains
 pub mod HandingIn
 pub mod MailFound
 pub mod NoticeDeeds
+pub mod PostmasterCopies
 pub mod RequestLetters
 pub mod RequestLaws
 pub mod RequestStatus

@@ -7,8 +7,8 @@ mod requests;
 
 pub use letters::{LetterFault, ReportedMessage, letter_of_notice};
 pub use requests::{
-    DeedFault, MailSystem, NOT_CARRIED_OUT, PassReason, RequestTerms, ServiceSettings,
-    answer_request, answered_appends_stand, bounce_logs_are_told_first,
+    DeedFault, MailSystem, NOT_CARRIED_OUT, PassReason, PostmasterCopies, RequestTerms,
+    ServiceSettings, answer_request, answered_appends_stand, bounce_logs_are_told_first,
     logs_are_removed_after_acceptance, no_notice_causes_another, notices_are_handed_in_once,
     pass_on, queue_id_of,
 };

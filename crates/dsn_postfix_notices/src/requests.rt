@@ -13,6 +13,7 @@ mod notice_task;
 mod notify;
 mod pass_reason;
 mod places_done;
+mod postmaster_copies;
 mod request_letters;
 mod request_status;
 mod request_terms;
@@ -28,6 +29,7 @@ pub use laws::{
 };
 pub use mail_system::MailSystem;
 pub use pass_reason::PassReason;
+pub use postmaster_copies::PostmasterCopies;
 pub use request_status::{NOT_CARRIED_OUT, pass_on};
 pub use request_terms::RequestTerms;
 pub use service_settings::ServiceSettings;

@@ -196,6 +196,12 @@ fn with_settings<'a>(alloc: Global, command: Command<'a>) -> Result<Command<'a>,
             option(alloc, "hash-queue-depth", "DEPTH")
                 .default_value("1")
                 .help("How many levels they are hashed by, 1 to 16"),
+        )?
+        .arg(
+            option(alloc, "pass-on", "CLASSES")
+                .value_parser(ValueParser::String)
+                .default_value("")
+                .help("Classes that bounce(8) reports: bounce, 2bounce, delay"),
         )
 }
 

@@ -6,7 +6,7 @@ use crate::postfix_serving::PostfixServing;
 use crate::start_error::StartError;
 use clap::ArgMatches;
 use dsn_postfix::QueueName;
-use dsn_postfix_notices::ServiceSettings;
+use dsn_postfix_notices::{PostmasterCopies, ServiceSettings};
 use dsn_postfix_queue::{FolderHashing, MOST_DEPTH, QueueFolder};
 use dsn_report::Site;
 use dsn_smtp::ServerAddress;
@@ -30,6 +30,8 @@ pub(crate) struct PostfixValues {
     pub(crate) lifetime: u32,
     /// How many bytes a message has at most if it is returned whole.
     pub(crate) size_limit: u32,
+    /// Of which notices the postmaster gets a copy.
+    copies: PostmasterCopies,
     /// The sender of notices about notices.
     pub(crate) double_bounce: String,
     /// The names of the hashed queues, with commas, spaces or tabs between them.
@@ -76,6 +78,7 @@ impl PostfixValues {
             double_bounce: self.double_bounce.as_bytes(),
             lifetime: self.lifetime,
             size_limit: self.size_limit,
+            copies: self.copies,
         }
     }
 }
@@ -105,10 +108,33 @@ pub(crate) fn values_of(
     Ok(PostfixValues {
         lifetime: number_of(alloc, given, "lifetime", MOST_LIFETIME)?,
         size_limit: number_of(alloc, given, "bounce-size-limit", MOST_SIZE_LIMIT)?,
+        copies: copies_of(alloc, given)?,
         double_bounce: double_bounce_of(alloc, given, host)?,
         hashed: owned(alloc, text_of(given, "hash-queue-names"))?,
         depth: number_of(alloc, given, "hash-queue-depth", MOST_DEPTH)?,
     })
+}
+
+/// Of which notices the postmaster gets a copy: their requests are passed on.
+fn copies_of(alloc: Global, given: &ArgMatches<'_>) -> Result<PostmasterCopies, StartError> {
+    let mut copies = PostmasterCopies {
+        bounce: false,
+        double_bounce: false,
+        delay: false,
+    };
+    for word in text_of(given, "pass-on").split([',', ' ', '\t']) {
+        match word {
+            "" => {}
+            "bounce" => copies.bounce = true,
+            "2bounce" => copies.double_bounce = true,
+            "delay" => copies.delay = true,
+            _ => {
+                let allowed = "bounce, 2bounce and delay";
+                return Err(StartError::wrong(alloc, "pass-on", allowed, word));
+            }
+        }
+    }
+    Ok(copies)
 }
 
 /// The sender of notices about notices.

@@ -3,7 +3,7 @@ use crate::assert_same::same;
 use crate::device::ALWAYS;
 use crate::postfix_letter::{moment, site};
 use crate::postfix_service::memory_system::{MemorySystem, UNHEARD};
-use crate::postfix_service::requests::{APPEND, DELAYS, FILE, FLUSH, LOG, RECORD};
+use crate::postfix_service::requests::{APPEND, DELAYS, FILE, FLUSH, LOG, NO_COPIES, RECORD};
 use crate::postfix_service::server::Server;
 use dsn_outcome::{Plain, Stream};
 use dsn_postfix::ListFault;
@@ -106,6 +106,7 @@ fn served<R: AllocGlobal + Clock, S: Stream + Drop>(
         double_bounce: b"double-bounce@mx.example.net",
         lifetime: 432_000,
         size_limit: 50_000,
+        copies: NO_COPIES,
     };
     let mut client = match hear_client(rt.alloc(), stream) {
         Ok(client) => client,

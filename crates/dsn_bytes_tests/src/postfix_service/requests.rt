@@ -5,7 +5,9 @@ use crate::postfix_letter::{moment, site};
 use crate::postfix_request::decoded;
 use crate::postfix_service::memory_system::{MemorySystem, UNHEARD};
 use crate::postfix_service::server::refused_at;
-use dsn_postfix_notices::{DeedFault, RequestTerms, ServiceSettings, answer_request};
+use dsn_postfix_notices::{
+    DeedFault, PostmasterCopies, RequestTerms, ServiceSettings, answer_request,
+};
 use dsn_smtp::{HandInFault, HandInStep};
 use dsn_text::Service;
 use std::alloc::{AllocGlobal, Global};
@@ -14,6 +16,13 @@ use std::test::Fail;
 
 /// The status of a request that wasn't carried out.
 const NOT_DONE: u32 = 4_294_967_295;
+
+/// The postmaster gets no copies.
+pub(crate) const NO_COPIES: PostmasterCopies = PostmasterCopies {
+    bounce: false,
+    double_bounce: false,
+    delay: false,
+};
 
 /// A message from Ann to two recipients.
 pub(crate) const FILE: &[u8] =
@@ -556,6 +565,7 @@ fn answered(
         double_bounce: b"double-bounce@mx.example.net",
         lifetime: 432_000,
         size_limit: 50_000,
+        copies: NO_COPIES,
     };
     let terms = RequestTerms {
         settings: &settings,

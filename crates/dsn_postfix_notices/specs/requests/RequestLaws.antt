@@ -2,11 +2,10 @@
 use Rattle.std.specs.Prelude.{◌≡◌, ◌⊎◌, ℕ, Bool, true, false, List, [], ◌∷◌, ◌++◌, Some, Result, Ok, Err}
 use Rattle.dsn_outcome.specs.Letter.{Letter}
 use Rattle.dsn_text.specs.declared.service.Service.{Service}
-use Rattle.dsn_text.specs.declared.service.Service.TheVariants.{Bounce, Defer}
+use Rattle.dsn_text.specs.declared.service.Service.TheVariants.{Bounce}
 use Rattle.dsn_postfix.specs.NoticePlan.{notice_asked}
 use Rattle.dsn_postfix.specs.PostfixRequest.{IsRequestIn}
 use Rattle.dsn_postfix.specs.declared.postfix_request.AppendRequest.{AppendRequest}
-use Rattle.dsn_postfix.specs.declared.postfix_request.NoticeRequest.{NoticeRequest}
 use Rattle.dsn_postfix.specs.declared.postfix_request.PostfixRequest.{PostfixRequest}
 use Rattle.dsn_smtp.specs.HandIn.{is_refused_for_good}
 use Rattle.dsn_postfix_notices.specs.requests.AppendDeeds.{record_bytes}
@@ -16,6 +15,7 @@ use Rattle.dsn_postfix_notices.specs.requests.Deed.{Appended, Deed, HandedIn, Lo
 use Rattle.dsn_postfix_notices.specs.requests.Finishing.{AreMarked}
 use Rattle.dsn_postfix_notices.specs.requests.HandingIn.{AreAccepted, hand_in_of}
 use Rattle.dsn_postfix_notices.specs.requests.MailFound.{MailRead, readings}
+use Rattle.dsn_postfix_notices.specs.requests.PostmasterCopies.{is_copied}
 use Rattle.dsn_postfix_notices.specs.requests.RequestLetters.{AreLettersAsked, CantBeSaid, places_done}
 use Rattle.dsn_postfix_notices.specs.requests.RequestStatus.{RequestAnswer, carried_out}
 use Rattle.dsn_postfix_notices.specs.requests.Task.{Task}
@@ -103,23 +103,23 @@ pub record IsRemovedAfter (task : Task) (answer : RequestAnswer) (before after :
   pub told : AreAllTold task before
       ⊎ ((must_clean task.request answer ≡ true) × (after ≡ []))
 
--- Why notices of a log and a file are left to Postfix's own service, and what was tried. Either one can't be expressed,
--- and nothing was submitted; or the first letter was refused for good, and no other was submitted.
-pub data IsLeftOver (task : Task) (found : MailRead) (tried : List Deed) : Type 0 where
-  unsayable : CantBeSaid task found → tried ≡ []
-      → IsLeftOver task found tried
-  refused : (letter : Letter) (letters : List Letter) (fault : HandInFault)
+-- Why a request is left to Postfix's own service, and what was tried before. Either the postmaster gets a copy of its
+-- notices, and nothing was read. Or a log and a file were read; and one notice of these can't be expressed, and nothing
+-- was submitted, or the first letter was refused for good, and no other was submitted.
+pub data IsLeftOver (task : Task) (tried : List Deed) : Type 0 where
+  copied : is_copied task.terms.settings task.request ≡ true → tried ≡ [] → IsLeftOver task tried
+  unsayable : (found : MailRead) → CantBeSaid task found → tried ≡ readings task found → IsLeftOver task tried
+  refused : (found : MailRead) (letter : Letter) (letters : List Letter) (fault : HandInFault)
       → AreLettersAsked task found (letter ∷ letters)
-      → is_refused_for_good fault ≡ true → tried ≡ hand_in_of task.terms.settings.host letter (Err fault) ∷ []
-      → IsLeftOver task found tried
+      → is_refused_for_good fault ≡ true
+      → tried ≡ readings task found ++ hand_in_of task.terms.settings.host letter (Err fault) ∷ []
+      → IsLeftOver task tried
 
--- A log and a file were read, no notice of these was accepted, and Postfix's own service answered 0 to the whole
--- request. These are all of the deeds.
+-- No notice was accepted, and Postfix's own service answered 0 to the whole request. These are all of the deeds.
 pub record IsLeftToPostfix (task : Task) (bytes : List ℕ) (gained : List Deed) : Type 0 where
-  pub found : MailRead
   pub tried : List Deed
-  pub gained_are : gained ≡ readings task found ++ (tried ++ LogReleased ∷ PassedOn task.terms.service bytes (Ok 0) ∷ [])
-  pub why : IsLeftOver task found tried
+  pub gained_are : gained ≡ tried ++ LogReleased ∷ PassedOn task.terms.service bytes (Ok 0) ∷ []
+  pub why : IsLeftOver task tried
 
 -- the flush of the bounce log, which has neither CLEAN nor DELRCPT
 abbrev pub bounce_task : Task → PostfixRequest → Task

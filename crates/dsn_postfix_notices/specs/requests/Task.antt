@@ -3,6 +3,7 @@ use Rattle.std.specs.Prelude.{ℕ, List}
 use Rattle.dsn_text.specs.declared.service.Service.{Service}
 use Rattle.dsn_postfix.specs.declared.postfix_request.NoticeRequest.{NoticeRequest}
 use Rattle.dsn_postfix.specs.declared.postfix_request.PostfixRequest.{PostfixRequest}
+use Rattle.dsn_postfix_notices.specs.declared.requests.postmaster_copies.PostmasterCopies.{PostmasterCopies}
 
 -- the settings of the mail system that notices depend on
 pub record SettingsSaid : Type 0 where
@@ -10,6 +11,7 @@ pub record SettingsSaid : Type 0 where
   pub double_bounce : List ℕ
   pub lifetime : ℕ
   pub size_limit : ℕ
+  pub copies : PostmasterCopies
 
 -- `serial` is that of the letter of a request without a log
 pub record Terms : Type 0 where

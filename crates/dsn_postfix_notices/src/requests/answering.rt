@@ -140,7 +140,8 @@ fn flush_in_turn<M: MailSystem>(
 /// sender. It reads its log, if it has one, and the message, makes all letters, and only then
 /// submits the first. Once all are accepted, it marks recipients as done if the request asks for
 /// that. Then it removes the log that it read, unless the request is a warning. A request is passed
-/// on if it can't be expressed, or if its first letter is refused for good. If a request with CLEAN
+/// on if the postmaster gets a copy of its notices, if it can't be expressed, or if its first letter
+/// is refused for good. If a request with CLEAN
 /// isn't answered 0, its log is removed; a log that doesn't exist counts as removed.
 ///
 /// Before a message's defer log is flushed, its bounce log is, if it has one. Postfix removes a

@@ -92,7 +92,8 @@ pub fn answered_appends_stand()
 /// If a flush of the defer log is answered 0 and a bounce log was found, one of two things came
 /// before the first deed on the defer log. Either the bounce log was read, and each letter of each
 /// of its notices was accepted. Or no letter was accepted, and Postfix's own service answered 0 to
-/// the flush of the bounce log, which has neither CLEAN nor DELRCPT.
+/// the flush of the bounce log, which has neither CLEAN nor DELRCPT. No letter is made if the
+/// postmaster gets a copy.
 pub fn bounce_logs_are_told_first()
     ensures { (task : Task) (first : PostfixRequest) (bytes : List ℕ) (answer : RequestAnswer)
         (gained deeds : List Deed) (named : List ℕ)

@@ -1,6 +1,8 @@
 //! A request for notices that is carried out on the log of one service.
 ghost use Rattle.std.specs.Prelude.{◌≡◌};
+ghost use Rattle.dsn_postfix_notices.specs.requests.PostmasterCopies.{is_copied};
 
+use crate::requests::postmaster_copies::is_copied;
 use crate::requests::request_terms::RequestTerms;
 use crate::requests::service_settings::ServiceSettings;
 use dsn_postfix::{NoticeRequest, PostfixRequest};
@@ -37,6 +39,14 @@ impl<'a> NoticeTask<'a> {
     {
         let terms: &RequestTerms<'_> = self.terms;
         terms.service
+    }
+
+    /// Whether the postmaster gets a copy of the notices.
+    pub(super) fn is_copied(&self) -> bool
+        ensures { result ≡ is_copied self.now.terms.settings self.now.request }
+    {
+        let terms: &RequestTerms<'_> = self.terms;
+        is_copied(terms.settings, self.request)
     }
 
     /// The mail system's name.

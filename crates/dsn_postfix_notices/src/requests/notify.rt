@@ -2,7 +2,7 @@
 //! Implements docs/postfix-internals.md, "A connection".
 ghost use Rattle.std.specs.Prelude.{◌≡◌};
 ghost use Rattle.dsn_postfix_notices.specs.requests.Gains.{Gains};
-ghost use Rattle.dsn_postfix_notices.specs.requests.NoticeDeeds.{EndsTelling, IsNotified, Tells};
+ghost use Rattle.dsn_postfix_notices.specs.requests.NoticeDeeds.{EndsTelling, IsNotified, Tells, TellsOrLeaves};
 
 use crate::requests::finish::finish;
 use crate::requests::hand_in_letters::hand_in_letters;
@@ -10,6 +10,7 @@ use crate::requests::letters_made::make_letters;
 use crate::requests::mail_found::read_mail;
 use crate::requests::mail_system::MailSystem;
 use crate::requests::notice_task::NoticeTask;
+use crate::requests::pass_reason::PassReason;
 use crate::requests::request_status::{CARRIED_OUT, NOT_CARRIED_OUT, pass_on};
 use crate::requests::untold::Untold;
 use dsn_text::NoMemory;
@@ -27,6 +28,20 @@ fn tell<M: MailSystem>(alloc: Global, task: &NoticeTask<'_>, system: &mut M) -> 
     let made = make_letters(alloc, task, &found)?;
     hand_in_letters(alloc, task.site(), &made.letters, system)?;
     finish(task, found.log(), &made.places, system)
+}
+
+/// Notifies the message's sender, unless the postmaster gets a copy of the notices.
+fn tell_or_leave<M: MailSystem>(
+    alloc: Global,
+    task: &NoticeTask<'_>,
+    system: &mut M,
+) -> Result<(), Untold>
+    ensures { Gains M.deeds system.old system.new (TellsOrLeaves task.now result) }
+{
+    if task.is_copied() {
+        return Err(Untold::PassedOn(PassReason::Postmaster));
+    }
+    tell(alloc, task, system)
 }
 
 /// Does what is left after the sender was notified or wasn't, and returns the status.
@@ -50,9 +65,9 @@ fn end_telling<M: MailSystem>(
     }
 }
 
-/// Notifies the message's sender as a request asks, releases the log, and returns the status. If a
-/// notice can't be expressed, or the first letter is refused for good, passes the whole request on
-/// to Postfix's own service.
+/// Notifies the message's sender as a request asks, releases the log, and returns the status. If the
+/// postmaster gets a copy, a notice can't be expressed, or the first letter is refused for good,
+/// passes the whole request on to Postfix's own service.
 pub(super) fn notify<M: MailSystem>(
     alloc: Global,
     task: &NoticeTask<'_>,
@@ -62,7 +77,7 @@ pub(super) fn notify<M: MailSystem>(
     ensures { Gains M.deeds system.old system.new
         (IsNotified task.now bytes.now result) }
 {
-    let telling = tell(alloc, task, system);
+    let telling = tell_or_leave(alloc, task, system);
     // First, since an append of Postfix's own service takes this lock.
     system.release_log();
     end_telling(task, bytes, telling, system)

@@ -20,6 +20,9 @@ pub enum PassReason {
     /// No letter can be made of one of its notices.
     #[error("{0}")]
     NoLetter(LetterFault),
+    /// The postmaster gets a copy of its notices.
+    #[error("the postmaster gets a copy")]
+    Postmaster,
     /// The mail server refused its first notice for good.
     #[error("the mail server refused its notice for good")]
     Refused,

@@ -1,4 +1,5 @@
 //! The settings of the mail system that notices depend on.
+use crate::requests::postmaster_copies::PostmasterCopies;
 use dsn_report::Site;
 use std::marker::Model;
 
@@ -13,6 +14,8 @@ pub struct ServiceSettings<'a> {
     pub lifetime: u32,
     /// The size in bytes up to which a message is returned whole (`bounce_size_limit`).
     pub size_limit: u32,
+    /// Of which notices the postmaster gets a copy: Postfix's own service makes these.
+    pub copies: PostmasterCopies,
 }
 
 impl<'a> Model for ServiceSettings<'a> {
@@ -25,5 +28,6 @@ impl<'a> Model for ServiceSettings<'a> {
       double_bounce = settings.double_bounce.now;
       lifetime = settings.lifetime;
       size_limit = settings.size_limit;
+      copies = settings.copies;
     } };
 }

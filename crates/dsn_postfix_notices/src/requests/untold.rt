@@ -9,8 +9,9 @@ use std::alloc::{AllocError, AllocFailed};
 /// Why a message's sender isn't notified as a request asks.
 #[derive(Clone, Copy, Debug, Drop)]
 pub(super) enum Untold {
-    /// The whole request is left to Postfix's own service. Either a notice can't be expressed, and
-    /// nothing was submitted; or the first letter was refused for good, and no other was submitted.
+    /// The whole request is left to Postfix's own service. Either the postmaster gets a copy, or a
+    /// notice can't be expressed, and nothing was submitted; or the first letter was refused for
+    /// good, and no other was submitted.
     PassedOn(PassReason),
     /// A deed failed, or a letter wasn't accepted and the request can't be passed on.
     Failed,

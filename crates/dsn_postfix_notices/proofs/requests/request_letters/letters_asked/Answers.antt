@@ -1,4 +1,4 @@
-use Rattle.std.proofs.Common.{◌≡◌, ◌∙◌, List, ℕ, Result, Ok, Err, true, ap, map, subst, sym, take}
+use Rattle.std.proofs.Common.{◌≡◌, ◌∙◌, List, ℕ, Result, Ok, true, ap, map, subst, sym, take}
 use Rattle.std.proofs.lemmas.Result.{err_from_is_err_and}
 use Rattle.std.specs.List.{list_any}
 use Rattle.std.specs.Option.{option_map, unwrap_or}
@@ -30,6 +30,7 @@ returns-clause-letters c =
           double_bounce = c.settings.inside.double_bounce.now;
           lifetime = c.settings.inside.lifetime;
           size_limit = c.settings.inside.size_limit;
+          copies = c.settings.inside.copies;
         };
         service = c.terms.inside.service;
         moment = c.terms.inside.moment;
@@ -96,6 +97,7 @@ returns-clause-none c =
           double_bounce = c.settings.inside.double_bounce.now;
           lifetime = c.settings.inside.lifetime;
           size_limit = c.settings.inside.size_limit;
+          copies = c.settings.inside.copies;
         };
         service = c.terms.inside.service;
         moment = c.terms.inside.moment;
@@ -161,6 +163,7 @@ returns-in_err-notices-clause-none c =
           double_bounce = c.settings.inside.double_bounce.now;
           lifetime = c.settings.inside.lifetime;
           size_limit = c.settings.inside.size_limit;
+          copies = c.settings.inside.copies;
         };
         service = c.terms.inside.service;
         moment = c.terms.inside.moment;

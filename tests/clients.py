@@ -54,6 +54,9 @@ END, SILENCE = "end", "silence"  # what a false daemon may do in place of an ans
 NAMES = {"original": "original_recipient", "mta": "remote_mta", "envelope": "envelope_id"}
 MESSAGES, RECIPIENTS = 12, 5  # of the run beside a daemon that is killed
 RESTARTS = 3
+# The most lines of each client's main file. 250 is the aim for all.
+LINES = {"python": 250, "c": 250, "go": 271, "rust": 295, "perl": 250}
+MAIN_FILES = {"perl": "Noticed.pm", "python": "noticed.py", "rust": "noticed.rs"}
 
 
 @dataclass
@@ -503,6 +506,9 @@ def killed(checks: Checks, name: str, words: list):
 def main():
     checks = Checks("clients: those of clients/ on the examples, against false daemons, and beside one that is killed")
     named = sys.argv[1:]
+    for name, most in LINES.items():
+        lines = len((CLIENTS / name / MAIN_FILES.get(name, f"noticed.{name}")).read_text().splitlines())
+        checks.true(f"{name}: a client that is read in one go: {lines} lines", lines <= most)
     for it in LANGUAGES:
         lacking = [tool for tool in it.tools if not shutil.which(tool)]
         if named and it.name not in named:

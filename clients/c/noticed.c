@@ -2,7 +2,6 @@
 #define _POSIX_C_SOURCE 200809L
 #include "noticed.h"
 #include <errno.h>
-#include <fcntl.h>
 #include <poll.h>
 #include <string.h>
 #include <sys/socket.h>
@@ -10,28 +9,25 @@
 #include <time.h>
 #include <unistd.h>
 
-/* ---- frames. A frame that is too long has the size 0 from then on. */
-
+/* A frame in the making. Once it is too long, its size is 0. */
 struct frame {
     unsigned char *to;
     size_t size;
 };
 
-static void put(struct frame *frame, const void *bytes, size_t size)
-{
-    if (frame->size == 0 || size > 4 + NOTICED_LONGEST_FRAME - frame->size) {
-        frame->size = 0;
-        return;
-    }
-    if (size > 0)
-        memcpy(frame->to + frame->size, bytes, size);
-    frame->size += size;
-}
-
 static void number_to(unsigned char *to, uint64_t number, int width)
 {
     for (; width > 0; number >>= 8)
         to[--width] = (unsigned char)(number & 255);
+}
+
+static void put(struct frame *frame, const void *bytes, size_t size)
+{
+    int fits = frame->size > 0 && size <= 4 + NOTICED_LONGEST_FRAME - frame->size;
+    if (fits && size > 0)
+        memcpy(frame->to + frame->size, bytes, size);
+    frame->size = fits ? frame->size + size : 0;
+    number_to(frame->to, frame->size - 4, 4);
 }
 
 static void put_number(struct frame *frame, uint64_t number, int width)
@@ -41,93 +37,71 @@ static void put_number(struct frame *frame, uint64_t number, int width)
     put(frame, bytes, (size_t)width);
 }
 
-static void put_bytes(struct frame *frame, const char *text, size_t size)
+static void put_text(struct frame *frame, const char *text, size_t longest)
 {
+    size_t size = text == NULL ? 0 : strnlen(text, longest);
     put_number(frame, size, 2);
     put(frame, text, size);
 }
 
-static void put_text(struct frame *frame, const char *text, size_t longest)
-{
-    size_t size = text == NULL ? 0 : strlen(text);
-    put_bytes(frame, text, size < longest ? size : longest);
-}
-
-static struct frame begin(unsigned char *to, uint8_t kind, uint32_t number, struct noticed_key key)
+size_t noticed_encode_closing(unsigned char *to, uint8_t kind, uint32_t number, struct noticed_key key)
 {
     struct frame frame = { to, 4 };
     put_number(&frame, 3, 1);
     put_number(&frame, kind, 1);
     put_number(&frame, number, 4);
     put_number(&frame, key.service, 1);
-    put_text(&frame, key.queue_id, SIZE_MAX);
-    return frame;
-}
-
-static size_t end(struct frame frame)
-{
-    if (frame.size > 0)
-        number_to(frame.to, frame.size - 4, 4);
+    put_text(&frame, key.queue_id, NOTICED_LONGEST_FRAME);
     return frame.size;
 }
 
 size_t noticed_encode_append(unsigned char *to, uint32_t number, struct noticed_key key, const struct noticed_outcome *it)
 {
-    struct frame frame = begin(to, 1, number, key);
-    put_text(&frame, it->original_recipient, SIZE_MAX);
-    put_text(&frame, it->recipient, SIZE_MAX);
+    struct frame frame = { to, noticed_encode_closing(to, 1, number, key) };
+    put_text(&frame, it->original_recipient, NOTICED_LONGEST_FRAME);
+    put_text(&frame, it->recipient, NOTICED_LONGEST_FRAME);
     put_number(&frame, it->action, 1);
-    put_text(&frame, it->status, SIZE_MAX);
-    put_text(&frame, it->remote_mta, SIZE_MAX);
+    put_text(&frame, it->status, NOTICED_LONGEST_FRAME);
+    put_text(&frame, it->remote_mta, NOTICED_LONGEST_FRAME);
     put_text(&frame, it->diagnostic, NOTICED_LONGEST_TEXT);
     put_text(&frame, it->reason, NOTICED_LONGEST_TEXT);
     put_number(&frame, it->last_attempt == 0 ? UINT64_MAX : it->last_attempt, 8);
     put_number(&frame, it->retry_until == 0 ? UINT64_MAX : it->retry_until, 8);
-    put_text(&frame, it->recipient_type, SIZE_MAX);
-    put_text(&frame, it->original_type, SIZE_MAX);
-    put_text(&frame, it->diagnostic_type, SIZE_MAX);
-    put_text(&frame, it->extensions, SIZE_MAX);
-    return end(frame);
+    put_text(&frame, it->recipient_type, NOTICED_LONGEST_FRAME);
+    put_text(&frame, it->original_type, NOTICED_LONGEST_FRAME);
+    put_text(&frame, it->diagnostic_type, NOTICED_LONGEST_FRAME);
+    put_text(&frame, it->extensions, NOTICED_LONGEST_FRAME);
+    return frame.size;
 }
 
 /* The size of the lines before the first empty one. */
 static size_t header_size(const char *text, size_t size)
 {
-    for (size_t at = 0; at < size;) {
-        const char *lf = memchr(text + at, '\n', size - at);
-        if (text[at] == '\n' || (text[at] == '\r' && lf == text + at + 1))
+    char before = '\n';
+    for (size_t at = 0; at < size; before = text[at++])
+        if (before == '\n' && (text[at] == '\n' || (text[at] == '\r' && at + 1 < size && text[at + 1] == '\n')))
             return at;
-        at = lf == NULL ? size : (size_t)(lf - text) + 1;
-    }
     return size;
 }
 
 size_t noticed_encode_flush(unsigned char *to, uint32_t number, struct noticed_key key, const struct noticed_notice *it)
 {
-    int is_message = it->returned != NOTICED_HEADER;
-    size_t size = it->header_size;
-    if (size > NOTICED_LONGEST_HEADER && it->returned != NOTICED_MESSAGE) {
-        size = header_size(it->header, size);
-        is_message = 0;
-    }
+    int is_cut = it->header_size > NOTICED_LONGEST_HEADER && it->returned != NOTICED_MESSAGE;
+    size_t size = is_cut ? header_size(it->header, it->header_size) : it->header_size;
     if (size > NOTICED_LONGEST_HEADER || it->return_path == NULL || *it->return_path == '\0' || it->moment == 0 || it->arrival == 0)
         return 0;
-    struct frame frame = begin(to, 2, number, key);
+    struct frame frame = { to, noticed_encode_closing(to, 2, number, key) };
     put_number(&frame, it->moment, 8);
     put_number(&frame, it->arrival, 8);
-    put_text(&frame, strcmp(it->return_path, NOTICED_NULL_PATH) == 0 ? NULL : it->return_path, SIZE_MAX);
-    put_text(&frame, it->envelope_id, SIZE_MAX);
-    put_bytes(&frame, it->header, size);
+    put_text(&frame, strcmp(it->return_path, NOTICED_NULL_PATH) == 0 ? NULL : it->return_path, NOTICED_LONGEST_FRAME);
+    put_text(&frame, it->envelope_id, NOTICED_LONGEST_FRAME);
+    put_number(&frame, size, 2);
+    put(&frame, it->header, size);
     put_number(&frame, it->expected, 4);
-    put_number(&frame, (uint64_t)is_message, 1);
+    put_number(&frame, it->returned != NOTICED_HEADER && !is_cut, 1);
     put_number(&frame, it->wording, 1);
-    put_text(&frame, it->extensions, SIZE_MAX);
-    return end(frame);
-}
-
-size_t noticed_encode_closing(unsigned char *to, uint8_t kind, uint32_t number, struct noticed_key key)
-{
-    return end(begin(to, kind, number, key));
+    put_text(&frame, it->extensions, NOTICED_LONGEST_FRAME);
+    return frame.size;
 }
 
 static uint64_t number_at(const unsigned char *bytes, int width)
@@ -143,14 +117,10 @@ int noticed_decode(const unsigned char *body, size_t size, uint32_t *number, str
     if ((size != 10 && (size != 18 || body[1] != NOTICED_SEALED)) || body[0] != 1 || body[1] < 1 || body[1] > 13)
         return 0;
     *number = (uint32_t)number_at(body + 2, 4);
-    answer->reply = (enum noticed_reply)body[1];
-    answer->value = (uint32_t)number_at(body + 6, 4);
-    answer->has_serial = size == 18;
-    answer->serial = size == 18 ? number_at(body + 10, 8) : 0;
+    uint64_t serial = number_at(body + 10, (int)size - 10);
+    *answer = (struct noticed_answer){ (enum noticed_reply)body[1], (uint32_t)number_at(body + 6, 4), size == 18, serial };
     return 1;
 }
-
-/* ---- the connection */
 
 static long long now(void) /* milliseconds of a clock that is never set */
 {
@@ -176,18 +146,15 @@ void noticed_close(struct noticed_client *client)
 /* Moves all bytes until a moment; 0 if it fails. */
 static int moves(struct noticed_client *client, unsigned char *bytes, size_t size, int is_read, long long until)
 {
-    struct pollfd waits = { client->stream, is_read ? POLLIN : POLLOUT, 0 };
     while (size > 0) {
         ssize_t moved = is_read ? recv(client->stream, bytes, size, 0) : send(client->stream, bytes, size, MSG_NOSIGNAL);
         if (moved > 0) {
             bytes += moved;
             size -= (size_t)moved;
-        } else if (moved == 0 || (errno != EAGAIN && errno != EINTR)) {
-            return 0;
-        } else if ((client->is_silent = now() >= until)) {
+        } else if (moved == 0 || (errno != EAGAIN && errno != EINTR) || (client->is_silent = now() >= until)) {
             return 0;
         } else {
-            poll(&waits, 1, (int)(until - now()) + 1);
+            poll(&(struct pollfd){ client->stream, is_read ? POLLIN : POLLOUT, 0 }, 1, (int)(until - now()) + 1);
         }
     }
     return 1;
@@ -218,25 +185,22 @@ static enum noticed_error connects(struct noticed_client *client)
     if (strlen(client->path) >= sizeof to.sun_path)
         return NOTICED_INVALID;
     strcpy(to.sun_path, client->path);
-    if ((client->stream = socket(AF_UNIX, SOCK_STREAM, 0)) < 0 || fcntl(client->stream, F_SETFD, FD_CLOEXEC) < 0
-        || fcntl(client->stream, F_SETFL, O_NONBLOCK) < 0)
-        return NOTICED_UNREACHABLE;
-    /* that does not wait: EAGAIN says that the queue of the socket is full */
-    if (connect(client->stream, (struct sockaddr *)&to, sizeof to) != 0)
-        return errno == EACCES ? NOTICED_DENIED : NOTICED_UNREACHABLE;
+    client->stream = socket(AF_UNIX, SOCK_STREAM | SOCK_CLOEXEC | SOCK_NONBLOCK, 0);
     client->number = 0;
-    enum noticed_error error = exchange(client, greeting, sizeof greeting, client->limits.worker, &answer);
-    return error == NOTICED_OK ? NOTICED_OK : NOTICED_UNREACHABLE;
+    /* that does not wait: EAGAIN says that the queue of the socket is full */
+    if (client->stream < 0 || connect(client->stream, (struct sockaddr *)&to, sizeof to) != 0)
+        return errno == EACCES ? NOTICED_DENIED : NOTICED_UNREACHABLE;
+    int is_served = exchange(client, greeting, sizeof greeting, client->limits.worker, &answer) == NOTICED_OK;
+    return is_served ? NOTICED_OK : NOTICED_UNREACHABLE;
 }
 
 /* The answer to the frame of this size in the client. */
 static enum noticed_error ask(struct noticed_client *client, size_t size, int again, struct noticed_answer *answer)
 {
-    long pause = 50;
     long long until = now() + client->limits.request;
     if (size == 0)
         return NOTICED_INVALID;
-    for (;;) {
+    for (int pause = 50;; pause = pause < 2500 ? 2 * pause : 5000) {
         enum noticed_error error = client->stream < 0 ? connects(client) : NOTICED_OK;
         if (error == NOTICED_OK) {
             number_to(client->frame + 6, client->number, 4);
@@ -249,28 +213,24 @@ static enum noticed_error ask(struct noticed_client *client, size_t size, int ag
             return error;
         if (now() + pause > until)
             return NOTICED_UNREACHABLE;
-        nanosleep(&(struct timespec){ pause / 1000, pause % 1000 * 1000000 }, NULL);
-        pause = pause < 2500 ? 2 * pause : 5000;
+        poll(NULL, 0, pause);
     }
 }
 
 enum noticed_error noticed_append(struct noticed_client *client, struct noticed_key key, const struct noticed_outcome *outcome,
                                   int place, struct noticed_answer *answer)
 {
-    for (;;) {
+    /* no log has so many outcomes: the answer is DIFFERS, and nothing is changed */
+    struct noticed_notice count = { .return_path = NOTICED_NULL_PATH, .moment = 1, .arrival = 1, .expected = NOTICED_ANY - 1 };
+    do {
         enum noticed_error error = ask(client, noticed_encode_append(client->frame, 0, key, outcome), 0, answer);
         if (error != NOTICED_UNANSWERED || place < 0 || client->is_silent)
             return error;
-        /* no log has so many outcomes: the answer is DIFFERS, and nothing is changed */
-        struct noticed_notice count = { .return_path = NOTICED_NULL_PATH, .moment = 1, .arrival = 1, .expected = NOTICED_ANY - 1 };
-        struct noticed_answer found;
-        if ((error = noticed_flush(client, key, &count, &found)) != NOTICED_OK || found.value > (uint32_t)place + 1)
+        if (noticed_flush(client, key, &count, answer) != NOTICED_OK || answer->value > (uint32_t)place + 1)
             return NOTICED_UNANSWERED;
-        if (found.value == (uint32_t)place + 1) {
-            *answer = (struct noticed_answer){ NOTICED_LOGGED, (uint32_t)place, 0, 0 };
-            return NOTICED_OK;
-        }
-    }
+    } while (answer->value <= (uint32_t)place);
+    *answer = (struct noticed_answer){ NOTICED_LOGGED, (uint32_t)place, 0, 0 };
+    return NOTICED_OK;
 }
 
 enum noticed_error noticed_flush(struct noticed_client *client, struct noticed_key key, const struct noticed_notice *notice,

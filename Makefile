@@ -16,6 +16,8 @@ export PYTHONDONTWRITEBYTECODE := 1
 BUILT   := crates/noticed/out/noticed
 VERSION := $(shell sed -n 's/.* VERSION: &str = "\(.*\)";/\1/p' crates/noticed/src/command_line.rt)
 PROBES  := crates/probe/out/probe
+LIBRARY := crates/noticed_dsn/out/libnoticed_dsn.a
+LIBS    ?= out/lib
 SOURCES := $(shell find crates -name out -prune -o -type f -print)
 EXAMPLE := vectors/one-bounce
 
@@ -30,7 +32,7 @@ SHELL := /bin/bash
 .SHELLFLAGS := -euo pipefail -c
 .ONESHELL:
 .DELETE_ON_ERROR:
-.PHONY: all build demo try check scripts test contracts mutants boot bench planted install deb dist clean
+.PHONY: all build demo try check scripts test contracts mutants boot bench planted lib install deb dist clean
 
 all: build
 
@@ -122,8 +124,23 @@ bench: $(BUILT) $(PROBES)
 planted: $(BUILT)
 	@python3 -m tests.support.planted
 
+# The writer of notices as a library for programs in C and other languages, into LIBS. The kit's calls of malloc go into it.
+lib: $(LIBRARY)
+	@mkdir -p "$(LIBS)"
+	cp $(LIBRARY) "$(LIBS)"
+	kit=$$(dirname "$$(dirname "$$(realpath "$$(command -v $(RT))")")")
+	cd "$(LIBS)"
+	ar x "$$kit/c/liblibc_c.a" heap.pic.o
+	ar rs libnoticed_dsn.a heap.pic.o
+	rm heap.pic.o
+	$(CC) -shared -o libnoticed_dsn.so -Wl,--whole-archive libnoticed_dsn.a -Wl,--no-whole-archive
+
+$(LIBRARY): $(SOURCES) crates.txt HANDLES
+	@cd crates/noticed_dsn
+	$(RT) lib
+
 # What names the program names it below /usr, as the package has it, until it is installed below another PREFIX. A configuration
-# file that is there stays.
+# file that is there stays. The library is installed if `make lib` has built it.
 install: $(BUILT)
 	@umask 022
 	to() { install -D -m "$$1" "$$2" "$(DESTDIR)$$3"; }
@@ -141,6 +158,11 @@ install: $(BUILT)
 	to 644 dist/noticed.bash "$(PREFIX)/share/bash-completion/completions/noticed"
 	to 644 dist/noticed.zsh "$(PREFIX)/share/zsh/$(ZSH)/_noticed"
 	for it in clients/*/*; do to 644 "$$it" "$(PREFIX)/share/noticed/$$it"; done
+	if [ -e out/lib/libnoticed_dsn.a ]; then
+	    for it in out/lib/libnoticed_dsn.{a,so}; do to 644 "$$it" "$(PREFIX)/lib/$${it##*/}"; done
+	    to 644 lib/noticed_dsn.h "$(PREFIX)/include/noticed_dsn.h"
+	    for it in lib/notice.*; do to 644 "$$it" "$(PREFIX)/share/noticed/$$it"; done
+	fi
 	for it in docs/{postfix,operating,troubleshooting,first-client}.md; do
 	    naming "$$it" "$(PREFIX)/share/doc/noticed/$${it##*/}"
 	done

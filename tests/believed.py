@@ -216,7 +216,7 @@ class Graph:
             it: {other[1] for node in found if node[1] == it for other in self.edges[node] if other in found} - {it}
             for it in homes
         }
-        crates = [line.split(":")[0] for line in (ROOT / "crates.txt").read_text().splitlines()]
+        crates = [line.split(":")[0].split()[0] for line in (ROOT / "crates.txt").read_text().splitlines()]
         left, done = sorted(homes, key=lambda it: (crates.index(it.split(".")[1]), it)), []
         while left:
             following = next((it for it in left if below[it] <= set(done)), left[0])

@@ -91,7 +91,7 @@ def clauses(lines: list) -> str:
 
 def index() -> dict:
     """The public functions of each crate that isn't of tests."""
-    crates = [line.split(":")[0] for line in (ROOT / "crates.txt").read_text().splitlines()]
+    crates = [line.split(":")[0].split()[0] for line in (ROOT / "crates.txt").read_text().splitlines()]
     found = {}
     for crate in crates:
         if crate not in TESTS and (CRATES / crate / "src/lib.rt").exists():

@@ -80,7 +80,7 @@ def crate_table(uses: dict) -> str:
 
 def check_crates(checks: Checks, writes: bool):
     """The table of the crates."""
-    uses = {crate: it.split() for crate, it in re.findall(r"^(\w+): (.*)$", text("crates.txt"), re.M)}
+    uses = {crate: it.split() for crate, it in re.findall(r"^(\w+)(?: staticlib)?: (.*)$", text("crates.txt"), re.M)}
     page, table = MAP.read_text(encoding="utf-8"), crate_table(uses)
     if writes:
         page = TABLE.sub(lambda _: table, page)

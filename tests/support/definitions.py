@@ -16,12 +16,12 @@ SPACED = re.compile(r"[^\s(){}\[\],;λ\"]+")
 BETWEEN_SIGNS = re.compile(r"[^\s(){}\[\],;λ\"&<>?:!|#*]+")
 NO_NAME = {"use", "unfolding", "infixl", "infixr", "infix", "mutual", "where", "mod", "module", "pub"}
 NO_DEFINITION = ("use ", "#", "mod ", "pub mod ")
-FUNCTION = re.compile(r"^( *)(pub(?:\(\w+\))? )?(?:const )?(?:unsafe )?fn (\w+)")
+FUNCTION = re.compile(r'^( *)(pub(?:\(\w+\))? )?(?:const )?(?:unsafe )?(?:extern "C" )?fn (\w+)')
 TYPE = re.compile(r"^(pub(?:\(\w+\))? )?(?:struct|enum) (\w+)")
 TRAIT = re.compile(r"^(pub(?:\(\w+\))? )?trait (\w+)")
 IMPL = re.compile(r"^impl\b")
 GHOST = re.compile(r"^    ghost (?!use)(\w+)")
-EXPORT = re.compile(r"pub use [\w:]+::(\{[^}]*\}|\w+);")
+EXPORT = re.compile(r'pub use [\w:]+::(\{[^}]*\}|\w+);|^pub extern "C" fn (\w+)', re.M)
 LAST_NAME = re.compile(r"&?(?:'\w+ )?(?:mut )?\[?([\w:]+)")
 
 
@@ -175,4 +175,5 @@ def last_name(path: str) -> str:
 def exports(crate: str) -> set:
     """The names that a crate's lib.rt exports."""
     text = COMMENT.sub("", (CRATES / crate / "src/lib.rt").read_text())
-    return {it.strip() for names in EXPORT.findall(text) for it in names.strip("{}").split(",") if it.strip()}
+    names = [used or call for used, call in EXPORT.findall(text)]
+    return {it.strip() for found in names for it in found.strip("{}").split(",") if it.strip()}

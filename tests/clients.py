@@ -46,7 +46,7 @@ CLIENTS = ROOT / "clients"
 LIMITS = ("20", "20", "20", "20", "60")  # seconds to connect, send, for a worker, an answer and a request
 MOMENT, ARRIVAL = 1_700_000_000, 1_699_996_400
 LONGEST = 32_768  # bytes of a header or message
-HEADER, MESSAGE, MESSAGE_OR_HEADER = 0, 1, 2
+HEADER, MESSAGE, EIGHT_BIT_MESSAGE, MESSAGE_OR_HEADER = 0, 1, 2, 3
 UNCOUNTED = 2**32 - 2  # a number of outcomes that no log has
 GREETING, GREETED = b"\0", (REFUSED, 21)
 END, SILENCE = "end", "silence"  # what a false daemon may do in place of an answer
@@ -241,12 +241,15 @@ def bounds(checks: Checks, name: str, words: list):
     """Headers and messages around the bound, texts that are cut, and requests that cannot be encoded."""
     head, crlf = b"Subject: hi\nX: y\n", b"Subject: hi\r\nX: y\r\n"
     most, either = head + b"\n" + b"b" * (LONGEST - len(head) - 1), {"returned": MESSAGE_OR_HEADER}
+    eight_bit = {"returned": EIGHT_BIT_MESSAGE}
     with Driver(words, "encode") as driver:
         for what, fields, wanted in (
             ("a message as long as it may be", {"header": most, "returned": MESSAGE}, {"header": most, "returned": 1}),
             ("the same, or its header", either | {"header": most}, {"header": most, "returned": 1}),
+            ("the same for an 8bit mail", eight_bit | {"header": most}, {"header": most, "returned": 2}),
+            ("the same and a byte more", eight_bit | {"header": most + b"b"}, None),
             ("a message of a byte more", {"header": most + b"b", "returned": MESSAGE}, None),
-            ("the same, or its header", either | {"header": most + b"b"}, {"header": head}),
+            ("the same, or its header", either | {"header": most + b"b"}, {"header": head, "returned": 0}),
             ("the same as a header", {"header": most + b"b"}, {"header": head}),
             ("with CR", either | {"header": crlf + b"\r\n" + most}, {"header": crlf}),
             ("without a header", either | {"header": b"\n" + most}, {"header": b""}),

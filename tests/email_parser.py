@@ -48,6 +48,7 @@ class Case:
     to: str = "ann@example.com"
     message_fields: list = field(default_factory=list)
     returned: bytes = None
+    body: bytes = None  # of a message that is returned whole in an 8bit mail
     boundary: str = "0000"
 
 
@@ -118,6 +119,12 @@ HOSTILE = Recipient(
     ],
 )
 
+# The header of a message in ISO 8859-1.
+TEXT = b"""MIME-Version: 1.0
+Content-Type: text/plain; charset=iso-8859-1
+Content-Transfer-Encoding: 8bit
+"""
+
 CASES = [
     Case("one recipient without optional texts", "bounce", "A1B2C3", [plain("bob@example.org", "failed", "5.1.1")]),
     Case(
@@ -173,6 +180,14 @@ CASES = [
         returned=b"--B.A1B2C3.1700000000.0000x\r\n--\r\n--B.A1B2C3.1700000000.0001--\r\nSubject: hi\r\n",
         boundary="0002",
     ),
+    Case(
+        "a message with 8bit bytes",
+        "bounce",
+        "A1B2C3",
+        [plain("bob@example.org", "failed", "5.1.1")],
+        flush={"header": TEXT + b"\n" + "d\xe9j\xe0\n.\xff\n".encode("latin-1"), "returned": 2, "version": 3},
+        body="d\xe9j\xe0\r\n.\xff\r\n".encode("latin-1"),
+    ),
     Case("texts that try to end a part", "bounce", "H1", [HOSTILE]),
     Case(
         "three hundred recipients",
@@ -202,14 +217,15 @@ def messages_of(outbox):
     return messages
 
 
-def byte_faults(notice):
-    """What is wrong with a notice's bytes: 7bit lines of at most 998 bytes, each ended by CRLF."""
+def byte_faults(notice, eight_bit):
+    """What is wrong with a notice's bytes: lines of at most 998 bytes, each ended by CRLF; an 8bit mail has bytes above
+    127."""
     if not notice.endswith(b"\r\n"):
         yield "the last line has no end"
     for line in notice[:-2].split(b"\r\n"):
         if len(line) > 998:
             yield f"a line of {len(line)} bytes"
-        if any(byte != 9 and not 32 <= byte <= 126 for byte in line):
+        if any(byte != 9 and not 32 <= byte <= 126 and not (eight_bit and byte > 127) for byte in line):
             yield f"a byte that is neither a tab nor printable in {line[:60]!r}"
 
 
@@ -245,6 +261,7 @@ def differences(message, case):
     yield from differs("what stands after them", message.epilogue or "", "")
     parts = message.get_payload() if message.is_multipart() else []
     types = ["text/plain", "message/delivery-status"] + (["text/rfc822-headers"] if case.returned is not None else [])
+    types += ["message/rfc822"] if case.body is not None else []
     yield from differs("the parts' types", [it.get_content_type() for it in parts], types)
     if len(parts) != len(types):
         return
@@ -266,14 +283,19 @@ def differences(message, case):
         [[(it, str(value)) for it, value in group.items()] for group in parts[1].get_payload()],
         [list(it) for it in groups],
     )
+    encoding = "8bit" if case.body is not None else None
+    yield from differs("the notice's encoding", message["Content-Transfer-Encoding"], encoding)
     if case.returned is not None:
         yield from differs("the returned header", parts[2].get_payload(decode=True), case.returned)
+    if case.body is not None:
+        yield from differs("the part's encoding", parts[2]["Content-Transfer-Encoding"], encoding)
+        yield from differs("the returned body", parts[2].get_payload(0).get_payload(decode=True), case.body)
 
 
 def faults_of(notice, case):
     """All that is wrong with a notice."""
     message = BytesParser(policy=policy.default).parsebytes(notice)
-    return [*byte_faults(notice), *defects_of(message), *differences(message, case)]
+    return [*byte_faults(notice, case.body is not None), *defects_of(message), *differences(message, case)]
 
 
 def without(notice, text):

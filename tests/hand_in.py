@@ -6,7 +6,7 @@ import threading
 import time
 from pathlib import Path
 
-from tests.support.mail_servers import MailServer, StrictServer, messages_of, outbox_for, outbox_of
+from tests.support.mail_servers import MailServer, OfferingServer, StrictServer, messages_of, outbox_for, outbox_of
 from tests.support.preloading import built, preloading
 from tests.support.running import Checks, HOST, run
 
@@ -187,6 +187,70 @@ def check_done(checks: Checks, outbox: bytes, room: Path):
     checks.equal("a malformed mark", run(["hand-in", "--done", str(done), server.address], outbox).status, 1)
 
 
+def transaction(path: bytes, message: bytes, body=None) -> bytes:
+    """A mail transaction with a message that has no line of a dot (RFC 5321 section 3.3). MAIL says BODY=8BITMIME if the
+    message has a byte above 127 (RFC 6152), or has these words."""
+    words = (b" BODY=8BITMIME" if max(message) > 127 else b"") if body is None else body
+    return b"MAIL FROM:<>%s\r\nRCPT TO:<%s>\r\nDATA\r\n%s.\r\n" % (words, path, message)
+
+
+def between(transactions: list) -> bytes:
+    """An outbox of these transactions, which is also what a server is sent."""
+    return b"EHLO " + HOST.encode() + b"\r\n" + b"".join(transactions) + b"QUIT\r\n"
+
+
+IN_ASCII = b"Subject: no\r\n\r\ncafe\x7f\r\n"
+IN_UTF8 = b"Subject: no\r\n\r\ncaf\xc3\xa9\r\n"
+NO_8BITMIME = "the server has no 8BITMIME, and the notice has 8bit bytes"
+
+
+def check_eight_bit(checks: Checks):
+    """A notice with bytes above 127 is submitted with BODY=8BITMIME, to a server that offers 8BITMIME. Any other server
+    is sent nothing for it, over a session that is kept; the notice is refused for good."""
+    parts = [transaction(PATHS[0], IN_ASCII), transaction(PATHS[1], IN_UTF8), transaction(PATHS[2], IN_ASCII)]
+    for offers in ([b"8BITMIME"], [b"SIZE 10000000", b"8bitmime"], [b"PIPELINING", b"8BITMIME", b"ENHANCEDSTATUSCODES"]):
+        server = OfferingServer(offers)
+        ran = run(["hand-in", server.address], between(parts))
+        checks.equal(f"8bit, {offers}: status and lines", (ran.status, lines_of(ran)), (0, accepted(1, 2, 3)))
+        checks.equal(f"8bit, {offers}: sent", server.sent(), between(parts))
+    refused = f"refused 2 {PATHS[1].decode()}: {NO_8BITMIME}"
+    for offers in ([], [b"PIPELINING"], [b"8BITMIME2", b"X 8BITMIME"]):
+        server = OfferingServer(offers)
+        ran = run(["hand-in", server.address], between(parts))
+        lines = accepted(1) + [refused] + accepted(3)
+        checks.equal(f"no 8BITMIME, {offers}: status and lines", (ran.status, lines_of(ran)), (0, lines))
+        checks.equal(f"no 8BITMIME, {offers}: sent", server.sent(), between([parts[0], parts[2]]))
+        kept = b"NOOP " + NO_8BITMIME.encode() + b"\r\n" + parts[1]
+        checks.equal(f"no 8BITMIME, {offers}: kept", ran.outbox, kept)
+    server = OfferingServer([b"8BITMIME"])
+    again = run(["hand-in", server.address], between([kept]))
+    checks.equal("a kept notice: status", again.status, 0)
+    checks.equal("a kept notice: sent", server.sent(), between(parts[1:2]))
+
+
+def check_new_session(checks: Checks):
+    """The first notice of a session, if the server lacks 8BITMIME: the session goes on with the next."""
+    parts = [transaction(PATHS[0], IN_UTF8), transaction(PATHS[1], IN_ASCII)]
+    server = OfferingServer()
+    ran = run(["hand-in", server.address], between(parts))
+    lines = [f"refused 1 {PATHS[0].decode()}: {NO_8BITMIME}"] + accepted(2)
+    checks.equal("first without 8BITMIME: status and lines", (ran.status, lines_of(ran)), (0, lines))
+    checks.equal("first without 8BITMIME: sent", server.sent(), between(parts[1:]))
+
+
+def check_body(checks: Checks):
+    """BODY is said by the bytes of the message, whatever the outbox says; no other word is read."""
+    said = [transaction(PATHS[0], IN_ASCII, b" BODY=8BITMIME"), transaction(PATHS[1], IN_UTF8, b"")]
+    sent = [transaction(PATHS[0], IN_ASCII), transaction(PATHS[1], IN_UTF8)]
+    server = OfferingServer([b"8BITMIME"])
+    ran = run(["hand-in", server.address], between(said))
+    checks.equal("BODY by the bytes: status and lines", (ran.status, lines_of(ran)), (0, accepted(1, 2)))
+    checks.equal("BODY by the bytes: sent", server.sent(), between(sent))
+    for words in (b" BODY=7BIT", b" body=8bitmime", b" BODY=8BITMIME SIZE=1", b"  BODY=8BITMIME", b" BODY=8BITMIME "):
+        ran = run(["hand-in", server.address], between([transaction(PATHS[0], IN_ASCII, words)]))
+        checks.equal(f"MAIL with {words}", (ran.status, lines_of(ran)), (1, ["the outbox is cut short"]))
+
+
 def check_malformed(checks: Checks, outbox: bytes):
     """Of an outbox that is cut short, the whole notices are submitted."""
     server = MailServer()
@@ -211,6 +275,9 @@ def main():
     check_lost_reply(checks, outbox)
     check_always(checks, outbox)
     check_paths(checks)
+    check_eight_bit(checks)
+    check_new_session(checks)
+    check_body(checks)
     check_away(checks, outbox)
     with tempfile.TemporaryDirectory(prefix="noticed-") as room:
         check_limits(checks, outbox, Path(room))

@@ -171,11 +171,13 @@ COUNTS = [
     (COUNTED + bytes(4) + b"\1\0\0\0", ACCEPTED),
     (COUNTED + bytes(4) + b"\0\1\0\0", ACCEPTED),
     (COUNTED + bytes(4) + b"\1\1\0\0", ACCEPTED),
-    (COUNTED + bytes(4) + b"\2\0\0\0", 18),
+    (COUNTED + bytes(4) + b"\2\0\0\0", ACCEPTED),
+    (COUNTED + bytes(4) + b"\2\1\0\0", ACCEPTED),
+    (COUNTED + bytes(4) + b"\3\0\0\0", 18),
     (COUNTED + bytes(4) + b"\xff\2\0\0", 18),
     (COUNTED + bytes(4) + b"\0\2\0\0", 19),
-    (COUNTED + bytes(4) + b"\1\xff\0\0", 19),
-    (BAD_ENVELOPE_ID + bytes(4) + b"\2\2\0\0", 30),
+    (COUNTED + bytes(4) + b"\2\xff\0\0", 19),
+    (BAD_ENVELOPE_ID + bytes(4) + b"\3\2\0\0", 30),
 ]
 
 TYPED = {"original": b"o@p", "diagnostic": b"busy"}
@@ -278,7 +280,7 @@ MESSAGE_EXTENSIONS = [
     (described(b"\n"), 20),
     (described(b"X-A: \xe9\n"), 20),
     (described(b"A", bytes(4) + b"\0\2"), 19),
-    (described(b"A", bytes(4) + b"\2\0"), 18),
+    (described(b"A", bytes(4) + b"\3\0"), 18),
     (described(b"X-A: b\n", after=b"\0"), 24),
     (described(b"X-A: b\n")[:-1], 23),
     (BAD_ENVELOPE_ID + b"\xff" * 4 + bytes(2) + text(b"A"), 30),

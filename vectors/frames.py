@@ -12,7 +12,7 @@ standard input, and each frame is written as soon as its line is there.
            [attempt=N] [retry=N] [type=T] [original-type=T] [diagnostic-type=T]
            [extension="X-Name: value"] ..
     flush NUMBER SERVICE ID return=T moment=N arrival=N [envelope=T] [header=T] [expects=N]
-          [returns=header|message] [wording=service|outcome] [extension="X-Name: value"] ..
+          [returns=header|message|eight_bit_message] [wording=service|outcome] [extension="X-Name: value"] ..
     discard NUMBER SERVICE ID
     forget NUMBER SERVICE ID
     hex DIGITS               these bytes as they are, for input that is not as it should be
@@ -23,8 +23,8 @@ delivered, relayed or expanded (or either is the byte's number). A word may stan
 text T, RECIPIENT, STATUS and ID these stand for other bytes: \n LF, \r CR, \t tab, \s space, \\ a backslash, \xE9 the
 byte of that number, \{1200*a} the one character 1200 times. A flush without return=, moment= or arrival= is refused;
 return= is the null return path, moment=now and arrival=now are this moment. With expects=N it is carried out only if
-its log has N outcomes. With returns=message the text of header= is the message, which is returned whole if it can be.
-The word extension may be repeated; LF follows each.
+its log has N outcomes. With returns=message the text of header= is the message, which is returned whole if it can be;
+with returns=eight_bit_message its notice may be an 8bit mail. The word extension may be repeated; LF follows each.
 
 noticed-protocol(5) has the layout of the frames. Nothing here tests a value: the daemon does.
 """
@@ -40,7 +40,7 @@ APPEND, FLUSH, DISCARD, FORGET = 1, 2, 3, 4
 NO_MOMENT = 2**64 - 1
 ANY_COUNT = 2**32 - 1
 OF_A_FLUSH = ("return_path", "moment", "arrival")  # fields that each flush has
-RETURNED = {"header": 0, "message": 1}
+RETURNED = {"header": 0, "message": 1, "eight_bit_message": 2}
 WORDINGS = {"service": 0, "outcome": 1}
 
 

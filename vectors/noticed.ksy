@@ -157,6 +157,7 @@ enums:
   returned:
     0: header
     1: message
+    2: eight_bit_message
   wording:
     0: by_service
     1: by_outcome

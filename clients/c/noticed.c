@@ -86,7 +86,7 @@ static size_t header_size(const char *text, size_t size)
 
 size_t noticed_encode_flush(unsigned char *to, uint32_t number, struct noticed_key key, const struct noticed_notice *it)
 {
-    int is_cut = it->header_size > NOTICED_LONGEST_HEADER && it->returned != NOTICED_MESSAGE;
+    int is_cut = it->header_size > NOTICED_LONGEST_HEADER && (it->returned == NOTICED_HEADER || it->returned == NOTICED_MESSAGE_OR_HEADER);
     size_t size = is_cut ? header_size(it->header, it->header_size) : it->header_size;
     if (size > NOTICED_LONGEST_HEADER || it->return_path == NULL || *it->return_path == '\0' || it->moment == 0 || it->arrival == 0)
         return 0;
@@ -98,7 +98,7 @@ size_t noticed_encode_flush(unsigned char *to, uint32_t number, struct noticed_k
     put_number(&frame, size, 2);
     put(&frame, it->header, size);
     put_number(&frame, it->expected, 4);
-    put_number(&frame, it->returned != NOTICED_HEADER && !is_cut, 1);
+    put_number(&frame, is_cut ? NOTICED_HEADER : it->returned == NOTICED_MESSAGE_OR_HEADER ? NOTICED_MESSAGE : it->returned, 1);
     put_number(&frame, it->wording, 1);
     put_text(&frame, it->extensions, NOTICED_LONGEST_FRAME);
     return frame.size;

@@ -28,7 +28,8 @@ extern "C" {
 
 enum { NOTICED_BOUNCE = 1, NOTICED_DEFER, NOTICED_TRACE }; /* services: for failures, for delays, for other reports */
 enum { NOTICED_FAILED = 1, NOTICED_DELAYED, NOTICED_DELIVERED, NOTICED_RELAYED, NOTICED_EXPANDED }; /* actions */
-enum { NOTICED_HEADER, NOTICED_MESSAGE, NOTICED_MESSAGE_OR_HEADER }; /* the last: its header alone if it is too long */
+enum { NOTICED_HEADER, NOTICED_MESSAGE, NOTICED_EIGHT_BIT_MESSAGE, /* the third: if the next server offers 8BITMIME */
+       NOTICED_MESSAGE_OR_HEADER };                                   /* its header alone if it is too long */
 enum { NOTICED_BY_SERVICE, NOTICED_BY_OUTCOME };                      /* how words are chosen */
 enum { NOTICED_LONGEST_FRAME = 65536, NOTICED_LONGEST_HEADER = 32768, NOTICED_LONGEST_TEXT = 800, NOTICED_NO_PLACE = -1 };
 #define NOTICED_NULL_PATH "<>"  /* the null return path, which gets no notice; an empty path is an error */

@@ -28,14 +28,14 @@ import (
 
 // Values of fields, bounds in bytes (a longer diagnostic or reason is cut), and replies, with what to do after each.
 const (
-	Bounce, Defer, Trace                          = 1, 2, 3       // services: for failures, for delays, for other reports
-	Failed, Delayed, Delivered, Relayed, Expanded = 1, 2, 3, 4, 5 // actions
-	NoPlace                                       = -1            // of an append: others append to the log
-	NullPath                                      = "<>"          // the null return path, which gets no notice
-	Any                                           = 1<<32 - 1     // Expected: any number of outcomes
-	Header, Message, MessageOrHeader              = 0, 1, 2       // Returned; the last: its header alone if it is too long
-	ByService, ByOutcome                          = 0, 1          // Wording: how words are chosen
-	LongestFrame, LongestHeader, LongestText      = 65_536, 32_768, 800
+	Bounce, Defer, Trace                              = 1, 2, 3       // services: for failures, for delays, for other reports
+	Failed, Delayed, Delivered, Relayed, Expanded     = 1, 2, 3, 4, 5 // actions
+	NoPlace                                           = -1            // of an append: others append to the log
+	NullPath                                          = "<>"          // the null return path, which gets no notice
+	Any                                               = 1<<32 - 1     // Expected: any number of outcomes
+	Header, Message, EightBitMessage, MessageOrHeader = 0, 1, 2, 3    // Returned; third: for 8BITMIME; last: its header if too long
+	ByService, ByOutcome                              = 0, 1          // Wording: how words are chosen
+	LongestFrame, LongestHeader, LongestText          = 65_536, 32_768, 800
 
 	Logged    = 1  // behind Value others. If that is below the place, the daemon lost outcomes: append them again
 	Closed    = 2  // the log takes no more. After a flush: the notice is made
@@ -121,7 +121,7 @@ func EncodeAppend(number uint32, key Key, it Outcome) ([]byte, error) {
 
 // EncodeFlush returns the frame of a flush. A header that is too long is an error too, as is a Message.
 func EncodeFlush(number uint32, key Key, it Notice) ([]byte, error) {
-	if len(it.Header) > LongestHeader && it.Returned != Message {
+	if len(it.Header) > LongestHeader && (it.Returned == Header || it.Returned == MessageOrHeader) {
 		it.Header, it.Returned = emptyLine.Split(it.Header, 2)[0], Header
 	}
 	if len(it.Header) > LongestHeader || it.ReturnPath == "" || it.Moment.IsZero() || it.Arrival.IsZero() {

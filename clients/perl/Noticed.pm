@@ -54,7 +54,8 @@ use constant { BOUNCE => 1, DEFER => 2, TRACE => 3 };    # services: for failure
 use constant { FAILED => 1, DELAYED => 2, DELIVERED => 3, RELAYED => 4, EXPANDED => 5 };    # actions
 use constant NULL_PATH => '<>';          # the null return path, which gets no notice; an empty path is an error
 use constant ANY       => 0xFFFFFFFF;    # expected: any number of outcomes
-use constant { HEADER => 0, MESSAGE => 1, MESSAGE_OR_HEADER => 2 };    # returned; the last: its header if it is too long
+use constant { HEADER => 0, MESSAGE => 1, EIGHT_BIT_MESSAGE => 2 };    # returned; the last: if the next server offers 8BITMIME
+use constant MESSAGE_OR_HEADER => 3;                                   # returned: its header if it is too long
 use constant { BY_SERVICE => 0, BY_OUTCOME => 1 };                     # wording: how words are chosen
 use constant { LONGEST_FRAME => 65_536, LONGEST_HEADER => 32_768, LONGEST_TEXT => 800 };  # a longer diagnostic is cut
 use constant {
@@ -73,7 +74,7 @@ use constant {
     DIFFERS    => 13,    # nothing was changed. The log has value outcomes: if too few, append what is missing, and flush
 };
 our @EXPORT = qw(BOUNCE DEFER TRACE FAILED DELAYED DELIVERED RELAYED EXPANDED NULL_PATH ANY HEADER MESSAGE
-    MESSAGE_OR_HEADER BY_SERVICE BY_OUTCOME LOGGED CLOSED TABLE_FULL LOG_FULL NOTHING NO_RETURN SEALED DISCARDED GONE
+    EIGHT_BIT_MESSAGE MESSAGE_OR_HEADER BY_SERVICE BY_OUTCOME LOGGED CLOSED TABLE_FULL LOG_FULL NOTHING NO_RETURN SEALED DISCARDED GONE
     REFUSED FORGOTTEN NOT_CLOSED DIFFERS);
 my %KINDS = (append => 1, flush => 2, discard => 3, forget => 4);
 my @NEEDED = qw(service queue_id);
@@ -94,14 +95,14 @@ sub _fields {
     }
     return '' if $kind ne 'flush';
     my ($header, $returned) = ($it{header} // '', $it{returned} // HEADER);
-    if (length $header > LONGEST_HEADER && $returned != MESSAGE) {
+    if (length $header > LONGEST_HEADER && ($returned == HEADER || $returned == MESSAGE_OR_HEADER)) {
         ($header, $returned) = ((split /^\r?\n/m, $header, 2)[0], HEADER);
     }
     croak 'invalid: the header or message is too long' if length $header > LONGEST_HEADER;
     croak 'invalid: there is no return path; the null one is NULL_PATH' if $it{return_path} eq '';
     return pack('Q>Q>', @it{qw(moment arrival)})
         . _texts($it{return_path} eq NULL_PATH ? '' : $it{return_path}, $it{envelope_id}, $header)
-        . pack('NCC', $it{expected}, $returned ? MESSAGE : HEADER, $it{wording} // BY_SERVICE) . _texts($it{extensions});
+        . pack('NCC', $it{expected}, $returned == MESSAGE_OR_HEADER ? MESSAGE : $returned, $it{wording} // BY_SERVICE) . _texts($it{extensions});
 }
 
 =head1 FUNCTIONS

@@ -27,7 +27,7 @@ BOUNCE, DEFER, TRACE = 1, 2, 3  # services: for failures, for delays, for other 
 FAILED, DELAYED, DELIVERED, RELAYED, EXPANDED = 1, 2, 3, 4, 5  # actions
 NULL_PATH = "<>"  # the null return path, which gets no notice; an empty path is an error
 ANY = 0xFFFFFFFF  # expected: any number of outcomes
-HEADER, MESSAGE, MESSAGE_OR_HEADER = 0, 1, 2  # what `header` is; the last: its header alone is sent if it is too long
+HEADER, MESSAGE, EIGHT_BIT_MESSAGE, MESSAGE_OR_HEADER = range(4)  # third: for 8BITMIME; last: its header if too long
 BY_SERVICE, BY_OUTCOME = 0, 1  # `wording`: how words are chosen
 LONGEST_FRAME, LONGEST_HEADER, LONGEST_TEXT = 65_536, 32_768, 800  # bytes; a longer diagnostic or reason is cut
 
@@ -118,13 +118,13 @@ class Notice(NamedTuple):
         path, header, returned = _bytes(self.return_path), _bytes(self.header), self.returned
         if not path:
             raise ValueError("there is no return path; the null one is NULL_PATH")
-        if len(header) > LONGEST_HEADER and returned != MESSAGE:
+        if len(header) > LONGEST_HEADER and returned in (HEADER, MESSAGE_OR_HEADER):
             header, returned = re.split(rb"(?m)^\r?\n", header, maxsplit=1)[0], HEADER
         if len(header) > LONGEST_HEADER:
             raise ValueError(f"the header or message is longer than {LONGEST_HEADER} bytes")
-        made = struct.pack(">QQ", self.moment, self.arrival)
+        made, kind = struct.pack(">QQ", self.moment, self.arrival), {MESSAGE_OR_HEADER: MESSAGE}.get(returned, returned)
         made += _texts(b"" if path == b"<>" else path, self.envelope_id, header)
-        return made + struct.pack(">IBB", self.expected, min(returned, MESSAGE), self.wording) + _texts(self.extensions)
+        return made + struct.pack(">IBB", self.expected, kind, self.wording) + _texts(self.extensions)
 
 
 def _bytes(value: Text) -> bytes:

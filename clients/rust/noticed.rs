@@ -39,9 +39,9 @@ pub enum Service { Bounce = 1, Defer, Trace }
 #[derive(Clone, Copy, Debug, PartialEq, Eq)]
 pub enum Action { Failed = 1, Delayed, Delivered, Relayed, Expanded }
 
-/// What the header of a notice is; the last: its header alone is sent if it is too long.
+/// What the header of a notice is; the third: if the next server offers 8BITMIME; the last: its header if it is too long.
 #[derive(Clone, Copy, Debug, PartialEq, Eq)]
-pub enum Returned { Header, Message, MessageOrHeader }
+pub enum Returned { Header, Message, EightBitMessage, MessageOrHeader }
 
 /// How the words of a notice are chosen.
 #[derive(Clone, Copy, Debug, PartialEq, Eq)]
@@ -167,15 +167,15 @@ fn header_of(message: &[u8]) -> &[u8] {
 
 /// The frame of a flush. An error if the return path is empty, or the header or message too long.
 pub fn encode_flush(number: u32, key: Key, it: &Notice) -> Result<Vec<u8>, Error> {
-    let is_cut = it.header.len() > LONGEST_HEADER && it.returned != Returned::Message;
+    let is_cut = it.header.len() > LONGEST_HEADER && matches!(it.returned, Returned::Header | Returned::MessageOrHeader);
     let header = if is_cut { header_of(it.header) } else { it.header };
-    let is_message = it.returned != Returned::Header && !is_cut;
+    let whole = if it.returned == Returned::MessageOrHeader { Returned::Message } else { it.returned };
     if header.len() > LONGEST_HEADER { return Err(Error::Invalid("the header or message is too long")); }
     if it.return_path.is_empty() { return Err(Error::Invalid("there is no return path; the null one is NULL_PATH")); }
     let mut to = [it.moment.to_be_bytes(), it.arrival.to_be_bytes()].concat();
     texts(&mut to, &[if it.return_path == NULL_PATH { b"" } else { it.return_path }, it.envelope_id, header]);
     to.extend(it.expected.to_be_bytes());
-    to.extend([is_message as u8, it.wording as u8]);
+    to.extend([if is_cut { Returned::Header } else { whole } as u8, it.wording as u8]);
     texts(&mut to, &[it.extensions]);
     encode(2, number, key, &to)
 }

@@ -187,21 +187,27 @@ class Hostile:
 
     def wishes(self) -> bytes:
         """The other fields of a flush of version 3: a count, two bytes that are mostly 0 or 1, and extension fields."""
-        two = [self.dice.choice([2, 3, 255] if self.chance(self.faulty) else [0, 1, 1]) for _ in range(2)]
-        return self.count().to_bytes(4, "big") + bytes(two) + text(self.extensions())
+        returned = self.dice.choice([3, 4, 255] if self.chance(self.faulty) else [0, 1, 1, 2, 2])
+        wording = self.dice.choice([2, 3, 255] if self.chance(self.faulty) else [0, 1, 1])
+        return self.count().to_bytes(4, "big") + bytes([returned, wording]) + text(self.extensions())
 
     def flush(self, version: int, service: int, queue_id: bytes) -> bytes:
         """What a flush has after its key."""
         moment, arrival = self.moment(), self.moment()
         wishes = self.wishes() if version == 3 else b""
         stem = STEM % (b"?BDT"[service : service + 1], queue_id, moment)
-        header = (self.message(stem) if wishes[4:5] == b"\1" else self.header(stem)) if self.chance(0.5) else b""
+        header = self.returned(stem, wishes[4:5]) if self.chance(0.5) else b""
         envelope = self.text(bytes(range(32, 127)), 100)
         texts = text(self.text(ADDRESS_BYTES, 256, 0.1)) + text(envelope) + text(header)
         return moment.to_bytes(8, "big") + arrival.to_bytes(8, "big") + texts + wishes
 
-    def message(self, stem: bytes) -> bytes:
-        """A message: mostly lines that a 7bit mail has unchanged, with escapes and empty ones; rarely others."""
+    def returned(self, stem: bytes, kind: bytes) -> bytes:
+        """A message's header, or a message that may be returned in a 7bit mail or in an 8bit one."""
+        high = {b"\1": b"", b"\2": b"\x80\xe9\xff"}.get(kind)
+        return self.header(stem) if high is None else self.message(stem, high if self.chance(0.8) else b"")
+
+    def message(self, stem: bytes, high: bytes) -> bytes:
+        """A message: mostly lines that a mail has unchanged, with escapes, empty ones and these bytes; rarely others."""
         if self.chance(0.2):
             return self.header(stem)
         lines = []
@@ -211,7 +217,7 @@ class Hostile:
             )
             size = self.dice.choice([997, 998, 999] if self.chance(0.03) else [0, 0, 1, 5, 40])
             lines.append(
-                (begin + self.bytes_of(b"abc xyz.-\t\x1b\x7f\x01", size))[: max(size, 40)]
+                (begin + self.bytes_of(b"abc xyz.-\t\x1b\x7f\x01" + high, size))[: max(size, 40)]
                 + self.dice.choice([b"\n", b"\n", b"\r\n"])
             )
         return b"".join(lines)

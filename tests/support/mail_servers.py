@@ -104,10 +104,51 @@ class MailServer:
             lines.append(line.removeprefix(b"."))
         return b"".join(lines)
 
+    def say(self, stream, reply: bytes):
+        self.write(stream, reply)
+
     @staticmethod
-    def say(stream, reply: bytes):
+    def write(stream, reply: bytes):
         stream.write(reply + b"\r\n")
         stream.flush()
+
+
+class Recorded:
+    """A stream, and the lines that were read from it."""
+
+    def __init__(self, stream, lines: list):
+        self.stream, self.lines = stream, lines
+
+    def readline(self) -> bytes:
+        self.lines.append(self.stream.readline())
+        return self.lines[-1]
+
+    def write(self, text: bytes):
+        self.stream.write(text)
+
+    def flush(self):
+        self.stream.flush()
+
+
+class OfferingServer(MailServer):
+    """A mail server that offers these extensions in its reply to EHLO, and keeps each line that it was sent."""
+
+    def __init__(self, offers=(), **rest):
+        self.offers, self.lines = offers, []
+        super().__init__(**rest)
+
+    def serve(self, stream):
+        super().serve(Recorded(stream, self.lines))
+
+    def say(self, stream, reply: bytes):
+        """A reply; the one to EHLO has a line for each extension."""
+        if self.commands and self.commands[-1].upper().startswith(b"EHLO") and self.offers:
+            reply = b"250-test\r\n" + b"".join(b"250-%s\r\n" % it for it in self.offers[:-1]) + b"250 " + self.offers[-1]
+        MailServer.write(stream, reply)
+
+    def sent(self) -> bytes:
+        """All that was sent, once the connection is over."""
+        return b"".join(self.lines) if self.is_idle() else b""
 
 
 class StrictServer(MailServer):

@@ -8,6 +8,7 @@ use Rattle.dsn_journal.specs.Moments.{LeavesOnly}
 use Rattle.dsn_journal.specs.declared.disk.Disk
 use Rattle.dsn_outcome.specs.Letter.{Letter}
 use Rattle.dsn_smtp.specs.declared.hand_in_fault.HandInFault.{HandInFault}
+use Rattle.dsn_submission.specs.Verdict.{reason_of}
 use Rattle.dsn_submission.specs.Waiting.{empty_queue}
 use Rattle.dsn_submission.specs.WaitingLaws.{HasEach}
 use Rattle.dsn_submission.specs.declared.verdict.Verdict.{Verdict}
@@ -63,12 +64,13 @@ module _ {S C K M : Type 0} where
       pub not_earlier : NoneSettles serial before
       pub not_again : NoneSubmits serial after
 
-    -- The server accepted the letter of a deed without a fault if the verdict says so. The letter was kept with the last
-    -- reply if the verdict is a refusal for good.
+    -- The server accepted the letter of a deed without a fault if the verdict says so. The letter was kept with the
+    -- reason if the verdict is a refusal for good.
     pub record IsMeant (deed : MailDeed source drain gives keeps tells) : Type 0 where
       pub accepted : deed.verdict ≡ Accepted → deed.fault ≡ None
       pub refused : deed.verdict ≡ RefusedForGood
-          → keeps deed.old.refused (sited_path deed.letter.item) (sited_message deed.letter.item) deed.new.submitter.reply true deed.new.refused
+          → keeps deed.old.refused (sited_path deed.letter.item) (sited_message deed.letter.item)
+          (reason_of deed.fault deed.new.submitter.reply) true deed.new.refused
 
     -- each letter below the mark, which began at `mark`, was settled once, by a deed of its own
     abbrev pub AreSettledOnce : ℕ → MailOutlet S C K M → List Letter → List (MailDeed source drain gives keeps tells) → Type 0

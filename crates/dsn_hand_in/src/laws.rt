@@ -26,7 +26,7 @@ pub fn outlet_keeps_letters<'s, S: Stream, C: Connect<S>, K: RefusedLetters, M: 
 /// After every such course: each letter below the mark was settled by one deed, which submitted that
 /// letter, and isn't submitted again after it. No deed settled a letter that waits. In a deed that
 /// accepts its letter the server accepted it without a fault; one that refuses its letter for good
-/// kept it with the reply.
+/// kept it with the reason.
 pub fn only_deeds_settle<'s, S: Stream, C: Connect<S>, K: RefusedLetters, M: Marks>()
     ensures settled { (mark : ℕ) (start now : MailOutlet S C K M) (letters : List Letter)
         (deeds : List (MailDeed S.Source S.Drain C.gives K.keeps M.tells))

@@ -10,9 +10,10 @@ use Rattle.dsn_outcome.specs.declared.returned.Returned.{Returned}
 use Rattle.dsn_outcome.specs.declared.wording.Wording.{Wording}
 
 -- a draft; moment and arrival are in whole seconds since 1970; no return path is the null path (RFC
--- 5321 section 4.5.5); returned says whether header is the message's header or the whole message;
--- extensions are the message's extension fields (RFC 3464 section 2.4), empty for none; expected is
--- the expected number of outcomes, None for any; wording is how the notice's words are chosen
+-- 5321 section 4.5.5); returned says whether header is the message's header or the whole message,
+-- and whether its notice may be an 8bit mail; extensions are the message's extension fields (RFC
+-- 3464 section 2.4), empty for none; expected is the expected number of outcomes, None for any;
+-- wording is how the notice's words are chosen
 pub record Draft : Type 0 where
   pub moment : ℕ
   pub arrival : ℕ

@@ -17,15 +17,15 @@ use Rattle.dsn_outcome.specs.declared.wording.Wording.TheVariants.{ByService, By
 use Rattle.dsn_text.specs.declared.service.Service.{Service}
 use Rattle.dsn_text.specs.declared.service.Service.TheVariants.{Bounce, Defer, Trace}
 use Rattle.dsn_report.proofs.BoundaryLaw.{boundary_number-is}
-use Rattle.dsn_report.specs.Boundary.{boundary_of, is_delimiter, is_ruled_out, returned_lines, returns_message}
+use Rattle.dsn_report.specs.Boundary.{boundary_of, is_delimiter, is_eight_bit, is_ruled_out, returned_lines, returns_message}
 use Rattle.dsn_report.specs.DeliveryStatus.{line_if_any, per_message_fields, per_recipient_fields, recipient_group, delivery_status, typed, usual_address_type, usual_diagnostic_type}
 use Rattle.dsn_report.specs.Multipart.{DividesIntoParts, divide, divide_more, message_body, multipart_of, multipart_of_pieces, part_lines, returned_parts, notice_parts, is_last_delimiter}
 use Rattle.dsn_report.specs.PlainWords.{meaning_of}
-use Rattle.dsn_report.specs.Notice.{explanation, guidance, reply_beside, reply_lines, notice_header, part_header, part_of, outcome_lines, notification, origin_told, recipient_told, returned_description, returned_part, returned_type, words_by, words_of, lines_with_boundary, notice_lines, notice_of}
+use Rattle.dsn_report.specs.Notice.{encoding_lines, explanation, guidance, reply_beside, reply_lines, notice_header, part_header, part_of, outcome_lines, notification, origin_told, recipient_told, returned_description, returned_part, returned_type, words_by, words_of, lines_with_boundary, notice_lines, notice_of}
 use Rattle.dsn_report.specs.Lines.{text_of_pieces}
 use Rattle.dsn_report.specs.WellFormed.{IsWellFormed}
 use Rattle.dsn_report.proofs.ExtensionLemmas.{extension_lines-pass, none-delimits}
-use Rattle.dsn_report.proofs.LinesLemmas.{notice_lines-legal}
+use Rattle.dsn_report.proofs.LinesLemmas.{notice_lines-eight_bit}
 use Rattle.dsn_report.proofs.PieceLemmas.{has_line_bytes-legal, map-text_of_pieces, pieces-lines}
 
 -- ---- lines that are not delimiters
@@ -152,9 +152,10 @@ none-status boundary host letter fields legal =
     (none-message boundary host letter fields)
     (none-groups boundary letter.outcomes legal)
 
-none-part : (boundary description content_type : List ℕ) (body : List (List ℕ)) → NoneDelimits boundary body → NoneDelimits boundary (part_lines description content_type body ++ [] ∷ [])
+none-part : (boundary description content_type : List ℕ) (eight : Bool) (body : List (List ℕ)) → NoneDelimits boundary body → NoneDelimits boundary (part_lines description content_type eight body ++ [] ∷ [])
 unfolding part_lines
-none-part boundary description content_type body none = none-append boundary body ([] ∷ []) none refl
+none-part boundary description content_type true body none = none-append boundary body ([] ∷ []) none refl
+none-part boundary description content_type false body none = none-append boundary body ([] ∷ []) none refl
 
 -- ---- the delimiters
 
@@ -189,50 +190,59 @@ divide-delimiter : (boundary : List ℕ) (rest : List (List ℕ))
 unfolding divide divide_more
 divide-delimiter boundary rest = rw (delimiter-plain boundary, last-isnt boundary) refl
 
-part-is : (boundary description content_type : List ℕ) (body rest : List (List ℕ))
-    → part_of boundary description content_type body ++ rest ≡ (codes "--" ++ boundary) ∷ ((part_lines description content_type body ++ [] ∷ []) ++ rest)
+part-is : (boundary description content_type : List ℕ) (eight : Bool) (body rest : List (List ℕ))
+    → part_of boundary description content_type eight body ++ rest ≡ (codes "--" ++ boundary) ∷ ((part_lines description content_type eight body ++ [] ∷ []) ++ rest)
 unfolding part_of part_header part_lines
-part-is boundary description content_type body rest = refl
+part-is boundary description content_type true body rest = refl
+part-is boundary description content_type false body rest = refl
 
-divide-part : (boundary description content_type : List ℕ) (body rest : List (List ℕ)) (parts : List (List (List ℕ))) (tail : List (List ℕ)) → NoneDelimits boundary body
+divide-part : (boundary description content_type : List ℕ) (eight : Bool) (body rest : List (List ℕ)) (parts : List (List (List ℕ))) (tail : List (List ℕ)) → NoneDelimits boundary body
     → divide boundary rest ≡ record { before = []; parts = parts; after = Some tail }
-    → divide boundary (part_of boundary description content_type body ++ rest)
-    ≡ record { before = []; parts = (part_lines description content_type body ++ [] ∷ []) ∷ parts; after = Some tail }
-divide-part boundary description content_type body rest parts tail none later =
-    let lines = part_lines description content_type body ++ [] ∷ [] in
-    ap (divide boundary) (part-is boundary description content_type body rest)
+    → divide boundary (part_of boundary description content_type eight body ++ rest)
+    ≡ record { before = []; parts = (part_lines description content_type eight body ++ [] ∷ []) ∷ parts; after = Some tail }
+divide-part boundary description content_type eight body rest parts tail none later =
+    let lines = part_lines description content_type eight body ++ [] ∷ [] in
+    ap (divide boundary) (part-is boundary description content_type eight body rest)
     ∙ divide-delimiter boundary (lines ++ rest)
-    ∙ rw (divide-front boundary lines rest (none-part boundary description content_type body none), later, append-nil) refl
+    ∙ rw (divide-front boundary lines rest (none-part boundary description content_type eight body none), later, append-nil) refl
 
 divide-last : (boundary : List ℕ) (tail : List (List ℕ)) → divide boundary ((codes "--" ++ boundary ++ codes "--") ∷ tail) ≡ record { before = []; parts = []; after = Some tail }
 unfolding divide divide_more
 divide-last boundary tail = rw (delimiter-is boundary (codes "--"), last-is boundary) refl
 
-divide-returned : (boundary description content_type : List ℕ) (ls tail : List (List ℕ)) → NoneDelimits boundary ls
-    → divide boundary (returned_part boundary description content_type ls ++ ((codes "--" ++ boundary ++ codes "--") ∷ tail))
-    ≡ record { before = []; parts = map (λ part. part ++ [] ∷ []) (returned_parts description content_type ls); after = Some tail }
+divide-returned : (boundary description content_type : List ℕ) (eight : Bool) (ls tail : List (List ℕ)) → NoneDelimits boundary ls
+    → divide boundary (returned_part boundary description content_type eight ls ++ ((codes "--" ++ boundary ++ codes "--") ∷ tail))
+    ≡ record { before = []; parts = map (λ part. part ++ [] ∷ []) (returned_parts description content_type eight ls); after = Some tail }
 unfolding returned_part returned_parts
-divide-returned boundary description content_type [] tail none = divide-last boundary tail
-divide-returned boundary description content_type (line ∷ ls) tail none =
-    divide-part boundary description content_type (line ∷ ls) ((codes "--" ++ boundary ++ codes "--") ∷ tail) [] tail none (divide-last boundary tail)
+divide-returned boundary description content_type eight [] tail none = divide-last boundary tail
+divide-returned boundary description content_type eight (line ∷ ls) tail none =
+    divide-part boundary description content_type eight (line ∷ ls) ((codes "--" ++ boundary ++ codes "--") ∷ tail) [] tail none (divide-last boundary tail)
 
 -- the returned part of a letter's notice
 abbrev own_returned : Letter → List ℕ → List (List ℕ)
 own_returned letter boundary =
-    returned_part boundary (returned_description (words_of letter) (returns_message letter.draft)) (returned_type (returns_message letter.draft)) (returned_lines letter.draft)
+    returned_part boundary (returned_description (words_of letter) (returns_message letter.draft)) (returned_type (returns_message letter.draft)) (is_eight_bit letter.draft) (returned_lines letter.draft)
+
+-- the body of a notice begins after the last line of its header and an empty line
+after-header : (eight : Bool) (first second third fourth tail : List (List ℕ))
+    → message_body (((((encoding_lines eight ++ [] ∷ []) ++ first) ++ second) ++ third) ++ fourth ++ tail) ≡ (first ++ second ++ third ++ fourth) ++ tail
+unfolding message_body
+after-header true first second third fourth tail = refl
+after-header false first second third fourth tail = refl
 
 -- the body of a notice is its parts and the last delimiter
 body-is : (host : List ℕ) (letter : Letter) (boundary : List ℕ) (tail : List (List ℕ)) → message_body (lines_with_boundary host letter boundary ++ tail) ≡
-    part_of boundary (codes "Notification") (codes "text/plain; charset=us-ascii") (notification host letter)
-    ++ (part_of boundary (codes "Delivery report") (codes "message/delivery-status") (delivery_status host letter)
+    part_of boundary (codes "Notification") (codes "text/plain; charset=us-ascii") false (notification host letter)
+    ++ (part_of boundary (codes "Delivery report") (codes "message/delivery-status") false (delivery_status host letter)
     ++ (own_returned letter boundary ++ ((codes "--" ++ boundary ++ codes "--") ∷ tail)))
 unfolding message_body lines_with_boundary notice_header
 body-is host letter boundary tail =
-    let person = part_of boundary (codes "Notification") (codes "text/plain; charset=us-ascii") (notification host letter) in
-    let program = part_of boundary (codes "Delivery report") (codes "message/delivery-status") (delivery_status host letter) in
+    let person = part_of boundary (codes "Notification") (codes "text/plain; charset=us-ascii") false (notification host letter) in
+    let program = part_of boundary (codes "Delivery report") (codes "message/delivery-status") false (delivery_status host letter) in
     let returned = own_returned letter boundary in
     let end = (codes "--" ++ boundary ++ codes "--") ∷ [] in
-    append_assoc (person ++ program ++ returned) end tail
+    after-header (is_eight_bit letter.draft) person program returned end tail
+    ∙ append_assoc (person ++ program ++ returned) end tail
     ∙ append_assoc (person ++ program) returned (end ++ tail)
     ∙ append_assoc person program (returned ++ (end ++ tail))
 
@@ -244,13 +254,13 @@ notice-divides host letter short fields legal tail =
     let boundary = boundary_of letter in
     let free = (boundary_number-is letter short).free in
     ap (divide boundary) (body-is host letter boundary tail)
-    ∙ divide-part boundary (codes "Notification") (codes "text/plain; charset=us-ascii") (notification host letter) _ _ tail (none-notification boundary host letter)
-    (divide-part boundary (codes "Delivery report") (codes "message/delivery-status") (delivery_status host letter) _ _ tail (none-status boundary host letter fields legal)
-    (divide-returned boundary _ _ (returned_lines letter.draft) tail free))
+    ∙ divide-part boundary (codes "Notification") (codes "text/plain; charset=us-ascii") false (notification host letter) _ _ tail (none-notification boundary host letter)
+    (divide-part boundary (codes "Delivery report") (codes "message/delivery-status") false (delivery_status host letter) _ _ tail (none-status boundary host letter fields legal)
+    (divide-returned boundary _ _ (is_eight_bit letter.draft) (returned_lines letter.draft) tail free))
 
 pub division_law : (host : List ℕ) (letter : Letter) → IsWellFormed host letter → DividesIntoParts host letter
 unfolding multipart_of notice_of text_of_pieces
 division_law host letter formed =
-    ap (λ pieces. multipart_of_pieces (divide (boundary_of letter) (message_body pieces))) (pieces-lines (notice_lines host letter) (has_line_bytes-legal (notice_lines host letter) (notice_lines-legal host letter formed)))
+    ap (λ pieces. multipart_of_pieces (divide (boundary_of letter) (message_body pieces))) (pieces-lines (notice_lines host letter) (has_line_bytes-legal (notice_lines host letter) (notice_lines-eight_bit host letter formed)))
     ∙ ap multipart_of_pieces (notice-divides host letter formed.header_short formed.extensions_legal formed.outcomes_legal ([] ∷ []))
     ∙ ap (λ parts. record { preamble = None; parts = parts; epilogue = Some [] }) (map-text_of_pieces (notice_parts host letter))

@@ -7,14 +7,15 @@ use Rattle.std.proofs.lemmas.List.Elements.{All-head, All-tail}
 use Rattle.std.proofs.lemmas.List.Folds.{list_all-append}
 use Rattle.dsn_outcome.specs.Letter.{Letter}
 use Rattle.dsn_report.proofs.LineWriterLemmas.{text_of_lines-append}
-use Rattle.dsn_report.proofs.LinesLemmas.{fit-append, fit-known, fit-mail, fit-path, fit-plain, notice_lines-legal}
+use Rattle.dsn_report.proofs.LinesLemmas.{fit-append, fit-eight_bit, fit-known, fit-path, fit-plain, notice_lines-eight_bit}
 use Rattle.dsn_report.proofs.PieceLemmas.{has_line_bytes, has_line_bytes-legal, pieces-lines}
 use Rattle.dsn_report.proofs.PlainLemmas.{and-parts, host-plain}
+use Rattle.dsn_report.specs.Boundary.{is_eight_bit}
 use Rattle.dsn_report.specs.Data.{ReceivesData, ReceivesNotice, ReceivesNotices, data_after, ends_data, message_lines, message_of, messages_in, messages_of, without_dot}
-use Rattle.dsn_report.specs.LegalLines.{is_mail_byte}
+use Rattle.dsn_report.specs.LegalLines.{is_eight_bit_byte}
 use Rattle.dsn_report.specs.Lines.{begins_with_dot, dot_stuffed, pieces_of_text, text_of_lines}
 use Rattle.dsn_report.specs.Notice.{notice_lines, notice_of}
-use Rattle.dsn_report.specs.Outbox.{data_lines, greeting, goodbye, mail_data, mail_transaction, outbox_of, transaction_lines}
+use Rattle.dsn_report.specs.Outbox.{data_lines, greeting, goodbye, mail_data, mail_parameter, mail_transaction, outbox_of, transaction_lines}
 use Rattle.dsn_report.specs.Site.{IsHost}
 use Rattle.dsn_report.specs.WellFormed.{IsWellFormed}
 
@@ -34,23 +35,28 @@ line-bytes-dot_stuffed : (lines : List (List ℕ)) → has_line_bytes lines ≡ 
 unfolding dot_stuffed
 line-bytes-dot_stuffed [] legal = refl
 line-bytes-dot_stuffed (line ∷ lines) legal =
-    let parts = and-parts (list_all is_mail_byte line) (has_line_bytes lines) legal in
+    let parts = and-parts (list_all is_eight_bit_byte line) (has_line_bytes lines) legal in
     rw (here (begins_with_dot line), line-bytes-dot_stuffed lines parts.1) refl
   where
-    here : (test : Bool) → list_all is_mail_byte (if test then 46 ∷ line else line) ≡ true
-    here true = (and-parts (list_all is_mail_byte line) (has_line_bytes lines) legal).0
-    here false = (and-parts (list_all is_mail_byte line) (has_line_bytes lines) legal).0
+    here : (test : Bool) → list_all is_eight_bit_byte (if test then 46 ∷ line else line) ≡ true
+    here true = (and-parts (list_all is_eight_bit_byte line) (has_line_bytes lines) legal).0
+    here false = (and-parts (list_all is_eight_bit_byte line) (has_line_bytes lines) legal).0
 
 data-bytes : (host : List ℕ) (letter : Letter) → IsWellFormed host letter → has_line_bytes (data_lines host letter) ≡ true
 data-bytes host letter formed =
-    let notice = line-bytes-dot_stuffed (notice_lines host letter) (has_line_bytes-legal (notice_lines host letter) (notice_lines-legal host letter formed)) in
-    rw (list_all-append (list_all is_mail_byte) (map dot_stuffed (notice_lines host letter)) (codes "." ∷ []), notice) refl
+    let notice = line-bytes-dot_stuffed (notice_lines host letter) (has_line_bytes-legal (notice_lines host letter) (notice_lines-eight_bit host letter formed)) in
+    rw (list_all-append (list_all is_eight_bit_byte) (map dot_stuffed (notice_lines host letter)) (codes "." ∷ []), notice) refl
+
+-- the bytes of the command MAIL
+mail-bytes : (eight : Bool) → list_all is_eight_bit_byte (codes "MAIL FROM:<>" ++ mail_parameter eight) ≡ true
+mail-bytes true = refl
+mail-bytes false = refl
 
 transaction-bytes : (host : List ℕ) (letter : Letter) → IsWellFormed host letter → has_line_bytes (transaction_lines host letter) ≡ true
 unfolding transaction_lines
 transaction-bytes host letter formed =
     let path = fit-append (fit-append (fit-known 9 (codes "RCPT TO:<") refl refl) (fit-path letter.draft.return_path formed.path_legal)) (fit-known 1 (codes ">") refl refl) in
-    rw (fit-mail path, data-bytes host letter formed) refl
+    rw (mail-bytes (is_eight_bit letter.draft), fit-eight_bit path, data-bytes host letter formed) refl
 
 -- the receiver gets the lines of the message from those of its data
 message_lines-data : (host : List ℕ) (letter : Letter) → text_of_lines (message_lines (data_lines host letter ++ [] ∷ [])) ≡ notice_of host letter
@@ -134,7 +140,7 @@ outbox-text host letters =
 transactions-bytes : (host : List ℕ) (letters : List Letter) → All (IsWellFormed host) letters → has_line_bytes (flat_map (transaction_lines host) letters) ≡ true
 transactions-bytes host [] formed = refl
 transactions-bytes host (letter ∷ letters) formed =
-    list_all-append (list_all is_mail_byte) (transaction_lines host letter) (flat_map (transaction_lines host) letters)
+    list_all-append (list_all is_eight_bit_byte) (transaction_lines host letter) (flat_map (transaction_lines host) letters)
     ∙ rw (
       transaction-bytes host letter (All-head (IsWellFormed host) letter letters formed),
       transactions-bytes host letters (All-tail (IsWellFormed host) letter letters formed),
@@ -144,7 +150,7 @@ outbox-bytes : (host : List ℕ) (letters : List Letter) → IsHost host → All
 outbox-bytes host letters legal formed =
     let hello = fit-append (fit-known 5 (codes "EHLO ") refl refl) (fit-plain (host-plain host legal)) in
     let session = flat_map (transaction_lines host) letters in
-    rw (fit-mail hello, list_all-append (list_all is_mail_byte) session (codes "QUIT" ∷ []), transactions-bytes host letters formed) refl
+    rw (fit-eight_bit hello, list_all-append (list_all is_eight_bit_byte) session (codes "QUIT" ∷ []), transactions-bytes host letters formed) refl
 
 notices-text : (host : List ℕ) (letters : List Letter) → map text_of_lines (map (notice_lines host) letters) ≡ map (notice_of host) letters
 unfolding notice_of

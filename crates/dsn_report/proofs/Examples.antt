@@ -1,5 +1,5 @@
 -- Worked examples of notices and outboxes, computed by the definitions.
-use Rattle.std.proofs.Common.{◌≡◌, ℕ, true, false, List, [], ◌∷◌, ◌++◌, map, refl}
+use Rattle.std.proofs.Common.{◌≡◌, ℕ, true, false, List, [], ◌∷◌, ◌++◌, map, refl, take}
 use Rattle.std.specs.Fmt.{digits}
 use Rattle.std.specs.Prelude.{codes, Option, Some, None, replicate}
 use Rattle.dsn_outcome.specs.Draft.{Draft}
@@ -8,10 +8,10 @@ use Rattle.dsn_outcome.specs.Outcome.{Outcome}
 use Rattle.dsn_text.specs.Extension.{lines_ended_by_lf}
 use Rattle.dsn_text.specs.Stamp.{date_text, civil_after}
 use Rattle.dsn_text.specs.declared.action.Action.TheVariants.{Failed, Delayed}
-use Rattle.dsn_outcome.specs.declared.returned.Returned.TheVariants.{Header, Message}
+use Rattle.dsn_outcome.specs.declared.returned.Returned.TheVariants.{Header, Message, EightBitMessage}
 use Rattle.dsn_outcome.specs.declared.wording.Wording.TheVariants.{ByService, ByOutcome}
 use Rattle.dsn_text.specs.declared.service.Service.TheVariants.{Bounce, Defer, Trace}
-use Rattle.dsn_report.specs.Boundary.{returned_lines, returns_message, stands_whole, header_lines, boundary_text, boundary_number, is_ruled_out, first_failing}
+use Rattle.dsn_report.specs.Boundary.{is_eight_bit, returned_lines, returns_message, stands_whole, header_lines, boundary_text, boundary_number, is_ruled_out, first_failing}
 use Rattle.dsn_report.specs.DeliveryStatus.{line_if_any, per_message_fields, per_recipient_fields, delivery_status}
 use Rattle.dsn_report.specs.Lines.{text_of_lines, dot_stuffed}
 use Rattle.dsn_report.specs.Notice.{notice_header, part_header, part_of, outcome_lines, recipient_told, explanation, guidance, notification, words_by, reply_lines, returned_part, lines_with_boundary, notice_lines, notice_of}
@@ -195,7 +195,7 @@ one_append_one_flush : outbox_of host (letter_with (to_ann None []) bob_fails �
     ++ codes "--B.A1B2C3.1700000000.0000--" ++ crlf
     ++ codes "." ++ crlf
     ++ codes "QUIT" ++ crlf
-unfolding outbox_of greeting goodbye mail_transaction transaction_lines notice_lines lines_with_boundary notice_header part_header part_of notification recipient_told guidance explanation outcome_lines returned_part delivery_status per_message_fields per_recipient_fields line_if_any lines_ended_by_lf text_of_lines dot_stuffed boundary_text boundary_number is_ruled_out first_failing returned_lines returns_message header_lines digits
+unfolding outbox_of greeting goodbye mail_transaction transaction_lines notice_lines lines_with_boundary notice_header part_header part_of notification recipient_told guidance explanation outcome_lines returned_part delivery_status per_message_fields per_recipient_fields line_if_any lines_ended_by_lf text_of_lines dot_stuffed boundary_text boundary_number is_ruled_out first_failing is_eight_bit returned_lines returns_message header_lines digits
 one_append_one_flush = rw (flushed_at, arrived_at) refl
 
 abbrev bob_fails_with_all : Outcome
@@ -255,7 +255,7 @@ all_optional_fields : notice_of host (letter_with (to_ann (Some (codes "QQ314159
     ++ codes "X: y" ++ crlf
     ++ crlf
     ++ codes "--B.A1B2C3.1700000000.0000--" ++ crlf
-unfolding notice_of notice_lines lines_with_boundary notice_header part_header part_of notification recipient_told guidance explanation outcome_lines returned_part delivery_status per_message_fields per_recipient_fields line_if_any lines_ended_by_lf text_of_lines boundary_text boundary_number is_ruled_out first_failing returned_lines returns_message header_lines digits
+unfolding notice_of notice_lines lines_with_boundary notice_header part_header part_of notification recipient_told guidance explanation outcome_lines returned_part delivery_status per_message_fields per_recipient_fields line_if_any lines_ended_by_lf text_of_lines boundary_text boundary_number is_ruled_out first_failing is_eight_bit returned_lines returns_message header_lines digits
 all_optional_fields = rw (flushed_at, arrived_at) refl
 
 -- a returned line begins with the delimiter of number 0: the boundary has number 1, and the body isn't returned
@@ -346,7 +346,7 @@ unfolding boundary_number first_failing is_ruled_out returned_lines returns_mess
 body_of_header_rules_nothing_out = refl
 
 -- the part of the notice with this message
-message_part : returned_part (codes "B") (words_by ByService Bounce true).message (codes "message/rfc822") (returned_lines (message_of_ann colliding_message)) ≡
+message_part : returned_part (codes "B") (words_by ByService Bounce true).message (codes "message/rfc822") (is_eight_bit (message_of_ann colliding_message)) (returned_lines (message_of_ann colliding_message)) ≡
     codes "--B"
     ∷ codes "Content-Description: Undelivered Message"
     ∷ codes "Content-Type: message/rfc822"
@@ -356,8 +356,86 @@ message_part : returned_part (codes "B") (words_by ByService Bounce true).messag
     ∷ codes "--B.A1B2C3.1700000000.0000--"
     ∷ []
     ∷ []
-unfolding returned_part part_of part_header returned_lines returns_message stands_whole
+unfolding returned_part part_of part_header is_eight_bit returned_lines returns_message stands_whole
 message_part = refl
+
+-- ---- messages in 8bit mails
+
+abbrev eight_bit_message_of_ann : List ℕ → Draft
+eight_bit_message_of_ann message = record (to_ann None message) { returned = EightBitMessage }
+
+-- a message in ISO 8859-1, with a byte of 255 and an escape
+abbrev french : List ℕ
+french = codes "Subject: hi" ++ crlf ++ crlf ++ 233 ∷ 27 ∷ 255 ∷ lf
+
+french_whole : returned_lines (eight_bit_message_of_ann french) ≡ codes "Subject: hi" ∷ [] ∷ (233 ∷ 27 ∷ 255 ∷ []) ∷ []
+unfolding returned_lines returns_message stands_whole
+french_whole = refl
+
+-- its notice is an 8bit mail, which its header, the part and the command MAIL say
+french_header : notice_header host (letter_with (eight_bit_message_of_ann french) bob_fails) (codes "B") ≡
+    codes "From: Mail Delivery System <MAILER-DAEMON@mx.example.net>"
+    ∷ codes "To: <ann@example.com>"
+    ∷ codes "Subject: Undelivered Mail Returned to Sender"
+    ∷ codes "Date: Tue, 14 Nov 2023 22:13:20 +0000"
+    ∷ codes "Message-ID: <B.A1B2C3.1700000000.0@mx.example.net>"
+    ∷ codes "Auto-Submitted: auto-replied"
+    ∷ codes "MIME-Version: 1.0"
+    ∷ codes "Content-Type: multipart/report; report-type=delivery-status;"
+    ∷ codes " boundary=\"B\""
+    ∷ codes "Content-Transfer-Encoding: 8bit"
+    ∷ []
+unfolding notice_header is_eight_bit returned_lines returns_message stands_whole digits
+french_header = rw flushed_at refl
+
+french_part : returned_part (codes "B") (words_by ByService Bounce true).message (codes "message/rfc822") (is_eight_bit (eight_bit_message_of_ann french)) (returned_lines (eight_bit_message_of_ann french)) ≡
+    codes "--B"
+    ∷ codes "Content-Description: Undelivered Message"
+    ∷ codes "Content-Type: message/rfc822"
+    ∷ codes "Content-Transfer-Encoding: 8bit"
+    ∷ []
+    ∷ codes "Subject: hi"
+    ∷ []
+    ∷ (233 ∷ 27 ∷ 255 ∷ [])
+    ∷ []
+    ∷ []
+unfolding returned_part part_of part_header is_eight_bit returned_lines returns_message stands_whole
+french_part = refl
+
+french_mail : take 2 (transaction_lines host (letter_with (eight_bit_message_of_ann french) bob_fails)) ≡ codes "MAIL FROM:<> BODY=8BITMIME" ∷ codes "RCPT TO:<ann@example.com>" ∷ []
+unfolding transaction_lines is_eight_bit returned_lines returns_message stands_whole
+french_mail = refl
+
+-- a message that is 7bit is returned in a 7bit mail
+seven_bit_whole : returned_lines (eight_bit_message_of_ann colliding_message) ≡ returned_lines (message_of_ann colliding_message)
+unfolding returned_lines returns_message stands_whole
+seven_bit_whole = refl
+
+seven_bit_mail : take 1 (transaction_lines host (letter_with (eight_bit_message_of_ann colliding_message) bob_fails)) ≡ codes "MAIL FROM:<>" ∷ []
+unfolding transaction_lines is_eight_bit returned_lines returns_message stands_whole
+seven_bit_mail = refl
+
+-- if a line is too long, or has a NUL or a CR of its own, the header is returned, and cleaned
+long_eight_bit_line : returned_lines (eight_bit_message_of_ann (codes "Subject: " ++ 233 ∷ lf ++ lf ++ replicate 999 233)) ≡ codes "Subject: ?" ∷ []
+unfolding returned_lines returns_message stands_whole header_lines
+long_eight_bit_line = refl
+
+longest_eight_bit_line : returned_lines (eight_bit_message_of_ann (replicate 998 233)) ≡ replicate 998 233 ∷ []
+unfolding returned_lines returns_message stands_whole
+longest_eight_bit_line = refl
+
+nul_in_eight_bits : returned_lines (eight_bit_message_of_ann (codes "Subject: " ++ 233 ∷ lf ++ lf ++ 0 ∷ lf)) ≡ codes "Subject: ?" ∷ []
+unfolding returned_lines returns_message stands_whole header_lines
+nul_in_eight_bits = refl
+
+carriage_return_in_eight_bits : returned_lines (eight_bit_message_of_ann (codes "Subject: " ++ 233 ∷ lf ++ lf ++ codes "a" ++ 13 ∷ codes "b" ++ lf)) ≡ codes "Subject: ?" ∷ []
+unfolding returned_lines returns_message stands_whole header_lines
+carriage_return_in_eight_bits = refl
+
+-- the notice of a header is a 7bit mail
+nul_mail : take 1 (transaction_lines host (letter_with (eight_bit_message_of_ann (codes "Subject: " ++ 233 ∷ lf ++ lf ++ 0 ∷ lf)) bob_fails)) ≡ codes "MAIL FROM:<>" ∷ []
+unfolding transaction_lines is_eight_bit returned_lines returns_message stands_whole header_lines
+nul_mail = refl
 
 -- ---- words
 

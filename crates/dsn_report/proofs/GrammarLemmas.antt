@@ -18,7 +18,7 @@ use Rattle.dsn_text.specs.Text.{is_printable, is_address, is_mta_name, is_remark
 use Rattle.dsn_report.proofs.DateText.{shown-append, shown-date}
 use Rattle.dsn_report.proofs.DivisionLemmas.{division_law}
 use Rattle.dsn_report.proofs.ExtensionLemmas.{all-extensions, choice-extensions, extension_field, extension-first, extension_lines-pass, extensions-laid, none-of-extensions, plain-extensions}
-use Rattle.dsn_report.proofs.LinesLemmas.{delivery_status-legal}
+use Rattle.dsn_report.proofs.LinesLemmas.{delivery_status-eight_bit}
 use Rattle.dsn_report.proofs.PieceLemmas.{has_line_bytes-legal, pieces-lines}
 use Rattle.dsn_report.proofs.PlainLemmas.{and-parts, address-plain, mta-plain, remark-plain, type_name-plain, envelope_id-plain, status-plain, host-plain}
 use Rattle.dsn_text.specs.Stamp.{date_text, is_moment, last_moment}
@@ -415,8 +415,8 @@ status-found : (host : List ℕ) (letter : Letter) → IsWellFormed host letter
     → delivery_status_in (multipart_of (boundary_of letter) (notice_of host letter)) ≡ Some (delivery_status host letter ++ [] ∷ [])
 unfolding notice_parts part_lines message_body
 status-found host letter formed =
-    let lines = part_lines (codes "Delivery report") (codes "message/delivery-status") (delivery_status host letter) in
-    let legal = has_line_bytes-legal (delivery_status host letter) (delivery_status-legal host letter formed) in
+    let lines = part_lines (codes "Delivery report") (codes "message/delivery-status") false (delivery_status host letter) in
+    let legal = has_line_bytes-legal (delivery_status host letter) (delivery_status-eight_bit host letter formed) in
     ap delivery_status_in (division_law host letter formed)
     ∙ ap (λ pieces. Some (message_body pieces)) (pieces-lines lines legal)
 

@@ -1,6 +1,6 @@
 -- The lines of a header, one at a time.
 use Rattle.std.proofs.Common.{min, ◌≡◌, ℕ, suc, ◌+◌, ◌<◌, ◌≤◌, Bool, true, false, not, List, [], ◌∷◌, ◌++◌, length, take, drop, get_or, map, refl, sym, ap, subst, ◌∙◌, cond, arith, if◌then◌else◌}
-use Rattle.std.specs.Prelude.{◌==◌}
+use Rattle.std.specs.Prelude.{◌==◌, nat_le}
 use Rattle.std.specs.List.{All, list_all, onto_first, slice_split, before_first, prefix_len}
 use Rattle.std.specs.Str.Lines.{lines, lines_of_parts, strip_carriage_return}
 use Rattle.std.proofs.lemmas.Bool.{false_from_ne_true, false≢true, and_parts, leb-true}
@@ -9,8 +9,8 @@ use Rattle.std.proofs.lemmas.List.Splits.{slice_split_at, slice_split_none}
 use Rattle.std.proofs.Math.Seq.{drop-cons, take-length}
 use Rattle.bstr.specs.Find.{Nowhere, Passes, is_byte}
 use Rattle.dsn_outcome.specs.Draft.{Draft}
-use Rattle.dsn_report.specs.Boundary.{header_lines, is_message, returned_lines, returns_message, shown_line, stands_whole}
-use Rattle.dsn_report.specs.LegalLines.{is_mail_byte, is_mail_line}
+use Rattle.dsn_report.specs.Boundary.{header_lines, is_message, may_be_eight_bit, returned_lines, returns_message, shown_line, stands_whole}
+use Rattle.dsn_report.specs.LegalLines.{is_eight_bit_byte, is_line_of, is_mail_byte}
 use Rattle.dsn_report.specs.Notice.{part_of, returned_part}
 use Rattle.dsn_report.specs.inner.NoticeLines.{byte_shown, line_shown, lines_shown}
 
@@ -101,16 +101,18 @@ bytes-kept : (line : List ℕ) → map (byte_shown true) line ≡ line
 bytes-kept [] = refl
 bytes-kept (byte ∷ line) = rw (bytes-kept line) refl
 
-line-kept : (line : List ℕ) → is_mail_line line ≡ true → line_shown true line ≡ line
-line-kept line legal =
-    let short : length line ≤ 998 = leb-true (length line) 998 (and_parts _ (list_all is_mail_byte line) legal).0 in
-    ap (take 998) (bytes-kept line) ∙ take_all 998 line short
+line-kept : (eight : Bool) (line : List ℕ) → is_line_of eight line ≡ true → line_shown true line ≡ line
+line-kept eight line legal = ap (take 998) (bytes-kept line) ∙ take_all 998 line (leb-true (length line) 998 (short eight legal))
+  where
+    short : (eight : Bool) → is_line_of eight line ≡ true → nat_le (length line) 998 ≡ true
+    short true legal = (and_parts (nat_le (length line) 998) (list_all is_eight_bit_byte line) legal).0
+    short false legal = (and_parts (nat_le (length line) 998) (list_all is_mail_byte line) legal).0
 
-lines-kept : (ls : List (List ℕ)) → list_all is_mail_line ls ≡ true → map (line_shown true) ls ≡ ls
-lines-kept [] legal = refl
-lines-kept (line ∷ ls) legal =
-    let parts = and_parts (is_mail_line line) (list_all is_mail_line ls) legal in
-    rw (line-kept line parts.0, lines-kept ls parts.1) refl
+lines-kept : (eight : Bool) (ls : List (List ℕ)) → list_all (is_line_of eight) ls ≡ true → map (line_shown true) ls ≡ ls
+lines-kept eight [] legal = refl
+lines-kept eight (line ∷ ls) legal =
+    let parts = and_parts (is_line_of eight line) (list_all (is_line_of eight) ls) legal in
+    rw (line-kept eight line parts.0, lines-kept eight ls parts.1) refl
 
 -- whether any lines are shown
 one-or-none : (f : List ℕ → List ℕ) (empty : Bool) (line : List ℕ) (ls : List (List ℕ)) → (length (map f (if empty then [] else line ∷ ls)) == 0) ≡ empty
@@ -129,18 +131,18 @@ unfolding returned_lines returns_message stands_whole
 shown-returned draft = here (returns_message draft) refl
   where
     here : (whole : Bool) → returns_message draft ≡ whole → lines_shown whole draft.header ≡ (if whole then lines draft.header else map shown_line (header_lines draft.header))
-    here true is = lines-kept (lines draft.header) (and_parts (is_message draft.returned) _ is).1
+    here true is = lines-kept (may_be_eight_bit draft.returned) (lines draft.header) (and_parts (is_message draft.returned) _ is).1
     here false is = refl
 
 -- if there are no lines, there is no returned part
-pub returned_part-none : (boundary description content_type : List ℕ) (ls : List (List ℕ)) → (length ls == 0) ≡ true → returned_part boundary description content_type ls ≡ []
+pub returned_part-none : (boundary description content_type : List ℕ) (eight : Bool) (ls : List (List ℕ)) → (length ls == 0) ≡ true → returned_part boundary description content_type eight ls ≡ []
 unfolding returned_part
-returned_part-none boundary description content_type [] empty = refl
-returned_part-none boundary description content_type (line ∷ ls) empty = absurd (false≢true (sym (not-none (length ls)) ∙ empty))
+returned_part-none boundary description content_type eight [] empty = refl
+returned_part-none boundary description content_type eight (line ∷ ls) empty = absurd (false≢true (sym (not-none (length ls)) ∙ empty))
 
 -- if there are lines, there is a returned part
-pub returned_part-some : (boundary description content_type : List ℕ) (ls : List (List ℕ)) → (length ls == 0) ≡ false
-    → returned_part boundary description content_type ls ≡ part_of boundary description content_type ls
+pub returned_part-some : (boundary description content_type : List ℕ) (eight : Bool) (ls : List (List ℕ)) → (length ls == 0) ≡ false
+    → returned_part boundary description content_type eight ls ≡ part_of boundary description content_type eight ls
 unfolding returned_part
-returned_part-some boundary description content_type [] some = absurd cc
-returned_part-some boundary description content_type (line ∷ ls) some = refl
+returned_part-some boundary description content_type eight [] some = absurd cc
+returned_part-some boundary description content_type eight (line ∷ ls) some = refl

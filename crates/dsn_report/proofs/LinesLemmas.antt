@@ -1,7 +1,7 @@
 -- Each line of a notice is legal.
 use Rattle.std.proofs.Common.{◌≡◌, ℕ, zero, suc, ◌+◌, ◌-◌, ◌/◌, ◌%◌, ◌^◌, ◌<◌, ◌≤◌, Bool, true, false, ◌||◌, ◌&&◌, List, [], ◌∷◌, ◌++◌, Option, Some, None, length, take, drop, map, get_or, codes, refl, sym, subst, ◌∙◌, arith, inl, inr, if◌then◌else◌, length-append}
-use Rattle.std.specs.Prelude.{nat_eq, nat_le, ◌==◌, All, decimal, unwrap_or, option_map}
-use Rattle.std.specs.List.{list_all, flat_map}
+use Rattle.std.specs.Prelude.{nat_eq, nat_le, nat_lt, not, ◌==◌, All, decimal, unwrap_or, option_map}
+use Rattle.std.specs.List.{list_all, list_any, flat_map}
 use Rattle.std.specs.Str.Lines.{lines}
 use lib.Pointwise.{pointwise}
 use Rattle.std.proofs.lemmas.Bool.{le-leb, leb-true, false≢true}
@@ -31,13 +31,13 @@ use Rattle.dsn_text.specs.Text.{is_printable, is_address, is_queue_id, is_mta_na
 use Rattle.dsn_report.proofs.DateText.{printable-between, shown-date}
 use Rattle.dsn_report.specs.WellFormed.{IsWellFormed}
 use Rattle.dsn_report.specs.PlainWords.{is_for, meaning_of, other_words, status_table, status_words, words_for}
-use Rattle.dsn_report.specs.Notice.{explanation, guidance, has_text, reply_beside, reply_lines, speaker, notice_header, origin_if_other, origin_told, recipient_told, returned_description, returned_type, words_by, part_header, part_of, outcome_lines, notification, returned_part, lines_with_boundary, notice_lines, notice_of}
+use Rattle.dsn_report.specs.Notice.{encoding_lines, explanation, guidance, has_text, reply_beside, reply_lines, speaker, notice_header, origin_if_other, origin_told, recipient_told, returned_description, returned_type, words_by, part_header, part_of, outcome_lines, notification, returned_part, lines_with_boundary, notice_lines, notice_of}
 use Rattle.dsn_report.specs.DeliveryStatus.{line_if_any, per_message_fields, per_recipient_fields, recipient_group, delivery_status, typed, usual_address_type, usual_diagnostic_type}
 use Rattle.dsn_report.proofs.ExtensionLemmas.{extension-laid, extension-name_plain, extension-value_plain, extension_lines-pass}
 use Rattle.dsn_report.proofs.BoundaryLaw.{boundary_number-few}
 use Rattle.dsn_report.proofs.PlainLemmas.{IsPlain, and-parts, or-parts, address-plain, mta-plain, envelope_id-plain, remark-plain, type_name-plain, id-plain, host-plain, status-plain}
-use Rattle.dsn_report.specs.Boundary.{letter_name, boundary_of, boundary_number, boundary_text, four_digits, shown_byte, shown_line, returned_lines, returns_message, stands_whole, header_lines, is_message}
-use Rattle.dsn_report.specs.LegalLines.{HasLegalLines, is_among, is_line_byte, is_legal_line, is_mail_byte, is_mail_line}
+use Rattle.dsn_report.specs.Boundary.{letter_name, boundary_of, boundary_number, boundary_text, four_digits, shown_byte, shown_line, is_eight_bit, may_be_eight_bit, returned_lines, returns_message, stands_whole, header_lines, is_message}
+use Rattle.dsn_report.specs.LegalLines.{HasLegalLines, has_high_byte, is_among, is_eight_bit_byte, is_eight_bit_line, is_line_byte, is_legal_line, is_line_of, is_mail_byte, is_mail_line}
 
 -- a text has at most the given number of bytes, and a line may hold each of them
 pub record IsFit (most : ℕ) (text : List ℕ) : Type 0 where
@@ -111,19 +111,54 @@ mail-byte byte legal = elim (or-parts (is_printable byte) (byte == 9) legal) [
   ]
 ]
 
+-- a byte of an 8bit mail is one of a 7bit mail unless it is above 127
+mail-or-high : (byte : ℕ) → is_mail_byte byte ≡ (is_eight_bit_byte byte && not (nat_lt 127 byte))
+mail-or-high byte = grind (arith, nat_tests)
+
+and-not-or : (a b c d : Bool) → ((a && not b) && (c && not d)) ≡ ((a && c) && not (b || d))
+and-not-or true true true d = refl
+and-not-or true true false d = refl
+and-not-or true false c d = refl
+and-not-or false b c d = refl
+
+mail-bytes-or-high : (text : List ℕ) → list_all is_mail_byte text ≡ (list_all is_eight_bit_byte text && not (has_high_byte text))
+mail-bytes-or-high [] = refl
+mail-bytes-or-high (byte ∷ text) =
+    rw (mail-or-high byte, mail-bytes-or-high text) (and-not-or (is_eight_bit_byte byte) (nat_lt 127 byte) (list_all is_eight_bit_byte text) (has_high_byte text))
+
+-- a line of an 8bit mail is one of a 7bit mail unless it has a byte above 127
+mail-line-or-high : (line : List ℕ) → is_mail_line line ≡ (is_eight_bit_line line && not (has_high_byte line))
+mail-line-or-high line = rw (mail-bytes-or-high line) (here (nat_le (length line) 998))
+  where
+    here : (short : Bool) → (short && (list_all is_eight_bit_byte line && not (has_high_byte line))) ≡ ((short && list_all is_eight_bit_byte line) && not (has_high_byte line))
+    here true = refl
+    here false = refl
+
+mail-lines-or-high : (all : List (List ℕ)) → list_all is_mail_line all ≡ (list_all is_eight_bit_line all && not (list_any has_high_byte all))
+mail-lines-or-high [] = refl
+mail-lines-or-high (line ∷ all) =
+    rw (mail-line-or-high line, mail-lines-or-high all) (and-not-or (is_eight_bit_line line) (has_high_byte line) (list_all is_eight_bit_line all) (list_any has_high_byte all))
+
 mail-bytes : (text : List ℕ) → list_all is_line_byte text ≡ true → list_all is_mail_byte text ≡ true
 mail-bytes [] legal = refl
 mail-bytes (byte ∷ text) legal =
     let parts = and-parts (is_line_byte byte) (list_all is_line_byte text) legal in
     rw (mail-byte byte parts.0, mail-bytes text parts.1) refl
 
-pub fit-mail : {most : ℕ} {text : List ℕ} → IsFit most text → list_all is_mail_byte text ≡ true
-fit-mail {most} {text} p = mail-bytes text p.legal
+pub fit-eight_bit : {most : ℕ} {text : List ℕ} → IsFit most text → list_all is_eight_bit_byte text ≡ true
+fit-eight_bit {most} {text} p = (and-parts (list_all is_eight_bit_byte text) (not (has_high_byte text)) (sym (mail-bytes-or-high text) ∙ mail-bytes text p.legal)).0
 
 mail-line : (line : List ℕ) → is_legal_line line ≡ true → is_mail_line line ≡ true
 mail-line line legal =
     let parts = and-parts (nat_le (length line) 998) (list_all is_line_byte line) legal in
     rw (parts.0, mail-bytes line parts.1) refl
+
+-- each line of a 7bit mail can be in an 8bit mail
+eight_bit-line : (line : List ℕ) → is_mail_line line ≡ true → is_eight_bit_line line ≡ true
+eight_bit-line line legal = (and-parts (is_eight_bit_line line) (not (has_high_byte line)) (sym (mail-line-or-high line) ∙ legal)).0
+
+eight_bit-lines : (lines : List (List ℕ)) → list_all is_mail_line lines ≡ true → list_all is_eight_bit_line lines ≡ true
+eight_bit-lines lines legal = (and-parts (list_all is_eight_bit_line lines) (not (list_any has_high_byte lines)) (sym (mail-lines-or-high lines) ∙ legal)).0
 
 mail-lines : (lines : List (List ℕ)) → list_all is_legal_line lines ≡ true → list_all is_mail_line lines ≡ true
 mail-lines [] legal = refl
@@ -131,14 +166,65 @@ mail-lines (line ∷ lines) legal =
     let parts = and-parts (is_legal_line line) (list_all is_legal_line lines) legal in
     rw (mail-line line parts.0, mail-lines lines parts.1) refl
 
--- the returned lines of a header or of a message can be in a mail
-returned-mail : (draft : Draft) → list_all is_mail_line (returned_lines draft) ≡ true
+-- no line of a 7bit mail has a byte above 127
+none-high : (lines : List (List ℕ)) → list_all is_mail_line lines ≡ true → list_any has_high_byte lines ≡ false
+none-high lines legal =
+    not-true (list_any has_high_byte lines) (and-parts (list_all is_eight_bit_line lines) (not (list_any has_high_byte lines)) (sym (mail-lines-or-high lines) ∙ legal)).1
+  where
+    not-true : (high : Bool) → not high ≡ true → high ≡ false
+    not-true true e = sym e
+    not-true false e = refl
+
+-- the returned lines of a header or of a message can be in the mail that the notice may be
+returned-mail : (draft : Draft) → list_all (is_line_of (may_be_eight_bit draft.returned)) (returned_lines draft) ≡ true
 unfolding returned_lines returns_message stands_whole
 returned-mail draft = here (returns_message draft) refl
   where
-    here : (whole : Bool) → returns_message draft ≡ whole → list_all is_mail_line (if whole then lines draft.header else map shown_line (header_lines draft.header)) ≡ true
-    here true is = (and-parts (is_message draft.returned) (list_all is_mail_line (lines draft.header)) is).1
-    here false is = mail-lines (map shown_line (header_lines draft.header)) (shown-legal-lines (header_lines draft.header))
+    seven : list_all is_mail_line (map shown_line (header_lines draft.header)) ≡ true
+    seven = mail-lines (map shown_line (header_lines draft.header)) (shown-legal-lines (header_lines draft.header))
+
+    header : (eight : Bool) → list_all (is_line_of eight) (map shown_line (header_lines draft.header)) ≡ true
+    header true = eight_bit-lines (map shown_line (header_lines draft.header)) seven
+    header false = seven
+
+    here : (whole : Bool) → returns_message draft ≡ whole → list_all (is_line_of (may_be_eight_bit draft.returned)) (if whole then lines draft.header else map shown_line (header_lines draft.header)) ≡ true
+    here true is = (and-parts (is_message draft.returned) (list_all (is_line_of (may_be_eight_bit draft.returned)) (lines draft.header)) is).1
+    here false is = header (may_be_eight_bit draft.returned)
+
+returned-eight_bit : (draft : Draft) → list_all is_eight_bit_line (returned_lines draft) ≡ true
+returned-eight_bit draft = here (may_be_eight_bit draft.returned) (returned-mail draft)
+  where
+    here : (eight : Bool) → list_all (is_line_of eight) (returned_lines draft) ≡ true → list_all is_eight_bit_line (returned_lines draft) ≡ true
+    here true legal = legal
+    here false legal = eight_bit-lines (returned_lines draft) legal
+
+-- the returned lines can be in the mail that the notice is
+returned-own : (draft : Draft) → list_all (is_line_of (is_eight_bit draft)) (returned_lines draft) ≡ true
+unfolding is_eight_bit
+returned-own draft = here (list_any has_high_byte (returned_lines draft)) refl
+  where
+    here : (high : Bool) → list_any has_high_byte (returned_lines draft) ≡ high → list_all (is_line_of high) (returned_lines draft) ≡ true
+    here true is = returned-eight_bit draft
+    here false is = mail-lines-or-high (returned_lines draft) ∙ rw (is, returned-eight_bit draft) refl
+
+-- a notice that may not be an 8bit mail isn't one
+pub seven_bit-only : (draft : Draft) → may_be_eight_bit draft.returned ≡ false → is_eight_bit draft ≡ false
+unfolding is_eight_bit
+seven_bit-only draft only = none-high (returned_lines draft) (subst (λ eight. list_all (is_line_of eight) (returned_lines draft) ≡ true) only (returned-mail draft))
+
+-- a notice that returns a header isn't an 8bit mail
+header-only : (draft : Draft) → returns_message draft ≡ false → is_eight_bit draft ≡ false
+unfolding is_eight_bit
+header-only draft header = none-high (returned_lines draft) (mail-lines (returned_lines draft) (header-returned-legal draft header))
+
+-- a notice that returns a message is an 8bit mail if the message has a byte above 127
+message-high : (draft : Draft) → returns_message draft ≡ true → is_eight_bit draft ≡ list_any has_high_byte (lines draft.header)
+unfolding is_eight_bit returned_lines
+message-high draft whole = rw whole refl
+
+pub whole-and-high : (draft : Draft) (whole : Bool) → whole ≡ returns_message draft → (whole && list_any has_high_byte (lines draft.header)) ≡ is_eight_bit draft
+whole-and-high draft true is = sym (message-high draft (sym is))
+whole-and-high draft false is = sym (header-only draft (sym is))
 
 -- a line is equal to itself
 same-self : (line : List ℕ) → pointwise nat_eq line line ≡ true
@@ -387,6 +473,10 @@ module _ (ok : List ℕ → Bool) (sure : (line : List ℕ) → is_legal_line li
   fit-own : IsFit 60 (boundary_of letter)
   fit-own = fit-boundary letter (boundary_number letter) formed.id_legal formed.moment_dated (boundary_number-few letter)
 
+  legal-encoding : (eight : Bool) → AreLegal ok (encoding_lines eight)
+  legal-encoding true = legal-cons (fit-known 80 (codes "Content-Transfer-Encoding: 8bit") refl refl) (omega arith) legal-none
+  legal-encoding false = legal-none
+
   header-legal : AreLegal ok (notice_header host letter (boundary_of letter))
   unfolding notice_header
   header-legal =
@@ -398,16 +488,16 @@ module _ (ok : List ℕ → Bool) (sure : (line : List ℕ) → is_legal_line li
       (legal-cons (fit-known 80 (codes "Auto-Submitted: auto-replied") refl refl) (omega arith)
       (legal-cons (fit-known 80 (codes "MIME-Version: 1.0") refl refl) (omega arith)
       (legal-cons (fit-known 80 (codes "Content-Type: multipart/report; report-type=delivery-status;") refl refl) (omega arith)
-      (legal-cons (fit-append (fit-append (fit-known 11 (codes " boundary=\"") refl refl) fit-own) (fit-known 1 (codes "\"") refl refl)) (omega arith) legal-none))))))))
+      (legal-cons (fit-append (fit-append (fit-known 11 (codes " boundary=\"") refl refl) fit-own) (fit-known 1 (codes "\"") refl refl)) (omega arith) (legal-encoding (is_eight_bit letter.draft))))))))))
 
-  part-legal : (description content_type : List ℕ) (body : List (List ℕ)) → IsFit 50 description → IsFit 50 content_type → AreLegal ok body
-      → AreLegal ok (part_of (boundary_of letter) description content_type body)
+  part-legal : (description content_type : List ℕ) (eight : Bool) (body : List (List ℕ)) → IsFit 50 description → IsFit 50 content_type → AreLegal ok body
+      → AreLegal ok (part_of (boundary_of letter) description content_type eight body)
   unfolding part_of part_header
-  part-legal description content_type body d t legal =
+  part-legal description content_type eight body d t legal =
       legal-append
       (legal-cons (fit-append (fit-known 2 (codes "--") refl refl) fit-own) (omega arith)
       (legal-cons (fit-append (fit-known 30 (codes "Content-Description: ") refl refl) d) (omega arith)
-      (legal-cons (fit-append (fit-known 30 (codes "Content-Type: ") refl refl) t) (omega arith) (legal-empty legal))))
+      (legal-cons (fit-append (fit-known 30 (codes "Content-Type: ") refl refl) t) (omega arith) (legal-append (legal-append (legal-encoding eight) (legal-empty legal-none)) legal))))
       (legal-empty legal-none)
 
   reason-legal : (outcome : Outcome) → IsLegalOutcome outcome → AreLegal ok (line_if_any (codes "    ") outcome.reason)
@@ -484,11 +574,11 @@ module _ (ok : List ℕ → Bool) (sure : (line : List ℕ) → is_legal_line li
       (legal-extensions (lines_ended_by_lf letter.draft.extensions) (extension_lines-pass letter.draft.extensions formed.extensions_legal)))))
       (legal-flat_map recipient_group letter.outcomes formed.outcomes_legal group-legal)
 
-  returned-part-legal : (description content_type : List ℕ) (lines : List (List ℕ)) → IsFit 50 description → IsFit 50 content_type → AreLegal ok lines
-      → AreLegal ok (returned_part (boundary_of letter) description content_type lines)
+  returned-part-legal : (description content_type : List ℕ) (eight : Bool) (lines : List (List ℕ)) → IsFit 50 description → IsFit 50 content_type → AreLegal ok lines
+      → AreLegal ok (returned_part (boundary_of letter) description content_type eight lines)
   unfolding returned_part
-  returned-part-legal description content_type [] d t e = legal-none
-  returned-part-legal description content_type (line ∷ lines) d t e = part-legal description content_type (line ∷ lines) d t e
+  returned-part-legal description content_type eight [] d t e = legal-none
+  returned-part-legal description content_type eight (line ∷ lines) d t e = part-legal description content_type eight (line ∷ lines) d t e
 
   notice-legal : list_all ok (returned_lines letter.draft) ≡ true → AreLegal ok (notice_lines host letter)
   unfolding notice_lines lines_with_boundary
@@ -498,16 +588,25 @@ module _ (ok : List ℕ → Bool) (sure : (line : List ℕ) → is_legal_line li
       (legal-append
       (legal-append
       (legal-append header-legal (legal-empty legal-none))
-      (part-legal (codes "Notification") (codes "text/plain; charset=us-ascii") (notification host letter) (fit-known 50 (codes "Notification") refl refl) (fit-known 50 (codes "text/plain; charset=us-ascii") refl refl) notification-legal))
-      (part-legal (codes "Delivery report") (codes "message/delivery-status") (delivery_status host letter) (fit-known 50 (codes "Delivery report") refl refl) (fit-known 50 (codes "message/delivery-status") refl refl) status-legal))
-      (returned-part-legal _ _ (returned_lines letter.draft) (fit-description letter.draft.wording letter.key.service _ (returns_message letter.draft)) (fit-returned-type (returns_message letter.draft)) (record { all = returned })))
+      (part-legal (codes "Notification") (codes "text/plain; charset=us-ascii") false (notification host letter) (fit-known 50 (codes "Notification") refl refl) (fit-known 50 (codes "text/plain; charset=us-ascii") refl refl) notification-legal))
+      (part-legal (codes "Delivery report") (codes "message/delivery-status") false (delivery_status host letter) (fit-known 50 (codes "Delivery report") refl refl) (fit-known 50 (codes "message/delivery-status") refl refl) status-legal))
+      (returned-part-legal _ _ (is_eight_bit letter.draft) (returned_lines letter.draft) (fit-description letter.draft.wording letter.key.service _ (returns_message letter.draft)) (fit-returned-type (returns_message letter.draft)) (record { all = returned })))
       (legal-cons (fit-append (fit-append (fit-known 2 (codes "--") refl refl) fit-own) (fit-known 2 (codes "--") refl refl)) (omega arith) legal-none)
 
-pub notice_lines-legal : (host : List ℕ) (letter : Letter) → IsWellFormed host letter → list_all is_mail_line (notice_lines host letter) ≡ true
-notice_lines-legal host letter formed = (notice-legal is_mail_line mail-line host letter formed (returned-mail letter.draft)).all
+-- a line of a header or for people can be in a mail of either kind
+sure-line : (eight : Bool) (line : List ℕ) → is_legal_line line ≡ true → is_line_of eight line ≡ true
+sure-line true line legal = eight_bit-line line (mail-line line legal)
+sure-line false line legal = mail-line line legal
 
-pub delivery_status-legal : (host : List ℕ) (letter : Letter) → IsWellFormed host letter → list_all is_mail_line (delivery_status host letter) ≡ true
-delivery_status-legal host letter formed = (status-legal is_mail_line mail-line host letter formed).all
+notice_lines-legal : (host : List ℕ) (letter : Letter) → IsWellFormed host letter → list_all (is_line_of (is_eight_bit letter.draft)) (notice_lines host letter) ≡ true
+notice_lines-legal host letter formed =
+    (notice-legal (is_line_of (is_eight_bit letter.draft)) (sure-line (is_eight_bit letter.draft)) host letter formed (returned-own letter.draft)).all
+
+pub notice_lines-eight_bit : (host : List ℕ) (letter : Letter) → IsWellFormed host letter → list_all is_eight_bit_line (notice_lines host letter) ≡ true
+notice_lines-eight_bit host letter formed = (notice-legal is_eight_bit_line (sure-line true) host letter formed (returned-eight_bit letter.draft)).all
+
+pub delivery_status-eight_bit : (host : List ℕ) (letter : Letter) → IsWellFormed host letter → list_all is_eight_bit_line (delivery_status host letter) ≡ true
+delivery_status-eight_bit host letter formed = (status-legal is_eight_bit_line (sure-line true) host letter formed).all
 
 -- each line is of tabs and printable bytes, or is a returned line
 legal-or : (line : List ℕ) (other : Bool) → is_legal_line line ≡ true → (is_legal_line line || other) ≡ true
@@ -519,7 +618,7 @@ notice_lines-plain host letter formed =
     let ok = λ (line : List ℕ). is_legal_line line || is_among returned line in
     (notice-legal ok (λ line legal. legal-or line (is_among returned line) legal) host letter formed (among-plain returned returned (among-own returned))).all
 
-pub lines_law : (host : List ℕ) (letter : Letter) → IsWellFormed host letter → HasLegalLines (notice_of host letter) (returned_lines letter.draft)
+pub lines_law : (host : List ℕ) (letter : Letter) → IsWellFormed host letter → HasLegalLines (notice_of host letter) (is_eight_bit letter.draft) (returned_lines letter.draft)
 unfolding notice_of
 lines_law host letter formed = record {
   lines = notice_lines host letter;

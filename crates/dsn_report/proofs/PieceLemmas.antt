@@ -5,7 +5,7 @@ use Rattle.std.specs.List.{list_all, onto_first}
 use Rattle.std.proofs.lemmas.Bool.{false≢true}
 use Rattle.std.proofs.lemmas.Bool.Decides.{eqb_tells}
 use Rattle.dsn_report.proofs.PlainLemmas.{and-parts}
-use Rattle.dsn_report.specs.LegalLines.{is_mail_byte, is_mail_line}
+use Rattle.dsn_report.specs.LegalLines.{is_eight_bit_byte, is_eight_bit_line}
 use Rattle.dsn_report.specs.Lines.{begins_with_line_feed, pieces_more, pieces_of_text, text_of_lines, text_of_pieces, without_first_byte}
 
 -- a text has at least one piece
@@ -29,36 +29,36 @@ unfolding pieces_of_text pieces_more
 pieces-end rest = ap (λ pieces. [] ∷ pieces) (first-back 10 (pieces_of_text rest) (pieces-some rest))
 
 -- no byte of a line is a CR
-not-return : (byte : ℕ) → is_mail_byte byte ≡ true → (byte == 13) ≡ false
+not-return : (byte : ℕ) → is_eight_bit_byte byte ≡ true → (byte == 13) ≡ false
 not-return byte legal = elim (eqb_tells byte 13) [
-  | inl same ↦ absurd (false≢true (subst (λ b. is_mail_byte b ≡ true) same.1 legal))
+  | inl same ↦ absurd (false≢true (subst (λ b. is_eight_bit_byte b ≡ true) same.1 legal))
   | inr other ↦ other.0
 ]
 
-pieces-line : (line rest : List ℕ) → list_all is_mail_byte line ≡ true → pieces_of_text (line ++ (13 ∷ 10 ∷ rest)) ≡ line ∷ pieces_of_text rest
+pieces-line : (line rest : List ℕ) → list_all is_eight_bit_byte line ≡ true → pieces_of_text (line ++ (13 ∷ 10 ∷ rest)) ≡ line ∷ pieces_of_text rest
 unfolding pieces_of_text pieces_more
 pieces-line [] rest legal = pieces-end rest
 pieces-line (byte ∷ line) rest legal =
-    let parts = and-parts (is_mail_byte byte) (list_all is_mail_byte line) legal in
+    let parts = and-parts (is_eight_bit_byte byte) (list_all is_eight_bit_byte line) legal in
     rw (not-return byte parts.0, pieces-line line rest parts.1) refl
 
 -- whether lines have only bytes that a line may hold
 abbrev pub has_line_bytes : List (List ℕ) → Bool
-has_line_bytes lines = list_all (list_all is_mail_byte) lines
+has_line_bytes lines = list_all (list_all is_eight_bit_byte) lines
 
 pub pieces-lines : (lines : List (List ℕ)) → has_line_bytes lines ≡ true → pieces_of_text (text_of_lines lines) ≡ lines ++ [] ∷ []
 unfolding pieces_of_text text_of_lines
 pieces-lines [] legal = refl
 pieces-lines (line ∷ lines) legal =
-    let parts = and-parts (list_all is_mail_byte line) (has_line_bytes lines) legal in
+    let parts = and-parts (list_all is_eight_bit_byte line) (has_line_bytes lines) legal in
     pieces-line line (text_of_lines lines) parts.0 ∙ ap (λ pieces. line ∷ pieces) (pieces-lines lines parts.1)
 
 -- lines that can be in a mail have only such bytes
-pub has_line_bytes-legal : (lines : List (List ℕ)) → list_all is_mail_line lines ≡ true → has_line_bytes lines ≡ true
+pub has_line_bytes-legal : (lines : List (List ℕ)) → list_all is_eight_bit_line lines ≡ true → has_line_bytes lines ≡ true
 has_line_bytes-legal [] legal = refl
 has_line_bytes-legal (line ∷ lines) legal =
-    let parts = and-parts (is_mail_line line) (list_all is_mail_line lines) legal in
-    rw ((and-parts _ (list_all is_mail_byte line) parts.0).1, has_line_bytes-legal lines parts.1) refl
+    let parts = and-parts (is_eight_bit_line line) (list_all is_eight_bit_line lines) legal in
+    rw ((and-parts _ (list_all is_eight_bit_byte line) parts.0).1, has_line_bytes-legal lines parts.1) refl
 
 -- the text of pieces, of which the last is empty, is that of lines
 text_of_pieces-ended : (lines : List (List ℕ)) → text_of_pieces (lines ++ [] ∷ []) ≡ text_of_lines lines

@@ -6,10 +6,10 @@ use Rattle.std.specs.Str.Lines.{lines}
 use Rattle.dsn_outcome.specs.Draft.{Draft}
 use Rattle.dsn_outcome.specs.Letter.{Letter}
 use Rattle.dsn_outcome.specs.declared.returned.Returned.{Returned}
-use Rattle.dsn_outcome.specs.declared.returned.Returned.TheVariants.{Header, Message}
+use Rattle.dsn_outcome.specs.declared.returned.Returned.TheVariants.{Header, Message, EightBitMessage}
 use Rattle.dsn_text.specs.Service.{service_letter}
 use Rattle.dsn_text.specs.Text.{is_printable}
-use Rattle.dsn_report.specs.LegalLines.{is_mail_line}
+use Rattle.dsn_report.specs.LegalLines.{has_high_byte, is_line_of}
 use Rattle.dsn_report.specs.Lines.{longest_line}
 
 -- a byte of a returned header; it is `?` if it is neither printable nor a tab, since a notice is
@@ -29,21 +29,32 @@ header_lines header = before_first (λ line. length line == 0) (lines header)
 abbrev pub is_message : Returned → Bool
 is_message Header = false
 is_message Message = true
+is_message EightBitMessage = true
 
--- whether each line of a text can be in a 7bit mail unchanged
-unfoldable pub stands_whole : List ℕ → Bool
-stands_whole text = list_all is_mail_line (lines text)
+-- whether the notice may be an 8bit mail, since it may be submitted with 8BITMIME (RFC 6152)
+abbrev pub may_be_eight_bit : Returned → Bool
+may_be_eight_bit Header = false
+may_be_eight_bit Message = false
+may_be_eight_bit EightBitMessage = true
+
+-- whether each line of a text can be unchanged in the mail that the notice may be
+unfoldable pub stands_whole : Returned → List ℕ → Bool
+stands_whole returned text = list_all (is_line_of (may_be_eight_bit returned)) (lines text)
 
 -- whether a notice returns the message instead of its header: the flush has the message, and each
--- line can be in a mail unchanged (RFC 3461 section 4.3; RFC 2045 section 2.7)
+-- line can be in the mail unchanged (RFC 3461 section 4.3; RFC 2045 sections 2.7 and 2.8)
 unfoldable pub returns_message : Draft → Bool
-returns_message draft = is_message draft.returned && stands_whole draft.header
+returns_message draft = is_message draft.returned && stands_whole draft.returned draft.header
 
 -- the lines that a notice returns: those of the message unchanged, or those of its header
 unfoldable pub returned_lines : Draft → List (List ℕ)
 returned_lines draft =
     if returns_message draft then lines draft.header
     else map shown_line (header_lines draft.header)
+
+-- whether the notice is an 8bit mail: some returned line has a byte above 127
+unfoldable pub is_eight_bit : Draft → Bool
+is_eight_bit draft = list_any has_high_byte (returned_lines draft)
 
 -- how many boundaries a letter has: one for each number of four digits (this project's profile)
 abbrev pub boundary_numbers : ℕ

@@ -1,12 +1,12 @@
 -- How a mail program divides the body of a multipart message (RFC 2046 section 5.1.1). It uses only
 -- the boundary and the message's bytes, and doesn't depend on the writer.
-use Rattle.std.specs.Prelude.{◌≡◌, ℕ, Bool, List, [], ◌∷◌, ◌++◌, map, Option, Some, None, option_map, codes, if◌then◌else◌, nat_eq}
+use Rattle.std.specs.Prelude.{◌≡◌, ℕ, Bool, false, List, [], ◌∷◌, ◌++◌, map, Option, Some, None, option_map, codes, if◌then◌else◌, nat_eq}
 use Rattle.std.specs.List.{starts_with}
 use Rattle.dsn_outcome.specs.Letter.{Letter}
-use Rattle.dsn_report.specs.Boundary.{boundary_of, is_delimiter, returned_lines, returns_message}
+use Rattle.dsn_report.specs.Boundary.{boundary_of, is_delimiter, is_eight_bit, returned_lines, returns_message}
 use Rattle.dsn_report.specs.DeliveryStatus.{delivery_status}
 use Rattle.dsn_report.specs.Lines.{pieces_of_text, text_of_lines, text_of_pieces}
-use Rattle.dsn_report.specs.Notice.{notice_of, notification, returned_description, returned_type, words_of}
+use Rattle.dsn_report.specs.Notice.{encoding_lines, notice_of, notification, returned_description, returned_type, words_of}
 
 -- the lines before the first delimiter, the parts, and the lines after the last delimiter, if there
 -- is one
@@ -61,28 +61,29 @@ unfoldable pub multipart_of : List ℕ → List ℕ → Multipart
 multipart_of boundary text = multipart_of_pieces (divide boundary (message_body (pieces_of_text text)))
 
 -- the lines of a part as it is written
-unfoldable pub part_lines : List ℕ → List ℕ → List (List ℕ) → List (List ℕ)
-part_lines description content_type body =
+unfoldable pub part_lines : List ℕ → List ℕ → Bool → List (List ℕ) → List (List ℕ)
+part_lines description content_type eight_bit body =
     (codes "Content-Description: " ++ description)
     ∷ (codes "Content-Type: " ++ content_type)
-    ∷ []
-    ∷ body
+    ∷ encoding_lines eight_bit
+    ++ [] ∷ body
 
 -- the returned part, if there are returned lines
-unfoldable pub returned_parts : List ℕ → List ℕ → List (List ℕ) → List (List (List ℕ))
-returned_parts description content_type [] = []
-returned_parts description content_type (line ∷ rest) =
-    part_lines description content_type (line ∷ rest) ∷ []
+unfoldable pub returned_parts : List ℕ → List ℕ → Bool → List (List ℕ) → List (List (List ℕ))
+returned_parts description content_type eight_bit [] = []
+returned_parts description content_type eight_bit (line ∷ rest) =
+    part_lines description content_type eight_bit (line ∷ rest) ∷ []
 
 -- the parts of a notice
 unfoldable pub notice_parts : List ℕ → Letter → List (List (List ℕ))
 notice_parts host letter =
-    part_lines (codes "Notification") (codes "text/plain; charset=us-ascii")
+    part_lines (codes "Notification") (codes "text/plain; charset=us-ascii") false
     (notification host letter)
-    ∷ part_lines (codes "Delivery report") (codes "message/delivery-status")
+    ∷ part_lines (codes "Delivery report") (codes "message/delivery-status") false
     (delivery_status host letter)
     ∷ returned_parts (returned_description (words_of letter) (returns_message letter.draft))
-    (returned_type (returns_message letter.draft)) (returned_lines letter.draft)
+    (returned_type (returns_message letter.draft)) (is_eight_bit letter.draft)
+    (returned_lines letter.draft)
 
 -- a reader that divides a notice's bytes at its boundary gets its parts, each with the CRLF of its
 -- last line, and nothing before and nothing after them

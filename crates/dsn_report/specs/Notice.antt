@@ -13,7 +13,7 @@ use Rattle.dsn_text.specs.declared.service.Service.{Service}
 use Rattle.dsn_text.specs.declared.service.Service.TheVariants.{Bounce, Defer, Trace}
 use Rattle.dsn_outcome.specs.declared.wording.Wording.{Wording}
 use Rattle.dsn_outcome.specs.declared.wording.Wording.TheVariants.{ByService, ByOutcome}
-use Rattle.dsn_report.specs.Boundary.{letter_name, boundary_of, returned_lines, returns_message}
+use Rattle.dsn_report.specs.Boundary.{letter_name, boundary_of, is_eight_bit, returned_lines, returns_message}
 use Rattle.dsn_report.specs.DeliveryStatus.{line_if_any, delivery_status}
 use Rattle.dsn_report.specs.Lines.{text_of_lines}
 use Rattle.dsn_report.specs.PlainWords.{meaning_of}
@@ -105,12 +105,18 @@ abbrev pub returned_type : Bool → List ℕ
 returned_type true = codes "message/rfc822"
 returned_type false = codes "text/rfc822-headers"
 
+-- the line of a header that says that the body is 8bit, if it is; a multipart with an 8bit part is
+-- 8bit as well (RFC 2045 sections 6.1 and 6.4)
+abbrev pub encoding_lines : Bool → List (List ℕ)
+encoding_lines true = codes "Content-Transfer-Encoding: 8bit" ∷ []
+encoding_lines false = []
+
 -- the address that the notice is sent to: the message's return path (RFC 3464 section 2)
 abbrev pub return_path_of : Letter → List ℕ
 return_path_of letter = unwrap_or letter.draft.return_path []
 
--- the header of a notice (RFC 5322 section 3.6, RFC 3834 section 5, RFC 2045 section 4, RFC 6522
--- section 3)
+-- the header of a notice (RFC 5322 section 3.6, RFC 3834 section 5, RFC 2045 sections 4 and 6, RFC
+-- 6522 section 3)
 unfoldable pub notice_header : List ℕ → Letter → List ℕ → List (List ℕ)
 notice_header host letter boundary =
     (codes "From: Mail Delivery System <MAILER-DAEMON@" ++ host ++ codes ">")
@@ -123,22 +129,22 @@ notice_header host letter boundary =
     ∷ codes "MIME-Version: 1.0"
     ∷ codes "Content-Type: multipart/report; report-type=delivery-status;"
     ∷ (codes " boundary=\"" ++ boundary ++ codes "\"")
-    ∷ []
+    ∷ encoding_lines (is_eight_bit letter.draft)
 
 -- the beginning of a part: its delimiter, its header and an empty line (RFC 2046 section 5.1.1)
-unfoldable pub part_header : List ℕ → List ℕ → List ℕ → List (List ℕ)
-part_header boundary description content_type =
+unfoldable pub part_header : List ℕ → List ℕ → List ℕ → Bool → List (List ℕ)
+part_header boundary description content_type eight_bit =
     (codes "--" ++ boundary)
     ∷ (codes "Content-Description: " ++ description)
     ∷ (codes "Content-Type: " ++ content_type)
-    ∷ []
-    ∷ []
+    ∷ encoding_lines eight_bit
+    ++ [] ∷ []
 
 -- one part; the empty line after its body belongs to the next delimiter, so the body ends with the
 -- CRLF of its last line (RFC 2046 section 5.1.1)
-unfoldable pub part_of : List ℕ → List ℕ → List ℕ → List (List ℕ) → List (List ℕ)
-part_of boundary description content_type body =
-    part_header boundary description content_type ++ body ++ [] ∷ []
+unfoldable pub part_of : List ℕ → List ℕ → List ℕ → Bool → List (List ℕ) → List (List ℕ)
+part_of boundary description content_type eight_bit body =
+    part_header boundary description content_type eight_bit ++ body ++ [] ∷ []
 
 -- the original recipient of an outcome, if its notice names it: the wording is by outcome, and it
 -- isn't the final recipient
@@ -216,23 +222,24 @@ notification host letter =
     ++ [] ∷ flat_map (outcome_lines letter.draft.wording) letter.outcomes
 
 -- the part with the returned lines, if there are any (RFC 6522 sections 3 and 4)
-unfoldable pub returned_part : List ℕ → List ℕ → List ℕ → List (List ℕ) → List (List ℕ)
-returned_part boundary description content_type [] = []
-returned_part boundary description content_type (line ∷ rest) =
-    part_of boundary description content_type (line ∷ rest)
+unfoldable pub returned_part : List ℕ → List ℕ → List ℕ → Bool → List (List ℕ) → List (List ℕ)
+returned_part boundary description content_type eight_bit [] = []
+returned_part boundary description content_type eight_bit (line ∷ rest) =
+    part_of boundary description content_type eight_bit (line ∷ rest)
 
 -- the lines of a notice: its header, an empty line, two or three parts, and the last delimiter
 unfoldable pub lines_with_boundary : List ℕ → Letter → List ℕ → List (List ℕ)
 lines_with_boundary host letter boundary =
     notice_header host letter boundary
     ++ [] ∷ []
-    ++ part_of boundary (codes "Notification") (codes "text/plain; charset=us-ascii")
+    ++ part_of boundary (codes "Notification") (codes "text/plain; charset=us-ascii") false
     (notification host letter)
-    ++ part_of boundary (codes "Delivery report") (codes "message/delivery-status")
+    ++ part_of boundary (codes "Delivery report") (codes "message/delivery-status") false
     (delivery_status host letter)
     ++ returned_part boundary
     (returned_description (words_of letter) (returns_message letter.draft))
-    (returned_type (returns_message letter.draft)) (returned_lines letter.draft)
+    (returned_type (returns_message letter.draft)) (is_eight_bit letter.draft)
+    (returned_lines letter.draft)
     ++ (codes "--" ++ boundary ++ codes "--") ∷ []
 
 -- the lines of a notice with its own boundary

@@ -1,7 +1,8 @@
 -- The outbox: the client's side of an SMTP session that submits each notice (RFC 5321 section 3.3).
-use Rattle.std.specs.Prelude.{ℕ, List, [], ◌∷◌, ◌++◌, map, codes}
+use Rattle.std.specs.Prelude.{ℕ, Bool, true, false, List, [], ◌∷◌, ◌++◌, map, codes}
 use Rattle.std.specs.List.{flat_map}
 use Rattle.dsn_outcome.specs.Letter.{Letter}
+use Rattle.dsn_report.specs.Boundary.{is_eight_bit}
 use Rattle.dsn_report.specs.Lines.{text_of_lines, dot_stuffed}
 use Rattle.dsn_report.specs.Notice.{notice_lines, return_path_of}
 
@@ -22,11 +23,16 @@ data_lines host letter = map dot_stuffed (notice_lines host letter) ++ codes "."
 unfoldable pub mail_data : List ℕ → Letter → List ℕ
 mail_data host letter = text_of_lines (data_lines host letter)
 
+-- the parameter of MAIL, if the mail data are 8bit (RFC 6152 section 3)
+abbrev pub mail_parameter : Bool → List ℕ
+mail_parameter true = codes " BODY=8BITMIME"
+mail_parameter false = []
+
 -- the lines of one mail transaction; it has the null path, so that no notice answers a notice (RFC
 -- 3464 section 2, RFC 5321 section 4.5.5)
 unfoldable pub transaction_lines : List ℕ → Letter → List (List ℕ)
 transaction_lines host letter =
-    codes "MAIL FROM:<>"
+    (codes "MAIL FROM:<>" ++ mail_parameter (is_eight_bit letter.draft))
     ∷ (codes "RCPT TO:<" ++ return_path_of letter ++ codes ">")
     ∷ codes "DATA"
     ∷ data_lines host letter

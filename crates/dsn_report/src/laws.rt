@@ -5,7 +5,7 @@ ghost use Rattle.std.specs.List.{list_all};
 ghost use Rattle.dsn_outcome.specs.Outcome.{IsLegalOutcome};
 ghost use Rattle.dsn_text.specs.Optional.{is_none_or};
 ghost use Rattle.dsn_text.specs.Text.{is_envelope_id};
-ghost use Rattle.dsn_report.specs.Boundary.{returned_lines, returns_message};
+ghost use Rattle.dsn_report.specs.Boundary.{is_eight_bit, returned_lines, returns_message};
 ghost use Rattle.dsn_report.specs.Data.{ReceivesData, ReceivesNotice, ReceivesNotices};
 ghost use Rattle.dsn_report.specs.Grammar.{EmptyLogLaw, ReportsOutcomes};
 ghost use Rattle.dsn_report.specs.LegalLines.{HasLegalLines, is_legal_line};
@@ -61,12 +61,13 @@ pub fn empty_log_law()
     ensures { EmptyLogLaw }
 {}
 
-/// A notice is lines that end with CRLF and can be in a 7bit mail. Each has at most 998 bytes, none
-/// of them NUL, CR, LF or over 127. All lines consist of tabs and printable bytes, except those of
-/// a message that is returned whole.
+/// A notice is lines that end with CRLF. Each has at most 998 bytes, none of them NUL, CR or LF. If
+/// no returned line has a byte above 127, no line of the notice has one, so it can be in a 7bit
+/// mail. All lines consist of tabs and printable bytes, except those of a message that is returned
+/// whole.
 pub fn lines_law(site: &Site, letter: &Letter)
     ensures lines { HasLegalLines (notice_of site.now letter.now)
-        (returned_lines letter.now.draft) }
+        (is_eight_bit letter.now.draft) (returned_lines letter.now.draft) }
     ensures header { returns_message letter.now.draft ≡ false
         → IsTrue (list_all is_legal_line (returned_lines letter.now.draft)) }
 {

@@ -1,12 +1,15 @@
 //! The client's side of an SMTP session.
-//! Implements RFC 5321 section 3.3 and noticed-notice(5).
-ghost use Rattle.std.specs.Prelude.{◌≡◌, true, [], ◌++◌, if◌then◌else◌};
+//! Implements RFC 5321 section 3.3, RFC 6152 section 3 and noticed-notice(5).
+ghost use Rattle.std.specs.Prelude.{◌≡◌, true, [], ◌∷◌, ◌++◌, codes, if◌then◌else◌};
 ghost use Rattle.dsn_device.specs.QuietWriter.{Writes};
-ghost use Rattle.dsn_report.specs.inner.LineWriter.{Took};
-ghost use Rattle.dsn_report.specs.Outbox.{greeting, goodbye, mail_transaction};
+ghost use Rattle.dsn_report.specs.inner.LineWriter.{Took, Wrote};
+ghost use Rattle.dsn_report.specs.Boundary.{is_eight_bit};
+ghost use Rattle.dsn_report.specs.Notice.{return_path_of};
+ghost use Rattle.dsn_report.specs.Outbox.{greeting, goodbye, mail_parameter, mail_transaction};
 
 use crate::line_writer::LineWriter;
 use crate::notice_lines::write_notice;
+use crate::returned_text::ReturnedText;
 use crate::site::Site;
 use dsn_device::Drain;
 use dsn_outcome::Letter;
@@ -58,13 +61,34 @@ fn write_transaction<W: Drain>(lines: &mut LineWriter<W>, site: &Site, letter: &
     requires { lines.old.dots ≡ true }
     ensures { Took W.Drain lines.old lines.new (mail_transaction site.now letter.now) }
 {
+    let returned = ReturnedText::of(letter);
+    write_envelope(lines, letter, mail_parameter(returned.eight_bit));
+    write_notice(lines, site, letter, returned);
+    lines.piece(b".\r\n");
+}
+
+/// Writes the commands before the mail data. Requires that `parameter` is that of MAIL.
+fn write_envelope<'a, W: Drain>(lines: &mut LineWriter<W>, letter: &'a Letter, parameter: &'a [u8])
+    requires { parameter.now ≡ mail_parameter (is_eight_bit letter.now.draft) }
+    ensures { Wrote W.Drain lines.old lines.new
+        ((codes "MAIL FROM:<>" ++ mail_parameter (is_eight_bit letter.now.draft))
+        ∷ (codes "RCPT TO:<" ++ return_path_of letter.now ++ codes ">")
+        ∷ codes "DATA" ∷ []) }
+{
     lines.block(&[
-        b"MAIL FROM:<>\r\nRCPT TO:<",
+        b"MAIL FROM:<>",
+        parameter,
+        b"\r\nRCPT TO:<",
         letter.return_path().bytes(),
         b">\r\nDATA\r\n",
     ]);
-    write_notice(lines, site, letter);
-    lines.piece(b".\r\n");
+}
+
+/// The parameter of MAIL, if the mail data are 8bit (RFC 6152 section 3).
+fn mail_parameter(eight_bit: bool) -> &'static [u8]
+    ensures { result.now ≡ mail_parameter eight_bit }
+{
+    if eight_bit { b" BODY=8BITMIME" } else { b"" }
 }
 
 /// Writes QUIT.

@@ -2,18 +2,18 @@
 //! Implements RFC 6522 sections 3 and 4, RFC 3464 section 2, and noticed-notice(5).
 //! The order of header fields, the subjects and the words for people are this project's own. All
 //! that RFC 6522, RFC 3464 and RFC 3834 require is present.
-ghost use Rattle.std.specs.Prelude.{◌≡◌, ℕ, List, [], ◌∷◌, ◌++◌, None, codes, IsFalse, IsTrue};
+ghost use Rattle.std.specs.Prelude.{◌≡◌, ℕ, List, [], ◌∷◌, ◌++◌, None, codes, false, IsFalse, IsTrue};
 ghost use Rattle.std.specs.List.{flat_map};
 ghost use Rattle.std.specs.Option.{option_copied, option_map};
 ghost use Rattle.dsn_text.specs.Action.{action_word};
 ghost use Rattle.dsn_text.specs.Extension.{lines_ended_by_lf, is_extension_text};
 ghost use Rattle.dsn_text.specs.Stamp.{date_text};
-ghost use Rattle.dsn_report.specs.Boundary.{boundary_front};
+ghost use Rattle.dsn_report.specs.Boundary.{boundary_front, is_eight_bit, returned_lines, returns_message};
 ghost use Rattle.dsn_report.specs.DeliveryStatus.{delivery_status, line_if_any, per_message_fields, per_recipient_fields, recipient_group, typed, usual_address_type, usual_diagnostic_type};
 ghost use Rattle.dsn_report.specs.inner.LineWriter.{Wrote, begins_plainly};
 ghost use Rattle.dsn_report.specs.Lines.{begins_with_dot};
 ghost use Rattle.dsn_outcome.specs.declared.wording.Wording.TheVariants.{ByOutcome};
-ghost use Rattle.dsn_report.specs.Notice.{explanation, guidance, notice_header, notice_lines, notification, outcome_lines, part_header, recipient_told, reply_lines, returned_description, returned_part, returned_type, words_of};
+ghost use Rattle.dsn_report.specs.Notice.{encoding_lines, explanation, guidance, notice_header, notice_lines, notification, outcome_lines, part_header, recipient_told, reply_lines, returned_description, returned_part, returned_type, words_of};
 ghost use Rattle.dsn_report.specs.inner.NoticeLines.{words_in};
 ghost use Rattle.dsn_report.specs.inner.NoticeLines.{lines_shown};
 
@@ -37,7 +37,9 @@ fn write_header<'a, W: Drain>(
     subject: &'a [u8],
     front: &'a [u8],
     boundary: &'a [u8],
+    eight_bit: bool,
 )
+    requires eight_bit { eight_bit ≡ is_eight_bit letter.now.draft }
     requires subject { subject.now ≡ (words_of letter.now).subject }
     requires front { front.now ≡ boundary_front letter.now }
     ensures { Wrote W.Drain lines.old lines.new (notice_header site.now letter.now boundary.now) }
@@ -66,6 +68,16 @@ fn write_header<'a, W: Drain>(
         boundary,
         b"\"\r\n",
     ]);
+    write_encoding(lines, eight_bit);
+}
+
+/// Writes the line of a header that says that the body is 8bit, if it is (RFC 2045 section 6.1).
+fn write_encoding<W: Drain>(lines: &mut LineWriter<W>, eight_bit: bool)
+    ensures { Wrote W.Drain lines.old lines.new (encoding_lines eight_bit) }
+{
+    if eight_bit {
+        lines.block(&[b"Content-Transfer-Encoding: 8bit\r\n"]);
+    }
 }
 
 /// Writes the empty line before the first part, and that part, which is for people.
@@ -81,7 +93,7 @@ fn write_notification<'a, W: Drain>(
     requires consequence { consequence.now ≡ (words_of letter.now).consequence }
     ensures { Wrote W.Drain lines.old lines.new
         ([] ∷ part_header boundary.now (codes "Notification")
-        (codes "text/plain; charset=us-ascii") ++ notification site.now letter.now) }
+        (codes "text/plain; charset=us-ascii") false ++ notification site.now letter.now) }
 {
     lines.block(&[
         b"\r\n--",
@@ -229,7 +241,7 @@ fn write_delivery_status<W: Drain>(
 )
     ensures { Wrote W.Drain lines.old lines.new
         ([] ∷ part_header boundary.now (codes "Delivery report") (codes "message/delivery-status")
-        ++ delivery_status site.now letter.now) }
+        false ++ delivery_status site.now letter.now) }
 {
     lines.block(&[
         b"\r\n--",
@@ -399,7 +411,7 @@ fn write_returned_part<W: Drain>(
     ensures { Wrote W.Drain lines.old lines.new
         ([] ∷ returned_part boundary.now
         (returned_description (words_in words) returned.entry.whole)
-        (returned_type returned.entry.whole)
+        (returned_type returned.entry.whole) returned.entry.eight_bit
         (lines_shown returned.entry.whole returned.entry.bytes.now)) }
 {
     if returned.is_empty() {
@@ -407,7 +419,14 @@ fn write_returned_part<W: Drain>(
         return;
     }
     let description = words.description(returned.whole);
-    write_part_header(lines, boundary, description, returned_type(returned.whole));
+    let content_type = returned_type(returned.whole);
+    write_part_header(
+        lines,
+        boundary,
+        description,
+        content_type,
+        returned.eight_bit,
+    );
     write_returned_lines(lines, returned);
     lines.block(&[b"\r\n"]);
 }
@@ -418,9 +437,10 @@ fn write_part_header<'a, W: Drain>(
     boundary: &'a [u8],
     description: &'a [u8],
     content_type: &'a [u8],
+    eight_bit: bool,
 )
     ensures { Wrote W.Drain lines.old lines.new
-        ([] ∷ part_header boundary.now description.now content_type.now) }
+        ([] ∷ part_header boundary.now description.now content_type.now eight_bit) }
 {
     lines.block(&[
         b"\r\n--",
@@ -429,8 +449,10 @@ fn write_part_header<'a, W: Drain>(
         description,
         b"\r\nContent-Type: ",
         content_type,
-        b"\r\n\r\n",
+        b"\r\n",
     ]);
+    write_encoding(lines, eight_bit);
+    lines.block(&[b"\r\n"]);
 }
 
 /// Writes the returned lines.
@@ -444,16 +466,32 @@ fn write_returned_lines<W: Drain>(lines: &mut LineWriter<W>, returned: ReturnedT
     }
 }
 
-/// Writes a notice. It takes no memory.
-pub(crate) fn write_notice<W: Drain>(lines: &mut LineWriter<W>, site: &Site, letter: &Letter)
+/// Writes a notice. It takes no memory. Requires that `returned` is what the notice returns.
+pub(crate) fn write_notice<W: Drain>(
+    lines: &mut LineWriter<W>,
+    site: &Site,
+    letter: &Letter,
+    returned: ReturnedText<'_>,
+)
+    requires whole { returned.whole ≡ returns_message letter.now.draft }
+    requires eight_bit { returned.eight_bit ≡ is_eight_bit letter.now.draft }
+    requires returned { lines_shown returned.whole returned.bytes.now ≡ returned_lines letter.now.draft }
     ensures { Wrote W.Drain lines.old lines.new (notice_lines site.now letter.now) }
 {
     let words = Words::of(letter);
-    let returned = ReturnedText::of(letter);
     let name = boundary_text(letter, boundary_beside(letter, returned));
     let boundary = name.bytes();
     let front = &boundary[..boundary.len() - NUMBER_LEN];
-    write_header(lines, site, letter, words.subject, front, boundary);
+    let subject = words.subject;
+    write_header(
+        lines,
+        site,
+        letter,
+        subject,
+        front,
+        boundary,
+        returned.eight_bit,
+    );
     write_notification(
         lines,
         site,

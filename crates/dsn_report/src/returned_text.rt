@@ -1,9 +1,10 @@
 //! The text that a notice returns of a message.
-//! Implements RFC 2045 section 2.7, RFC 3461 section 4.3, and noticed-notice(5).
-ghost use Rattle.std.specs.Prelude.{◌≡◌, ◌==◌, length};
-ghost use Rattle.std.specs.List.{list_all};
-ghost use Rattle.dsn_report.specs.Boundary.{is_message, returned_lines, returns_message, stands_whole};
-ghost use Rattle.dsn_report.specs.LegalLines.{is_mail_byte, is_mail_line};
+//! Implements RFC 2045 sections 2.7 and 2.8, RFC 3461 section 4.3, and noticed-notice(5).
+ghost use Rattle.std.specs.Prelude.{◌≡◌, ◌==◌, ◌&&◌, length, nat_lt};
+ghost use Rattle.std.specs.List.{list_all, list_any};
+ghost use Rattle.std.specs.Str.Lines.{lines};
+ghost use Rattle.dsn_report.specs.Boundary.{is_eight_bit, returned_lines, returns_message};
+ghost use Rattle.dsn_report.specs.LegalLines.{has_high_byte, is_eight_bit_byte, is_eight_bit_line, is_mail_byte, is_mail_line};
 ghost use Rattle.dsn_report.specs.inner.NoticeLines.{lines_shown};
 
 use crate::returned_lines::{LONGEST_LINE, ReturnedLines, first_line};
@@ -16,20 +17,25 @@ pub(crate) struct ReturnedText<'a> {
     pub(crate) bytes: &'a [u8],
     /// Whether all lines are returned unchanged.
     pub(crate) whole: bool,
+    /// Whether some returned line has a byte above 127, so that the notice is an 8bit mail.
+    pub(crate) eight_bit: bool,
 }
 
 impl<'a> ReturnedText<'a> {
     /// The text that the notice of a letter returns (RFC 3461 section 4.3).
     pub(crate) fn of(letter: &'a Letter) -> ReturnedText<'a>
         ensures whole { result.whole ≡ returns_message letter.now.draft }
+        ensures eight_bit { result.eight_bit ≡ is_eight_bit letter.now.draft }
         ensures bytes { result.bytes.now ≡ letter.now.draft.header }
         ensures lines { lines_shown result.whole result.bytes.now
             ≡ returned_lines letter.now.draft }
     {
         let bytes = letter.header().bytes();
+        let carriage = carriage_of(letter, bytes);
         ReturnedText {
             bytes,
-            whole: returns_message(letter, bytes),
+            whole: carriage.whole,
+            eight_bit: carriage.eight_bit,
         }
     }
 
@@ -58,36 +64,40 @@ impl<'a> ReturnedText<'a> {
     }
 }
 
-/// Whether the notice of a letter returns this text whole. Requires that it is the letter's text.
-#[tactic(auto, unfolding(crate::specs::Boundary::returns_message))]
-fn returns_message(letter: &Letter, text: &[u8]) -> bool
-    requires { text.now ≡ letter.now.draft.header }
-    ensures { result ≡ returns_message letter.now.draft }
-{
-    // The outbox is written without waiting for replies, so it is unknown whether the server offers
-    // 8BITMIME. Without 8BITMIME no 8bit line may be sent (RFC 6152). A cleaned or cut message
-    // would be another message.
-    if is_message(letter) {
-        stands_whole(text)
-    } else {
-        false
-    }
+/// How a notice returns a text.
+#[derive(Clone, Copy)]
+struct Carriage {
+    /// Whether all lines are returned unchanged.
+    whole: bool,
+    /// Whether some returned line has a byte above 127.
+    eight_bit: bool,
 }
 
-/// Whether the flush has a whole message to be returned.
-fn is_message(letter: &Letter) -> bool
-    ensures { result ≡ is_message letter.now.draft.returned }
+/// How the notice of a letter returns its text. Requires that it is the letter's text.
+fn carriage_of(letter: &Letter, text: &[u8]) -> Carriage
+    requires { text.now ≡ letter.now.draft.header }
+    ensures whole { result.whole ≡ returns_message letter.now.draft }
+    ensures eight_bit { result.eight_bit ≡ is_eight_bit letter.now.draft }
 {
+    // Only the client can know whether the next servers offer 8BITMIME, since the outbox is written
+    // without waiting for replies. Without 8BITMIME no 8bit line may be sent (RFC 6152). A cleaned
+    // or cut message would be another message.
     match letter.terms().returned() {
-        Returned::Header => false,
-        Returned::Message => true,
+        Returned::Header => Carriage {
+            whole: false,
+            eight_bit: false,
+        },
+        Returned::Message => Carriage {
+            whole: is_seven_bit(text),
+            eight_bit: false,
+        },
+        Returned::EightBitMessage => carriage_in_eight_bits(text),
     }
 }
 
 /// Whether each line of a text can be in a 7bit mail unchanged (RFC 2045 section 2.7).
-#[tactic(auto, unfolding(crate::specs::Boundary::stands_whole))]
-fn stands_whole(text: &[u8]) -> bool
-    ensures { result ≡ stands_whole text.now }
+fn is_seven_bit(text: &[u8]) -> bool
+    ensures { result ≡ list_all is_mail_line (lines text.now) }
 {
     let lines = ReturnedLines {
         rest: text,
@@ -99,6 +109,33 @@ fn stands_whole(text: &[u8]) -> bool
         }
     }
     true
+}
+
+/// How a notice that may be an 8bit mail returns a message: whole if each line can be in an 8bit
+/// mail unchanged (RFC 2045 section 2.8).
+fn carriage_in_eight_bits(text: &[u8]) -> Carriage
+    ensures whole { result.whole ≡ list_all is_eight_bit_line (lines text.now) }
+    ensures eight_bit { result.eight_bit
+        ≡ (result.whole && list_any has_high_byte (lines text.now)) }
+{
+    let lines = ReturnedLines {
+        rest: text,
+        whole: true,
+    };
+    let mut eight_bit = false;
+    for line in lines {
+        if !is_eight_bit_line(line) {
+            return Carriage {
+                whole: false,
+                eight_bit: false,
+            };
+        }
+        eight_bit = eight_bit || has_high_byte(line);
+    }
+    Carriage {
+        whole: true,
+        eight_bit,
+    }
 }
 
 /// Whether a line can be in a 7bit mail unchanged.
@@ -128,4 +165,37 @@ fn is_mail_byte(byte: u8) -> bool
     ensures { result ≡ is_mail_byte byte }
 {
     matches!(byte, 1..=127) && byte != b'\n' && byte != b'\r'
+}
+
+/// Whether a line can be in an 8bit mail unchanged.
+fn is_eight_bit_line(line: &[u8]) -> bool
+    ensures { result ≡ is_eight_bit_line line.now }
+{
+    line.len() <= LONGEST_LINE && has_eight_bit_bytes(line)
+}
+
+/// Whether a line of an 8bit mail may hold each of the bytes. It doesn't stop at the first one that
+/// fails, so that several bytes are checked at once.
+fn has_eight_bit_bytes(line: &[u8]) -> bool
+    ensures { result ≡ list_all is_eight_bit_byte line.now }
+{
+    let mut all = true;
+    for byte in line {
+        all &= is_eight_bit_byte(*byte);
+    }
+    all
+}
+
+/// Whether a line of an 8bit mail may hold the byte.
+fn is_eight_bit_byte(byte: u8) -> bool
+    ensures { result ≡ is_eight_bit_byte byte }
+{
+    byte != 0 && byte != b'\n' && byte != b'\r'
+}
+
+/// Whether a line has a byte above 127.
+fn has_high_byte(line: &[u8]) -> bool
+    ensures { result ≡ list_any (nat_lt 127) line.now }
+{
+    line.iter().any(|byte| *byte > 127)
 }

@@ -1,10 +1,13 @@
 -- Worked examples of transactions: what is sent and received, and the outcome.
 use Rattle.std.proofs.Common.{◌≡◌, ℕ, List, [], ◌∷◌, ◌++◌, Some, None, false, true, refl}
 use Rattle.std.specs.Prelude.{codes}
+use Rattle.dsn_smtp.specs.Body.{body_kind, suffice_for}
 use Rattle.dsn_smtp.specs.CommandLine.{hello_line, recipient_line}
 use Rattle.dsn_smtp.specs.Dialogue.{Turn, Heard, HeardNone, Said}
-use Rattle.dsn_smtp.specs.HandIn.{AsksAll, Greets, Leaves, commands_of, is_at_sender, may_be_taken}
-use Rattle.dsn_smtp.specs.declared.hand_in_fault.HandInFault.TheVariants.{Refused, Unheard}
+use Rattle.dsn_smtp.specs.HandIn.{AsksAll, Greets, Leaves, commands_of, is_at_sender, is_refused_for_good, may_be_taken}
+use Rattle.dsn_smtp.specs.declared.body.Body.TheVariants.{SevenBit, EightBit}
+use Rattle.dsn_smtp.specs.declared.extensions.Extensions.{Extensions}
+use Rattle.dsn_smtp.specs.declared.hand_in_fault.HandInFault.TheVariants.{Refused, Unheard, NotOffered}
 use Rattle.dsn_smtp.specs.declared.hand_in_step.HandInStep.TheVariants.{Greeting, Sender, Recipient, Data, Message}
 use Rattle.dsn_smtp.specs.declared.reply_fault.ReplyFault.TheVariants.{Nothing, CutShort, Read}
 
@@ -37,6 +40,44 @@ to_recipient = Said (line (codes "MAIL FROM:<>")) ∷ heard (codes "250") ∷ Sa
 taken : AsksAll (commands_of (codes "b@c.example") message)
     (to_recipient ++ heard (codes "250") ∷ Said (line (codes "DATA")) ∷ heard (codes "354") ∷ Said message ∷ heard (codes "250") ∷ []) None
 taken = (refl, (refl, (refl, (refl, (refl, refl)))))
+
+-- a message with a byte above 127 is said to be one, and others aren't
+abbrev in_latin : List ℕ
+in_latin = 99 ∷ 97 ∷ 102 ∷ 233 ∷ line [] ++ line (codes ".")
+
+eight_bit : body_kind in_latin ≡ EightBit
+eight_bit = refl
+
+seven_bit : body_kind (127 ∷ message) ≡ SevenBit
+seven_bit = refl
+
+taken_in_latin : AsksAll (commands_of (codes "b@c.example") in_latin)
+    (Said (line (codes "MAIL FROM:<> BODY=8BITMIME")) ∷ heard (codes "250") ∷ Said (line (codes "RCPT TO:<b@c.example>")) ∷ heard (codes "250")
+    ∷ Said (line (codes "DATA")) ∷ heard (codes "354") ∷ Said in_latin ∷ heard (codes "250") ∷ []) None
+taken_in_latin = (refl, (refl, (refl, (refl, (refl, refl)))))
+
+-- only such a message needs 8BITMIME
+abbrev bare : Extensions
+bare = record { eight_bit_mime = false; pipelining = true; size_limit = None }
+
+needed : suffice_for bare (body_kind in_latin) ≡ false
+needed = refl
+
+not_needed : suffice_for bare (body_kind message) ≡ true
+not_needed = refl
+
+offered : suffice_for (record { eight_bit_mime = true; pipelining = false; size_limit = None }) (body_kind in_latin) ≡ true
+offered = refl
+
+-- another server, or another try, is no use to it; and it isn't taken
+for_good : is_refused_for_good NotOffered ≡ true
+for_good = refl
+
+no_second_try : is_at_sender NotOffered ≡ false
+no_second_try = refl
+
+not_taken : may_be_taken NotOffered ≡ false
+not_taken = refl
 
 -- the refusal of a recipient is the last turn
 refused : AsksAll (commands_of (codes "b@c.example") message) (to_recipient ++ heard (codes "550") ∷ []) (Some (Refused Recipient (codes "550")))

@@ -4,6 +4,7 @@ use Rattle.std.specs.Prelude.{codes}
 use Rattle.dsn_smtp.specs.Dialogue.{Heard, HeardEach, Said}
 use Rattle.dsn_smtp.specs.HandIn.{is_at_sender}
 use Rattle.dsn_smtp.specs.Pipelining.{AsksGroup, group_text}
+use Rattle.dsn_smtp.specs.declared.body.Body.TheVariants.{SevenBit, EightBit}
 use Rattle.dsn_smtp.specs.declared.hand_in_fault.HandInFault.TheVariants.{Refused, Unheard}
 use Rattle.dsn_smtp.specs.declared.hand_in_step.HandInStep.TheVariants.{Sender, Recipient, Data}
 use Rattle.dsn_smtp.specs.declared.reply_fault.ReplyFault.TheVariants.{Nothing, Read, Trailing}
@@ -14,8 +15,12 @@ line text = text ++ 13 ∷ 10 ∷ []
 abbrev group : List ℕ
 group = line (codes "MAIL FROM:<>") ++ line (codes "RCPT TO:<b@c.example>") ++ line (codes "DATA")
 
-group_is : group_text (codes "b@c.example") ≡ group
+group_is : group_text SevenBit (codes "b@c.example") ≡ group
 group_is = refl
+
+eight_bit_group : group_text EightBit (codes "b@c.example")
+    ≡ line (codes "MAIL FROM:<> BODY=8BITMIME") ++ line (codes "RCPT TO:<b@c.example>") ++ line (codes "DATA")
+eight_bit_group = refl
 
 abbrev message : List ℕ
 message = line (codes "Subject: no") ++ line (codes ".")

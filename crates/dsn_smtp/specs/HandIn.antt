@@ -3,25 +3,32 @@
 use Rattle.std.specs.Prelude.{◌≡◌, ℕ, Bool, true, false, List, [], ◌∷◌, Option, Some, None, Result, Ok, Err, MatchBool}
 use Rattle.dsn_device.specs.declared.drain.Drain
 use Rattle.dsn_device.specs.declared.source.Source
+use Rattle.dsn_smtp.specs.Body.{body_kind}
 use Rattle.dsn_smtp.specs.Command.{Command}
 use Rattle.dsn_smtp.specs.CommandLine.{data_line, hello_line, quit_line, recipient_line, sender_line}
 use Rattle.dsn_smtp.specs.Dialogue.{TakesTurns, Turn, Heard, Said, HeardEach, HeardNone, SaidPart, is_of_device}
 use Rattle.dsn_smtp.specs.ReplyCode.{class_of}
+use Rattle.dsn_smtp.specs.declared.body.Body.{Body}
 use Rattle.dsn_smtp.specs.declared.hand_in_fault.HandInFault.{HandInFault}
-use Rattle.dsn_smtp.specs.declared.hand_in_fault.HandInFault.TheVariants.{Refused, Unheard, Unsaid}
+use Rattle.dsn_smtp.specs.declared.hand_in_fault.HandInFault.TheVariants.{Refused, Unheard, Unsaid, NotOffered}
 use Rattle.dsn_smtp.specs.declared.hand_in_step.HandInStep.{HandInStep}
 use Rattle.dsn_smtp.specs.declared.hand_in_step.HandInStep.TheVariants.{Greeting, Hello, Sender, Recipient, Data, Message}
 use Rattle.dsn_smtp.specs.declared.reply_class.ReplyClass.{ReplyClass}
 use Rattle.dsn_smtp.specs.declared.reply_class.ReplyClass.TheVariants.{Positive, Intermediate, RefusedForNow, RefusedForGood}
 
--- the commands of a transaction, in their order (RFC 5321 section 3.3), with the line for RCPT and the message
-abbrev pub commands_with : List ℕ → List ℕ → List Command
-commands_with recipient message =
-    record { step = Sender; text = sender_line }
+-- the commands of a transaction, in their order (RFC 5321 section 3.3), with the kind of the message's bytes, the line
+-- for RCPT and the message
+abbrev pub commands_in : Body → List ℕ → List ℕ → List Command
+commands_in body recipient message =
+    record { step = Sender; text = sender_line body }
     ∷ record { step = Recipient; text = recipient }
     ∷ record { step = Data; text = data_line }
     ∷ record { step = Message; text = message }
     ∷ []
+
+-- MAIL says BODY=8BITMIME exactly if the message has a byte above 127
+abbrev pub commands_with : List ℕ → List ℕ → List Command
+commands_with recipient message = commands_in (body_kind message) recipient message
 
 -- the commands that submit a message for one path
 abbrev pub commands_of : List ℕ → List ℕ → List Command
@@ -79,6 +86,7 @@ is_broken None = false
 is_broken (Some (Refused step code)) = false
 is_broken (Some (Unheard step why)) = is_of_device why
 is_broken (Some (Unsaid step)) = true
+is_broken (Some NotOffered) = false
 
 -- QUIT is sent, or tried once; its reply isn't waited for, although RFC 5321 section 4.1.1.10 says that a client should
 abbrev pub SaysGoodbye : List Turn → Type 0
@@ -125,6 +133,7 @@ abbrev pub is_at_sender : HandInFault → Bool
 is_at_sender (Refused step code) = is_sender_step step
 is_at_sender (Unheard step why) = is_sender_step step
 is_at_sender (Unsaid step) = is_sender_step step
+is_at_sender NotOffered = false
 
 abbrev pub is_message_step : HandInStep → Bool
 is_message_step Message = true
@@ -136,6 +145,7 @@ abbrev pub may_be_taken : HandInFault → Bool
 may_be_taken (Refused step code) = false
 may_be_taken (Unheard step why) = is_message_step step
 may_be_taken (Unsaid step) = is_message_step step
+may_be_taken NotOffered = false
 
 -- whether a reply of this class is a refusal for good, by 5yz (RFC 5321 section 4.2.1)
 abbrev pub is_for_good : ReplyClass → Bool
@@ -144,7 +154,9 @@ is_for_good Intermediate = false
 is_for_good RefusedForNow = false
 is_for_good RefusedForGood = true
 
+-- whether a later attempt would end in the same way: by 5yz, or since the server lacks what the message needs
 abbrev pub is_refused_for_good : HandInFault → Bool
 is_refused_for_good (Refused step code) = is_for_good (class_of code)
 is_refused_for_good (Unheard step why) = false
 is_refused_for_good (Unsaid step) = false
+is_refused_for_good NotOffered = true

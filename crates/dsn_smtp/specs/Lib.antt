@@ -1,3 +1,4 @@
+pub mod Body
 pub mod Command
 pub mod CommandLine
 pub mod Dialogue

@@ -1,9 +1,11 @@
 -- A mail transaction whose commands before the message are sent as one group (RFC 2920).
 use Rattle.std.specs.Prelude.{◌≡◌, ℕ, Bool, true, false, List, [], ◌∷◌, ◌++◌, Option, Some, None, MatchBool, codes, if◌then◌else◌}
+use Rattle.dsn_smtp.specs.Body.{body_kind}
 use Rattle.dsn_smtp.specs.CommandLine.{data_line, recipient_line, sender_line}
 use Rattle.dsn_smtp.specs.Dialogue.{Turn, Heard, HeardEach, HeardNone, Said, SaidPart}
-use Rattle.dsn_smtp.specs.HandIn.{AsksAll, commands_of, is_wanted_reply}
+use Rattle.dsn_smtp.specs.HandIn.{AsksAll, commands_in, is_wanted_reply}
 use Rattle.dsn_smtp.specs.ReplyCode.{class_of}
+use Rattle.dsn_smtp.specs.declared.body.Body.{Body}
 use Rattle.dsn_smtp.specs.declared.extensions.Extensions.{Extensions}
 use Rattle.dsn_smtp.specs.declared.hand_in_fault.HandInFault.{HandInFault}
 use Rattle.dsn_smtp.specs.declared.hand_in_fault.HandInFault.TheVariants.{Refused, Unheard, Unsaid}
@@ -11,9 +13,9 @@ use Rattle.dsn_smtp.specs.declared.hand_in_step.HandInStep.{HandInStep}
 use Rattle.dsn_smtp.specs.declared.hand_in_step.HandInStep.TheVariants.{Sender, Recipient, Data, Message}
 use Rattle.dsn_smtp.specs.declared.reply_fault.ReplyFault.{ReplyFault}
 
--- the commands of a group, as one text, for one path
-abbrev pub group_text : List ℕ → List ℕ
-group_text path = sender_line ++ (recipient_line path ++ data_line)
+-- the commands of a group, as one text, for one path and a message of this kind
+abbrev pub group_text : Body → List ℕ → List ℕ
+group_text body path = sender_line body ++ (recipient_line path ++ data_line)
 
 -- the steps of a group
 abbrev pub group_steps : List HandInStep
@@ -92,8 +94,12 @@ AsksGroup text message (Heard code bytes ∷ turns) outcome = ⊥
 AsksGroup text message (HeardNone why ∷ turns) outcome = ⊥
 AsksGroup text message (HeardEach codes missing ∷ turns) outcome = ⊥
 
--- a transaction in a session whose server offers these extensions: by a group with PIPELINING, else command by command
+-- A transaction with a message of this kind, in a session whose server offers these extensions: by a group with
+-- PIPELINING, else command by command.
+abbrev pub TransactsAs : Extensions → Body → List ℕ → List ℕ → List Turn → Option HandInFault → Type 0
+TransactsAs extensions body path message turns outcome =
+    MatchBool extensions.pipelining (AsksGroup (group_text body path) message turns outcome)
+    (AsksAll (commands_in body (recipient_line path) message) turns outcome)
+
 abbrev pub Transacts : Extensions → List ℕ → List ℕ → List Turn → Option HandInFault → Type 0
-Transacts extensions path message turns outcome =
-    MatchBool extensions.pipelining (AsksGroup (group_text path) message turns outcome)
-    (AsksAll (commands_of path message) turns outcome)
+Transacts extensions path message turns outcome = TransactsAs extensions (body_kind message) path message turns outcome

@@ -5,16 +5,15 @@ ghost use Rattle.dsn_smtp.specs.inner.CommandLine.{IsCommandLine, longest_comman
 ghost use Rattle.dsn_smtp.specs.CommandLine.{hello_line, recipient_line};
 ghost use Rattle.dsn_smtp.specs.Pipelining.{group_text};
 
+use crate::body::Body;
 use dsn_text::{Address, MtaName};
 use std::marker::Model;
 
 /// The longest command line, in bytes, with its CRLF (RFC 5321 section 4.5.3.1.4).
 const LONGEST_COMMAND_LINE: usize = 512;
 
-/// The lines of DATA, of MAIL from the null sender and of QUIT (RFC 5321 section 4.1.1).
+/// The lines of DATA and of QUIT (RFC 5321 section 4.1.1).
 pub(crate) const DATA_LINE: &[u8] = b"DATA\r\n";
-
-pub(crate) const SENDER_LINE: &[u8] = b"MAIL FROM:<>\r\n";
 
 pub(crate) const QUIT_LINE: &[u8] = b"QUIT\r\n";
 
@@ -65,13 +64,13 @@ impl CommandLine {
         line
     }
 
-    /// MAIL, RCPT for one path, and DATA: a group (RFC 2920).
-    pub(crate) fn group(path: &Address) -> CommandLine
-        ensures { result ≡ group_text path.now }
+    /// MAIL for a message of this kind, RCPT for one path, and DATA: a group (RFC 2920).
+    pub(crate) fn group(body: Body, path: &Address) -> CommandLine
+        ensures { result ≡ group_text body path.now }
     {
         let address = path.bytes();
         let mut group = CommandLine::empty();
-        group.push(SENDER_LINE);
+        group.push(body.sender_line());
         group.push(b"RCPT TO:<");
         group.push(address);
         group.push(b">\r\n");

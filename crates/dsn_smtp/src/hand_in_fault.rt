@@ -20,6 +20,10 @@ pub enum HandInFault {
     /// The device failed before the step's command was sent whole.
     #[error("a command was not said")]
     Unsaid(HandInStep),
+    /// The message has bytes above 127, and the server doesn't offer 8BITMIME (RFC 6152 section 3).
+    /// Nothing was sent for it.
+    #[error("the server has no 8BITMIME, and the notice has 8bit bytes")]
+    NotOffered,
 }
 
 impl HandInFault {
@@ -34,8 +38,8 @@ impl HandInFault {
         )
     }
 
-    /// Whether the server refused for good, by 5yz. After every other fault, a later attempt may
-    /// end differently.
+    /// Whether the server refused for good, by 5yz, or lacks what the message needs. After every
+    /// other fault, a later attempt may end differently.
     pub fn is_refused_for_good(&self) -> bool
         ensures { result ≡ is_refused_for_good self.now }
     {
@@ -43,6 +47,7 @@ impl HandInFault {
             // At any step: the first digit alone counts.
             HandInFault::Refused(_, code) => matches!(code.class(), ReplyClass::RefusedForGood),
             HandInFault::Unheard(..) | HandInFault::Unsaid(_) => false,
+            HandInFault::NotOffered => true,
         }
     }
 

@@ -7,6 +7,7 @@ ghost use Rattle.dsn_smtp.specs.Session.{AsksOverSome};
 use crate::connect::Connect;
 use crate::hand_in_fault::HandInFault;
 use crate::hand_in_step::HandInStep;
+use crate::handed_in::HandedIn;
 use crate::kept_or_new::hand_in_over;
 use crate::reply_buffer::ReplyBuffer;
 use crate::reply_fault::ReplyFault;
@@ -99,29 +100,28 @@ impl<S: Stream + Drop> KeptSessions<S> {
         self.end_turn(waiting, handed)
     }
 
-    /// Keeps the session of a submission that succeeded, or ends it if it was used often enough.
-    /// Returns the fault of the submission.
-    fn end_turn<W: Wait>(
-        &self,
-        waiting: &W,
-        handed: Result<Session<S>, HandInFault>,
-    ) -> Result<(), HandInFault>
-        ensures { fault_said result ≡ fault_said handed }
+    /// Ends the turn of a submission, and returns its fault.
+    fn end_turn<W: Wait>(&self, waiting: &W, handed: HandedIn<S>) -> Result<(), HandInFault>
+        ensures { fault_said result ≡ handed.fault }
     {
-        match handed {
-            Ok(session) if session.may_go_on() => {
-                self.put_back(waiting, Some(session), true);
-                Ok(())
-            }
-            Ok(session) => {
+        let HandedIn { session, fault } = handed;
+        self.return_turn(waiting, session);
+        match fault {
+            None => Ok(()),
+            Some(fault) => Err(fault),
+        }
+    }
+
+    /// Returns a turn, and keeps the session that a submission left, or ends it if it was used often
+    /// enough.
+    fn return_turn<W: Wait>(&self, waiting: &W, session: Option<Session<S>>) {
+        match session {
+            Some(session) if session.may_go_on() => self.put_back(waiting, Some(session), true),
+            Some(session) => {
                 self.put_back(waiting, None, false);
                 session.end();
-                Ok(())
             }
-            Err(fault) => {
-                self.put_back(waiting, None, true);
-                Err(fault)
-            }
+            None => self.put_back(waiting, None, true),
         }
     }
 

@@ -2,6 +2,7 @@
 //! those to a group of commands (RFC 2920).
 #![tactic(auto)]
 
+mod body;
 mod command;
 mod command_line;
 mod connect;
@@ -10,6 +11,7 @@ mod extensions;
 mod group_replies;
 mod hand_in_fault;
 mod hand_in_step;
+mod handed_in;
 mod kept_or_new;
 mod kept_sessions;
 mod mail_server;
@@ -27,11 +29,13 @@ mod session;
 mod submission;
 mod transaction;
 
+pub use body::Body;
 pub use connect::Connect;
 pub use dialogue::say;
 pub use extensions::Extensions;
 pub use hand_in_fault::HandInFault;
 pub use hand_in_step::HandInStep;
+pub use handed_in::HandedIn;
 pub use kept_or_new::hand_in_over;
 pub use kept_sessions::KeptSessions;
 pub use mail_server::{MailConnection, MailServer};

@@ -41,7 +41,6 @@ impl<'a> MailServer<'a> {
 impl Connect<MailConnection> for MailServer<'_> {
     ghost gives = { λ _ _ _. Unit {0} };
 
-    // A connection that can't be made counts as a greeting that wasn't received.
     fn connect(&mut self) -> Result<MailConnection, HandInFault> {
         match connect_with_limits(self.rt, self.address) {
             Ok(stream) => Ok(Plain::new(Connection::new(stream))),

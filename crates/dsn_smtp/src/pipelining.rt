@@ -7,6 +7,7 @@ ghost use Rattle.dsn_smtp.specs.Dialogue.{TakesTurns, Turn};
 ghost use Rattle.dsn_smtp.specs.HandIn.{TurnsOver, fault_said};
 ghost use Rattle.dsn_smtp.specs.Pipelining.{AsksGroup, Cancels, FollowsGroup, HearsGroup, HearsOne, group_text};
 
+use crate::body::Body;
 use crate::command::Command;
 use crate::command_line::CommandLine;
 use crate::dialogue::{hear, say};
@@ -23,18 +24,21 @@ use dsn_text::Address;
 const EMPTY_MESSAGE: &[u8] = b".\r\n";
 
 /// Submits one notice as [`hand_in_notice`](crate::hand_in_notice) does, but sends MAIL, RCPT and
-/// DATA as one group. Requires that the server offers PIPELINING. Returns the stream, and the first
-/// step that went wrong. After that nothing more of the message is sent.
+/// DATA as one group. Requires that the server offers PIPELINING, and what a message of this kind
+/// needs. Returns the stream, and the first step that went wrong. After that nothing more of the
+/// message is sent.
 pub(crate) fn hand_in_group<S: Stream>(
     stream: S,
     buffer: &mut ReplyBuffer,
+    body: Body,
     path: &Address,
     message: &[u8],
 ) -> (S, Result<(), HandInFault>)
-    ensures { TurnsOver S.Source S.Drain stream result.0 (AsksGroup (group_text path.now) message.now)
-        buffer.old buffer.new (fault_said result.1) }
+    ensures { TurnsOver S.Source S.Drain stream result.0
+        (AsksGroup (group_text body path.now) message.now) buffer.old buffer.new
+        (fault_said result.1) }
 {
-    let group = CommandLine::group(path);
+    let group = CommandLine::group(body, path);
     ask_group(stream, buffer, group.bytes(), message)
 }
 

@@ -2,16 +2,19 @@
 //! Implements docs/postfix-internals.md, "A connection".
 //! A connection, a greeting and EHLO for each notice would take more processor time than bounce(8),
 //! which writes straight to cleanup(8).
-ghost use Rattle.std.specs.Prelude.{◌≡◌};
+ghost use Rattle.std.specs.Prelude.{◌≡◌, true};
+ghost use Rattle.dsn_smtp.specs.Body.{body_kind, suffice_for};
 ghost use Rattle.dsn_smtp.specs.HandIn.{TurnsOver, fault_said};
-ghost use Rattle.dsn_smtp.specs.Pipelining.{Transacts};
+ghost use Rattle.dsn_smtp.specs.Pipelining.{TransactsAs};
 ghost use Rattle.dsn_smtp.specs.Session.{Begins, Continues, Ends, IsBegun};
 
+use crate::body::Body;
 use crate::extensions::Extensions;
 use crate::hand_in_fault::HandInFault;
+use crate::handed_in::HandedIn;
 use crate::pipelining::hand_in_group;
 use crate::reply_buffer::ReplyBuffer;
-use crate::transaction::{greet, hand_in_notice, leave};
+use crate::transaction::{greet, hand_in_one_by_one, leave};
 use dsn_device::Stream;
 use dsn_text::{Address, MtaName};
 use std::marker::Model;
@@ -67,16 +70,39 @@ impl<S: Stream + Drop> Session<S> {
         }
     }
 
-    /// Submits one notice, as [`hand_in_notice`] does, or by a group of commands if the server
-    /// offers PIPELINING (RFC 2920). If that fails, ends the session and returns the fault.
-    pub fn hand_in(
+    /// Submits one notice, as [`hand_in_notice`](crate::hand_in_notice) does, or by a group of
+    /// commands if the server offers PIPELINING (RFC 2920). If that fails, ends the session and
+    /// returns the fault. If the server doesn't offer what the message needs, sends nothing, and
+    /// returns the session with `NotOffered`.
+    pub fn hand_in(self, buffer: &mut ReplyBuffer, path: &Address, message: &[u8]) -> HandedIn<S>
+        ensures over { Continues S.Source S.Drain self path.now message.now buffer.old buffer.new
+            result.session result.fault }
+        ensures begun { IsBegun S.Source S.Drain self }
+    {
+        let body = Body::of(message);
+        if self.extensions.suffice_for(body) {
+            return self.submit(buffer, body, path, message);
+        }
+        // The buffer must not hold the reply to another command.
+        *buffer = ReplyBuffer::new();
+        HandedIn {
+            session: Some(self),
+            fault: Some(HandInFault::NotOffered),
+        }
+    }
+
+    /// Submits one notice of this kind. If that fails, ends the session.
+    fn submit(
         self,
         buffer: &mut ReplyBuffer,
+        body: Body,
         path: &Address,
         message: &[u8],
-    ) -> Result<Session<S>, HandInFault>
-        ensures over { Continues S.Source S.Drain self
-            (Transacts self.extensions path.now message.now) buffer.old buffer.new result }
+    ) -> HandedIn<S>
+        requires kind { body ≡ body_kind message.now }
+        requires offered { suffice_for self.extensions body ≡ true }
+        ensures over { Continues S.Source S.Drain self path.now message.now buffer.old buffer.new
+            result.session result.fault }
         ensures begun { IsBegun S.Source S.Drain self }
     {
         let Session {
@@ -85,16 +111,22 @@ impl<S: Stream + Drop> Session<S> {
             uses,
         } = self;
         let uses = uses.saturating_add(1);
-        let (stream, handed) = transact(stream, extensions, buffer, path, message);
+        let (stream, handed) = transact(stream, extensions, buffer, body, path, message);
         match handed {
-            Ok(()) => Ok(Session {
-                stream,
-                extensions,
-                uses,
-            }),
+            Ok(()) => HandedIn {
+                session: Some(Session {
+                    stream,
+                    extensions,
+                    uses,
+                }),
+                fault: None,
+            },
             Err(fault) => {
                 end_failed(stream, &fault);
-                Err(fault)
+                HandedIn {
+                    session: None,
+                    fault: Some(fault),
+                }
             }
         }
     }
@@ -124,22 +156,24 @@ impl<S: Stream + Drop> Session<S> {
     }
 }
 
-/// Submits one notice over a stream whose server offers these extensions.
+/// Submits one notice of this kind over a stream whose server offers these extensions.
 fn transact<S: Stream>(
     stream: S,
     extensions: Extensions,
     buffer: &mut ReplyBuffer,
+    body: Body,
     path: &Address,
     message: &[u8],
 ) -> (S, Result<(), HandInFault>)
     ensures { TurnsOver S.Source S.Drain stream result.0
-        (Transacts extensions path.now message.now) buffer.old buffer.new (fault_said result.1) }
+        (TransactsAs extensions body path.now message.now) buffer.old buffer.new
+        (fault_said result.1) }
 {
     if extensions.pipelining {
-        return hand_in_group(stream, buffer, path, message);
+        return hand_in_group(stream, buffer, body, path, message);
     }
     let mut stream = stream;
-    let handed = hand_in_notice(&mut stream, buffer, path, message);
+    let handed = hand_in_one_by_one(&mut stream, buffer, body, path, message);
     (stream, handed)
 }
 

@@ -4,13 +4,17 @@
 //! was sent. If a server sends bytes between two notices, they are read as the reply to MAIL, also
 //! to that of a group. Each reply is then one step late, and DATA gets 2yz instead of 3yz. So no
 //! reply to another command is taken for the reply to the message.
-ghost use Rattle.std.specs.Prelude.{◌≡◌, List, [], ◌∷◌};
+ghost use Rattle.std.specs.Prelude.{◌≡◌, List, [], ◌∷◌, Some, MatchBool};
+ghost use Rattle.dsn_smtp.specs.Body.{body_kind, suffice_for};
+ghost use Rattle.dsn_smtp.specs.CommandLine.{recipient_line};
 ghost use Rattle.dsn_smtp.specs.Dialogue.{TakesTurns, Turn};
-ghost use Rattle.dsn_smtp.specs.HandIn.{AsksAll, Greets, GreetsWith, Leaves, Listens, SaysGoodbye, TurnsOver, commands_of, commands_with, fault_said};
+ghost use Rattle.dsn_smtp.specs.HandIn.{AsksAll, Greets, GreetsWith, Leaves, Listens, SaysGoodbye, TurnsOver, commands_in, commands_of, fault_said};
 
+use crate::body::Body;
 use crate::command::Command;
-use crate::command_line::{CommandLine, DATA_LINE, QUIT_LINE, SENDER_LINE};
+use crate::command_line::{CommandLine, DATA_LINE, QUIT_LINE};
 use crate::dialogue::{hear, say};
+use crate::extensions::Extensions;
 use crate::hand_in_fault::HandInFault;
 use crate::hand_in_step::HandInStep;
 use crate::reply_buffer::ReplyBuffer;
@@ -51,40 +55,68 @@ fn greet_with<S: Stream>(
 /// command only after the reply before it was received, and nothing more after a reply that isn't
 /// wanted. `message` has its leading dots doubled, and ends with the line of one dot.
 /// Returns the first step that went wrong. If the server accepted the notice, the buffer holds the
-/// reply to the message.
+/// reply to the message. If the server's extensions don't allow the message's bytes, nothing is
+/// sent, and the result is `NotOffered`; the buffer then holds no reply.
 pub fn hand_in_notice<S: Stream>(
     stream: &mut S,
     buffer: &mut ReplyBuffer,
+    extensions: Extensions,
+    path: &Address,
+    message: &[u8],
+) -> Result<(), HandInFault>
+    ensures { MatchBool (suffice_for extensions (body_kind message.now))
+        (TurnsOver S.Source S.Drain stream.old stream.new (AsksAll (commands_of path.now message.now))
+        buffer.old buffer.new (fault_said result))
+        ((stream.new ≡ stream.old) × ((buffer.new ≡ [])
+        × (fault_said result ≡ Some HandInFault.NotOffered))) }
+{
+    let body = Body::of(message);
+    if !extensions.suffice_for(body) {
+        *buffer = ReplyBuffer::new();
+        return Err(HandInFault::NotOffered);
+    }
+    hand_in_one_by_one(stream, buffer, body, path, message)
+}
+
+/// As [`hand_in_notice`], with the kind of the message's bytes. Requires that the server offers what
+/// it needs.
+pub(crate) fn hand_in_one_by_one<S: Stream>(
+    stream: &mut S,
+    buffer: &mut ReplyBuffer,
+    body: Body,
     path: &Address,
     message: &[u8],
 ) -> Result<(), HandInFault>
     ensures { TurnsOver S.Source S.Drain stream.old stream.new
-        (AsksAll (commands_of path.now message.now)) buffer.old buffer.new (fault_said result) }
+        (AsksAll (commands_in body (recipient_line path.now) message.now)) buffer.old buffer.new
+        (fault_said result) }
 {
     let recipient = CommandLine::recipient(path);
-    hand_in_with(stream, buffer, recipient.bytes(), message)
+    hand_in_with(stream, buffer, body, recipient.bytes(), message)
 }
 
-/// As [`hand_in_notice`], with the line for RCPT.
+/// As [`hand_in_one_by_one`], with the line for RCPT.
 fn hand_in_with<'a, S: Stream>(
     stream: &mut S,
     buffer: &mut ReplyBuffer,
+    body: Body,
     recipient: &'a [u8],
     message: &'a [u8],
 ) -> Result<(), HandInFault>
     ensures { TurnsOver S.Source S.Drain stream.old stream.new
-        (AsksAll (commands_with recipient.now message.now)) buffer.old buffer.new (fault_said result) }
+        (AsksAll (commands_in body recipient.now message.now)) buffer.old buffer.new
+        (fault_said result) }
 {
-    let commands = commands_for(recipient, message);
+    let commands = commands_for(body, recipient, message);
     ask_all(stream, buffer, &commands)
 }
 
 /// The commands of a transaction, in their order.
-fn commands_for<'a>(recipient: &'a [u8], message: &'a [u8]) -> [Command<'a>; 4]
-    ensures { result ≡ commands_with recipient.now message.now }
+fn commands_for<'a>(body: Body, recipient: &'a [u8], message: &'a [u8]) -> [Command<'a>; 4]
+    ensures { result ≡ commands_in body recipient.now message.now }
 {
     [
-        Command::new(HandInStep::Sender, SENDER_LINE),
+        Command::new(HandInStep::Sender, body.sender_line()),
         Command::new(HandInStep::Recipient, recipient),
         Command::new(HandInStep::Data, DATA_LINE),
         Command::new(HandInStep::Message, message),

@@ -2,6 +2,7 @@
 use Rattle.std.proofs.Common.{◌≡◌, ℕ, Bool, true, List, Option, Some, None, is_some, refl, Result, Ok, Err, is_ok, is_err, sym, ap, subst, ◌∙◌}
 use Rattle.std.specs.Option.{option_map}
 use Rattle.dsn_submission.specs.Waiting.{Queue, item_of, letter_at, letter_in_hand}
+use Rattle.dsn_submission.specs.Verdict.{reason_of}
 use Rattle.dsn_submission.specs.declared.waiting.Waits.{Waits}
 use Rattle.dsn_submission.specs.Submitter.{AsksOnce, Handles, KeepsRefused, Submitter, TellsMark, concluded, lost, next_place, with_next_taken, told_on, verdict_in}
 use Rattle.dsn_device.specs.declared.drain.Drain
@@ -33,7 +34,7 @@ pub handled_by : {T S C K M : Type 0} (source : Source.Ghosts S) (drain : Drain.
     → final ≡ record ended { stopped = final.stopped }
     → before ≡ start.waiting.mark
     → AsksOnce source drain gives server_old server_new start.session asked.session start.host path message start.reply asked.reply fault
-    → KeepsRefused keeps refused_old refused_new path message asked.reply (verdict_in asked.waiting now asked.give_up fault) verdict
+    → KeepsRefused keeps refused_old refused_new path message (reason_of fault asked.reply) (verdict_in asked.waiting now asked.give_up fault) verdict
     → TellsMark tells marks_old marks_new before ended.waiting.mark final.stopped
     → Handles source drain gives keeps tells start final server_old server_new refused_old refused_new marks_old marks_new path message now fault verdict
 handled_by {T} {S} {C} {K} {M} source drain gives keeps tells start asked ended final server_old server_new refused_old refused_new marks_old marks_new path message now before fault verdict first second third mark asks keeps_one tells_one =
@@ -46,9 +47,9 @@ handled_by {T} {S} {C} {K} {M} source drain gives keeps tells start asked ended 
           subst (λ (r : List ℕ). AsksOnce source drain gives server_old server_new start.session final.session start.host path message start.reply r fault) reply
           (subst (λ (s : Option (OpenSession S)). AsksOnce source drain gives server_old server_new start.session s start.host path message start.reply asked.reply fault) session asks);
       refusal =
-          subst (λ (r : List ℕ). KeepsRefused keeps refused_old refused_new path message r (verdict_in start.waiting now start.give_up fault) verdict) reply
-          (subst (λ (l : ℕ). KeepsRefused keeps refused_old refused_new path message asked.reply (verdict_in start.waiting now l fault) verdict) limit
-          (subst (λ (q : Queue T). KeepsRefused keeps refused_old refused_new path message asked.reply (verdict_in q now asked.give_up fault) verdict) waiting keeps_one));
+          subst (λ (r : List ℕ). KeepsRefused keeps refused_old refused_new path message (reason_of fault r) (verdict_in start.waiting now start.give_up fault) verdict) reply
+          (subst (λ (l : ℕ). KeepsRefused keeps refused_old refused_new path message (reason_of fault asked.reply) (verdict_in start.waiting now l fault) verdict) limit
+          (subst (λ (q : Queue T). KeepsRefused keeps refused_old refused_new path message (reason_of fault asked.reply) (verdict_in q now asked.give_up fault) verdict) waiting keeps_one));
       concluded_is =
           ap (λ (s : Submitter T S). s.waiting) third
           ∙ (ap (λ (s : Submitter T S). s.waiting) second ∙ ap (λ (q : Queue T). concluded q now verdict) waiting);

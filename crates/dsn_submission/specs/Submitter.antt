@@ -1,11 +1,10 @@
 -- Submission of the letters that wait, one after another: what is asked of the server, and what becomes of each letter.
-use Rattle.std.specs.Prelude.{◌≡◌, ℕ, Bool, true, false, List, Option, Some, None, Result, Ok, Err, if◌then◌else◌}
+use Rattle.std.specs.Prelude.{◌≡◌, ℕ, Bool, true, false, List, Option, Some, None, Result, if◌then◌else◌}
 use Rattle.dsn_device.specs.declared.drain.Drain
 use Rattle.dsn_device.specs.declared.source.Source
-use Rattle.dsn_smtp.specs.HandIn.{fault_said}
 use Rattle.dsn_smtp.specs.Session.{AsksOver, Ends, OpenSession}
 use Rattle.dsn_smtp.specs.declared.hand_in_fault.HandInFault.{HandInFault}
-use Rattle.dsn_submission.specs.Verdict.{verdict_of}
+use Rattle.dsn_submission.specs.Verdict.{reason_of, verdict_of}
 use Rattle.dsn_submission.specs.Waiting.{Queue, due_place, is_given_up, put_off, server_away, settled, taken}
 use Rattle.dsn_submission.specs.declared.verdict.Verdict.{Verdict}
 use Rattle.dsn_submission.specs.declared.verdict.Verdict.TheVariants.{Accepted, RefusedForGood, PutOff, ServerAway}
@@ -28,20 +27,19 @@ next_place submitter now = if submitter.stopped then None else due_place submitt
 abbrev pub with_next_taken : {T S : Type 0} → Submitter T S → Option ℕ → Submitter T S
 with_next_taken submitter place = record submitter { waiting = taken submitter.waiting place }
 
--- after a transaction that succeeded the session goes on, or ends with QUIT; after a fault it has ended
-pub data LeavesSession {S : Type 0} (source : Source.Ghosts S) (drain : Drain.Ghosts S) : Result (OpenSession S) HandInFault → Option (OpenSession S) → Type 0 where
-  goes_on : (session : OpenSession S) → LeavesSession source drain (Ok session) (Some session)
-  quits : (session : OpenSession S) → Ends source drain session.stream None → LeavesSession source drain (Ok session) None
-  has_ended : (why : HandInFault) → LeavesSession source drain (Err why) None
+-- the session that a transaction left goes on, or ends with QUIT; or it has ended
+pub data LeavesSession {S : Type 0} (source : Source.Ghosts S) (drain : Drain.Ghosts S) : Option (OpenSession S) → Option (OpenSession S) → Type 0 where
+  goes_on : (session : OpenSession S) → LeavesSession source drain (Some session) (Some session)
+  quits : (session : OpenSession S) → Ends source drain session.stream None → LeavesSession source drain (Some session) None
+  has_ended : LeavesSession source drain None None
 
 -- one transaction was asked of the server, over the session that was kept or over a new one: its fault, and the session
 -- that is kept now
 pub record AsksOnce {S C : Type 0} (source : Source.Ghosts S) (drain : Drain.Ghosts S) (gives : C → C → Result S HandInFault → Type 0)
     (old new : C) (kept left : Option (OpenSession S)) (host path message before after : List ℕ) (fault : Option HandInFault) : Type 0 where
-  pub outcome : Result (OpenSession S) HandInFault
-  pub over : AsksOver source drain gives old new kept host path message before after outcome
-  pub fault_is : fault ≡ fault_said outcome
-  pub leaves : LeavesSession source drain outcome left
+  pub handed : Option (OpenSession S)
+  pub over : AsksOver source drain gives old new kept host path message before after handed fault
+  pub leaves : LeavesSession source drain handed left
 
 -- a letter that is put off once more is refused for good if it is given up
 abbrev pub given_up_verdict : Bool → Verdict → Verdict
@@ -54,11 +52,11 @@ given_up_verdict gives_up ServerAway = ServerAway
 abbrev pub verdict_in : {T : Type 0} → Queue T → ℕ → ℕ → Option HandInFault → Verdict
 verdict_in queue now limit fault = given_up_verdict (is_given_up queue now limit) (verdict_of fault)
 
--- a letter that is refused for good was kept with the reply, or else it is put off; no other letter is kept
-pub data KeepsRefused {K : Type 0} (keeps : K → List ℕ → List ℕ → List ℕ → Bool → K → Type 0) (old new : K) (path message reply : List ℕ) : Verdict → Verdict → Type 0 where
-  kept : keeps old path message reply true new → KeepsRefused keeps old new path message reply RefusedForGood RefusedForGood
-  not_kept : keeps old path message reply false new → KeepsRefused keeps old new path message reply RefusedForGood PutOff
-  not_refused : (verdict : Verdict) → (verdict ≡ RefusedForGood → ⊥) → new ≡ old → KeepsRefused keeps old new path message reply verdict verdict
+-- a letter that is refused for good was kept with the reason, or else it is put off; no other letter is kept
+pub data KeepsRefused {K : Type 0} (keeps : K → List ℕ → List ℕ → List ℕ → Bool → K → Type 0) (old new : K) (path message reason : List ℕ) : Verdict → Verdict → Type 0 where
+  kept : keeps old path message reason true new → KeepsRefused keeps old new path message reason RefusedForGood RefusedForGood
+  not_kept : keeps old path message reason false new → KeepsRefused keeps old new path message reason RefusedForGood PutOff
+  not_refused : (verdict : Verdict) → (verdict ≡ RefusedForGood → ⊥) → new ≡ old → KeepsRefused keeps old new path message reason verdict verdict
 
 -- the queue after a verdict on the letter in hand
 abbrev pub concluded : {T : Type 0} → Queue T → ℕ → Verdict → Queue T
@@ -80,7 +78,7 @@ pub record Handles {T S C K M : Type 0} (source : Source.Ghosts S) (drain : Drai
     (taken new : Submitter T S) (server_old server_new : C) (refused_old refused_new : K) (marks_old marks_new : M)
     (path message : List ℕ) (now : ℕ) (fault : Option HandInFault) (verdict : Verdict) : Type 0 where
   pub asked : AsksOnce source drain gives server_old server_new taken.session new.session taken.host path message taken.reply new.reply fault
-  pub refusal : KeepsRefused keeps refused_old refused_new path message new.reply (verdict_in taken.waiting now taken.give_up fault) verdict
+  pub refusal : KeepsRefused keeps refused_old refused_new path message (reason_of fault new.reply) (verdict_in taken.waiting now taken.give_up fault) verdict
   pub concluded_is : new.waiting ≡ concluded taken.waiting now verdict
   pub mark : TellsMark tells marks_old marks_new taken.waiting.mark new.waiting.mark new.stopped
   pub same_host : new.host ≡ taken.host

@@ -8,16 +8,16 @@ use dsn_device::Broken;
 pub trait RefusedLetters {
     ghost use Rattle.std.specs.Prelude.{ℕ, Bool, List};
 
-    // What the place becomes when a letter, with its path and its message, and a reply are to be kept,
+    // What the place becomes when a letter, with its path and its message, and a reason are to be kept,
     // and whether that succeeds. Each implementation defines it, since no contract can describe a
     // file.
     ghost keeps: { Self → List ℕ → List ℕ → List ℕ → Bool → Self → Type 0 };
 
-    /// Keeps a letter and the reply by which it was refused, so that no crash loses them. Returns
-    /// `Broken` if one may.
+    /// Keeps a letter and the reason of its refusal, which is mostly the server's reply, so that no
+    /// crash loses them. Returns `Broken` if one may.
     // A type parameter of the trait would be one that no thread could rely on.
-    fn keep<T: Mail>(&mut self, letter: &T, reply: &[u8]) -> Result<(), Broken>
-        ensures { keeps self.old (T.path_of letter.now) (T.message_of letter.now) reply.now
+    fn keep<T: Mail>(&mut self, letter: &T, reason: &[u8]) -> Result<(), Broken>
+        ensures { keeps self.old (T.path_of letter.now) (T.message_of letter.now) reason.now
             (is_ok result) self.new };
 }
 

@@ -13,5 +13,5 @@ pub use deeds::{Marks, RefusedLetters};
 pub use laws::{letters_keep_their_places, only_settling_settles};
 pub use mail::{Mail, Transaction};
 pub use submitter::{Handled, Submitter};
-pub use verdict::{Verdict, verdict_of};
+pub use verdict::{Verdict, reason_of, verdict_of};
 pub use waiting::{Waiting, Waits};

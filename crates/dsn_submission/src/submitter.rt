@@ -3,16 +3,17 @@
 ghost use Rattle.std.specs.Prelude.{◌≡◌, false, true, Some, None, [], is_some, IfErr, IfNone, IfOk, IfSome, OnErr};
 ghost use Rattle.std.specs.Option.{option_copied, option_map};
 ghost use Rattle.dsn_submission.specs.Submitter.{AsksOnce, Handles, KeepsRefused, LeavesSession, TellsMark, concluded, next_place, with_next_taken, verdict_in};
+ghost use Rattle.dsn_submission.specs.Verdict.{reason_of};
 ghost use Rattle.dsn_submission.specs.Waiting.{empty_queue, item_of, letter_at, letter_in_hand, pushed, serial_in_hand, taken};
 ghost use Rattle.dsn_submission.specs.declared.verdict.Verdict.TheVariants.{RefusedForGood};
 ghost use Rattle.dsn_submission.specs.declared.waiting.Waits.{Waits};
 
 use crate::deeds::{Marks, RefusedLetters};
 use crate::mail::Mail;
-use crate::verdict::{Verdict, verdict_of};
+use crate::verdict::{Verdict, reason_of, verdict_of};
 use crate::waiting::Waiting;
 use dsn_device::Stream;
-use dsn_smtp::{Connect, HandInFault, ReplyBuffer, Session, Submission, hand_in_over};
+use dsn_smtp::{Connect, HandInFault, HandedIn, ReplyBuffer, Session, Submission, hand_in_over};
 use dsn_text::{MtaName, NoMemory};
 use std::alloc::Global;
 use std::marker::Model;
@@ -58,13 +59,6 @@ pub struct Handled {
     pub fault: Option<HandInFault>,
     /// What became of it.
     pub verdict: Verdict,
-}
-
-/// What a submission leaves: the session that is kept, and its fault.
-#[derive(Drop)]
-struct Submitted<S: Stream> {
-    session: Option<Session<S>>,
-    fault: Option<HandInFault>,
 }
 
 impl<T: Mail + Drop, S: Stream + Drop> Submitter<T, S> {
@@ -198,30 +192,35 @@ impl<T: Mail + Drop, S: Stream + Drop> Submitter<T, S> {
     }
 
     /// Keeps the letter in hand if it is refused for good. If that fails, the letter is put off.
-    fn keep_if_refused<K: RefusedLetters>(&self, verdict: Verdict, refused: &mut K) -> Verdict
+    fn keep_if_refused<K: RefusedLetters>(
+        &self,
+        verdict: Verdict,
+        fault: &Option<HandInFault>,
+        refused: &mut K,
+    ) -> Verdict
         requires { is_some (letter_in_hand self.now.waiting) ≡ true }
         ensures { (letter : Waits T) → letter_in_hand self.now.waiting ≡ Some letter
             → KeepsRefused K.keeps refused.old refused.new (T.path_of letter.item)
-            (T.message_of letter.item) self.now.reply verdict result }
+            (T.message_of letter.item) (reason_of fault.now self.now.reply) verdict result }
     {
         match verdict {
-            Verdict::RefusedForGood => self.keep(refused),
+            Verdict::RefusedForGood => self.keep(reason_of(fault, self.reply.bytes()), refused),
             _ => verdict,
         }
     }
 
-    /// Keeps the letter in hand with the last reply. If that fails, the letter is put off.
-    fn keep<K: RefusedLetters>(&self, refused: &mut K) -> Verdict
+    /// Keeps the letter in hand with this reason. If that fails, the letter is put off.
+    fn keep<K: RefusedLetters>(&self, reason: &[u8], refused: &mut K) -> Verdict
         requires { is_some (letter_in_hand self.now.waiting) ≡ true }
         ensures { (letter : Waits T) → letter_in_hand self.now.waiting ≡ Some letter
             → KeepsRefused K.keeps refused.old refused.new (T.path_of letter.item)
-            (T.message_of letter.item) self.now.reply RefusedForGood
+            (T.message_of letter.item) reason.now RefusedForGood
             result }
     {
         let Some(letter) = self.waiting.in_hand() else {
             unreachable!()
         };
-        match refused.keep(letter, self.reply.bytes()) {
+        match refused.keep(letter, reason) {
             Ok(()) => Verdict::RefusedForGood,
             Err(_) => Verdict::PutOff,
         }
@@ -237,12 +236,12 @@ impl<T: Mail + Drop, S: Stream + Drop> Submitter<T, S> {
         requires { is_some (letter_in_hand self.old.waiting) ≡ true }
         ensures kept { (letter : Waits T) → letter_in_hand self.old.waiting ≡ Some letter
             → KeepsRefused K.keeps refused.old refused.new (T.path_of letter.item)
-            (T.message_of letter.item) self.old.reply
+            (T.message_of letter.item) (reason_of fault.now self.old.reply)
             (verdict_in self.old.waiting now self.old.give_up fault.now) result }
         ensures concluded { self.new
             ≡ record self.old { waiting = concluded self.old.waiting now result } }
     {
-        let verdict = self.keep_if_refused(self.verdict(fault, now), refused);
+        let verdict = self.keep_if_refused(self.verdict(fault, now), fault, refused);
         conclude(&mut self.waiting, verdict, now);
         verdict
     }
@@ -363,7 +362,7 @@ fn submit<T: Mail, S: Stream + Drop, C: Connect<S>>(
     message: &[u8],
     reply: &mut ReplyBuffer,
     server: &mut C,
-) -> Submitted<S>
+) -> HandedIn<S>
     ensures { AsksOnce S.Source S.Drain C.gives server.old server.new kept result.session host.now
         (T.path_of letter.now) message.now reply.old reply.new result.fault }
 {
@@ -371,25 +370,23 @@ fn submit<T: Mail, S: Stream + Drop, C: Connect<S>>(
         path: letter.path(),
         message,
     };
-    match hand_in_over(server, kept, host, &submission, reply) {
-        Ok(session) => Submitted {
-            session: going_on(session),
-            fault: None,
-        },
-        Err(fault) => Submitted {
-            session: None,
-            fault: Some(fault),
-        },
+    let HandedIn { session, fault } = hand_in_over(server, kept, host, &submission, reply);
+    HandedIn {
+        session: going_on(session),
+        fault,
     }
 }
 
-/// The session, if it may be used again. Otherwise it is ended with QUIT.
-fn going_on<S: Stream + Drop>(session: Session<S>) -> Option<Session<S>>
-    ensures { LeavesSession S.Source S.Drain (Ok session) result }
+/// The session, if there is one and it may be used again. Otherwise it is ended with QUIT.
+fn going_on<S: Stream + Drop>(session: Option<Session<S>>) -> Option<Session<S>>
+    ensures { LeavesSession S.Source S.Drain session result }
 {
-    if session.may_go_on() {
-        return Some(session);
+    match session {
+        Some(session) if session.may_go_on() => Some(session),
+        Some(session) => {
+            session.end();
+            None
+        }
+        None => None,
     }
-    session.end();
-    None
 }

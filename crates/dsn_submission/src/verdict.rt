@@ -1,15 +1,18 @@
 //! What a submission's outcome says of its letter.
 ghost use Rattle.std.specs.Prelude.{◌≡◌};
-ghost use Rattle.dsn_submission.specs.Verdict.{is_server_step, step_of, verdict_of};
+ghost use Rattle.dsn_submission.specs.Verdict.{is_of_server, is_server_step, reason_of, verdict_of};
 
 use dsn_smtp::{HandInFault, HandInStep};
+
+/// The reason for a letter whose bytes the server doesn't take.
+const NOT_OFFERED: &[u8] = b"the server has no 8BITMIME, and the notice has 8bit bytes\r\n";
 
 /// What becomes of a letter that was submitted.
 #[derive(Clone, Copy, Debug, PartialEq, Eq)]
 pub enum Verdict {
     /// The server accepted it.
     Accepted,
-    /// The server refused it for good, by 5yz.
+    /// The server refused it for good, by 5yz, or lacks what its bytes need.
     RefusedForGood,
     /// It may be accepted later, and waits by itself.
     PutOff,
@@ -18,26 +21,42 @@ pub enum Verdict {
 }
 
 /// What an outcome says of the letter. A fault up to MAIL is the server's state, whatever its code
-/// (RFC 5321 sections 3.1 and 3.3). After MAIL, 5yz refuses the letter for good. Any other fault
-/// keeps that letter alone: one at which a server always hangs up doesn't keep the others.
+/// (RFC 5321 sections 3.1 and 3.3). After MAIL, 5yz refuses the letter for good. A server without
+/// the extension that the letter needs refuses it too. Any other fault keeps that letter alone: one
+/// at which a server always hangs up doesn't keep the others.
 pub fn verdict_of(fault: &Option<HandInFault>) -> Verdict
     ensures { result ≡ verdict_of fault.now }
 {
     match fault {
         None => Verdict::Accepted,
-        Some(fault) if is_server_step(step_of(fault)) => Verdict::ServerAway,
+        Some(fault) if is_of_server(fault) => Verdict::ServerAway,
         Some(fault) if fault.is_refused_for_good() => Verdict::RefusedForGood,
         Some(_) => Verdict::PutOff,
     }
 }
 
-/// The step of a fault.
-fn step_of(fault: &HandInFault) -> HandInStep
-    ensures { result ≡ step_of fault.now }
+/// Why a letter wasn't accepted, in lines that CRLF ends: the last reply, or words if nothing was
+/// sent for the letter.
+pub fn reason_of<'a>(fault: &Option<HandInFault>, reply: &'a [u8]) -> &'a [u8]
+    ensures { result.now ≡ reason_of fault.now reply.now }
+{
+    match fault {
+        Some(HandInFault::NotOffered) => NOT_OFFERED,
+        None
+        | Some(HandInFault::Refused(..))
+        | Some(HandInFault::Unheard(..))
+        | Some(HandInFault::Unsaid(_)) => reply,
+    }
+}
+
+/// Whether a fault is the server's, and says nothing of the letter.
+fn is_of_server(fault: &HandInFault) -> bool
+    ensures { result ≡ is_of_server fault.now }
 {
     match fault {
         HandInFault::Refused(step, _) | HandInFault::Unheard(step, _) | HandInFault::Unsaid(step) =>
-            *step,
+            is_server_step(*step),
+        HandInFault::NotOffered => false,
     }
 }
 

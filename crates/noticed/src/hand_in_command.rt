@@ -6,7 +6,7 @@ use crate::postfix_values::server_of;
 use crate::start_error::StartError;
 use clap::ArgMatches;
 use dsn_smtp::{HandInFault, MailConnection, MailServer, ServerAddress};
-use dsn_submission::{Handled, Submitter, Transaction, Verdict};
+use dsn_submission::{Handled, Submitter, Transaction, Verdict, reason_of};
 use dsn_text::{Address, Clean, MtaName};
 use std::alloc::Global;
 use std::io::Read;
@@ -294,7 +294,9 @@ impl<'a> HandIn<'a> {
         let number = handled.serial.saturating_add(1);
         // A reply of an earlier command says nothing of a server that didn't answer.
         let reply = match handled.fault {
-            None | Some(HandInFault::Refused(_, _)) => self.submitter.reply(),
+            None | Some(HandInFault::Refused(_, _) | HandInFault::NotOffered) => {
+                reason_of(&handled.fault, self.submitter.reply())
+            }
             Some(_) => b"",
         };
         let reply = self.cleaned(reply_text(reply));

@@ -1,6 +1,7 @@
 //! What `hand-in` keeps: the mark, and the letters that were refused for good.
 use dsn_journal::sync_folder;
 use dsn_outcome::Broken;
+use dsn_smtp::Body;
 use dsn_submission::{Mail, Marks, RefusedLetters};
 use std::fs::File;
 use std::io::Write;
@@ -96,15 +97,15 @@ impl RefusedPlace {
         })
     }
 
-    /// Writes the letter to this path whose message is the text, with its reply.
-    fn write_letter(&mut self, path: &[u8], reply: &[u8]) -> io::Result<()> {
+    /// Writes the letter to this path whose message is the text, with the reason of its refusal.
+    fn write_letter(&mut self, path: &[u8], reason: &[u8]) -> io::Result<()> {
         match &mut self.output {
             RefusedOutput::Standard(stdout) => {
-                write_refusal(stdout, path, &self.text, reply)?;
+                write_refusal(stdout, path, &self.text, reason)?;
                 stdout.flush()
             }
             RefusedOutput::Synced(file) => {
-                write_refusal(file, path, &self.text, reply)?;
+                write_refusal(file, path, &self.text, reason)?;
                 file.sync_data()
             }
         }
@@ -114,32 +115,33 @@ impl RefusedPlace {
 impl RefusedLetters for RefusedPlace {
     ghost keeps = { λ _ _ _ _ _ _. Unit {0} };
 
-    fn keep<T: Mail>(&mut self, letter: &T, reply: &[u8]) -> Result<(), Broken> {
+    fn keep<T: Mail>(&mut self, letter: &T, reason: &[u8]) -> Result<(), Broken> {
         self.text.clear();
         if letter.write_message(&mut self.text).is_err() {
             return Err(Broken);
         }
-        self.write_letter(letter.path().bytes(), reply)
+        self.write_letter(letter.path().bytes(), reason)
             .map_err(|_| Broken)
     }
 }
 
-/// Writes a letter as the outbox has it. The reply is before it, each line behind `NOOP`, which a
+/// Writes a letter as the outbox has it. The reason is before it, each line behind `NOOP`, which a
 /// mail server passes over (RFC 5321 section 4.1.1.9).
 fn write_refusal<W: Write>(
     out: &mut W,
     path: &[u8],
     message: &[u8],
-    reply: &[u8],
+    reason: &[u8],
 ) -> io::Result<()> {
-    for line in reply.split(|&byte| byte == b'\n') {
+    for line in reason.split(|&byte| byte == b'\n') {
         if !line.is_empty() {
             out.write_all(b"NOOP ")?;
             out.write_all(line)?;
             out.write_all(b"\n")?;
         }
     }
-    out.write_all(b"MAIL FROM:<>\r\nRCPT TO:<")?;
+    out.write_all(Body::of(message).sender_line())?;
+    out.write_all(b"RCPT TO:<")?;
     out.write_all(path)?;
     out.write_all(b">\r\nDATA\r\n")?;
     out.write_all(message)

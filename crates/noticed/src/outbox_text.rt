@@ -1,6 +1,7 @@
 //! An outbox, taken apart into its mail transactions.
 //! Implements noticed-notice(5).
 use bstr::ByteSlice;
+use dsn_smtp::Body;
 
 /// A mail transaction in an outbox.
 #[derive(Clone, Copy)]
@@ -66,9 +67,15 @@ fn noop_line(text: &[u8]) -> Option<&[u8]> {
     Some(behind)
 }
 
+/// What is behind the line of MAIL that a text begins with. It may say BODY=8BITMIME (RFC 6152).
+fn behind_sender(text: &[u8]) -> Option<&[u8]> {
+    text.strip_prefix(Body::SevenBit.sender_line())
+        .or(text.strip_prefix(Body::EightBit.sender_line()))
+}
+
 /// The transaction that a text begins with, if it is whole.
 fn transaction_of(text: &[u8]) -> Option<OutboxTransaction<'_>> {
-    let envelope = text.strip_prefix(b"MAIL FROM:<>\r\nRCPT TO:<")?;
+    let envelope = behind_sender(text)?.strip_prefix(b"RCPT TO:<")?;
     let (path, data) = envelope.split_once_str(b">\r\nDATA\r\n")?;
     let end = data.find(MESSAGE_END)?;
     let (message, rest) = data.split_at_checked(end.saturating_add(MESSAGE_END.len()))?;

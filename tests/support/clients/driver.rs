@@ -43,7 +43,7 @@ impl Request {
         }
     }
     fn notice(&self) -> Notice<'_> {
-        let returned = [Returned::Header, Returned::Message, Returned::MessageOrHeader];
+        let returned = [Returned::Header, Returned::Message, Returned::EightBitMessage, Returned::MessageOrHeader];
         let at = |name| self.number(name).unwrap();
         Notice {
             envelope_id: self.text("envelope_id"),

@@ -25,7 +25,7 @@ LONGEST_HEADER = 32_768
 LAST_MOMENT = 253_402_300_799
 NO_MOMENT = 2**64 - 1
 ANY_COUNT = 2**32 - 1
-HEADER, MESSAGE = 0, 1  # what is returned
+HEADER, MESSAGE, EIGHT_BIT_MESSAGE = 0, 1, 2  # what is returned
 BY_SERVICE, BY_OUTCOME = 0, 1  # how a notice is worded
 
 
@@ -158,7 +158,7 @@ def draft_of(draft: Draft) -> Draft:
     refuse_unless(len(draft.header) <= LONGEST_HEADER, 28)
     refuse_unless(empty_or(ADDRESS, draft.return_path), 29)
     refuse_unless(empty_or(ENVELOPE_ID, draft.envelope_id), 30)
-    refuse_unless(draft.returned in (HEADER, MESSAGE), 18)
+    refuse_unless(draft.returned in (HEADER, MESSAGE, EIGHT_BIT_MESSAGE), 18)
     refuse_unless(draft.wording in (BY_SERVICE, BY_OUTCOME), 19)
     refuse_unless(EXTENSIONS.fullmatch(draft.extensions), 20)
     return draft

@@ -2,7 +2,7 @@
 import re
 from datetime import datetime, timedelta
 
-from .bodies import BOUNCE, BY_OUTCOME, DEFER, DELIVERED, EXPANDED, MESSAGE, RELAYED, TRACE, Draft
+from .bodies import BOUNCE, BY_OUTCOME, DEFER, DELIVERED, EIGHT_BIT_MESSAGE, EXPANDED, MESSAGE, RELAYED, TRACE, Draft
 from .logs import Letter
 
 SERVICE_LETTERS = {BOUNCE: b"B", DEFER: b"D", TRACE: b"T"}
@@ -74,7 +74,12 @@ RETURNED_OF = {BOUNCE: b"Undelivered Message", DEFER: b"Delayed Message", TRACE:
 WEEKDAYS = "Mon Tue Wed Thu Fri Sat Sun".split()
 MONTHS = "Jan Feb Mar Apr May Jun Jul Aug Sep Oct Nov Dec".split()
 NOT_RETURNED = re.compile(rb"[^\t -~]")
-MAIL_LINE = re.compile(rb"[\x01-\x09\x0b\x0c\x0e-\x7f]{0,998}")
+# The lines of a message that is returned whole (RFC 2045 sections 2.7 and 2.8).
+LINES = {
+    MESSAGE: re.compile(rb"[\x01-\x09\x0b\x0c\x0e-\x7f]{0,998}"),
+    EIGHT_BIT_MESSAGE: re.compile(rb"[\x01-\x09\x0b\x0c\x0e-\xff]{0,998}"),
+}
+ENCODING = b"Content-Transfer-Encoding: 8bit"  # RFC 2045 section 6.1
 LONGEST_LINE = 998
 
 
@@ -94,7 +99,13 @@ def lines_of(text: bytes) -> list:
 
 def returns_message(draft: Draft) -> bool:
     """Whether the message is returned, and not its header."""
-    return draft.returned == MESSAGE and all(MAIL_LINE.fullmatch(it) for it in lines_of(draft.header))
+    line = LINES.get(draft.returned)
+    return line is not None and all(line.fullmatch(it) for it in lines_of(draft.header))
+
+
+def encoding(returned: list) -> list:
+    """The line of a header whose body is 8bit."""
+    return [] if all(it.isascii() for it in returned) else [ENCODING]
 
 
 def returned_lines(draft: Draft) -> list:
@@ -192,7 +203,8 @@ def third_part(letter: Letter, returned: list) -> list:
         b"" if whole else b" Headers"
     )
     content_type = b"message/rfc822" if whole else b"text/rfc822-headers"
-    return [b"Content-Description: " + description, b"Content-Type: " + content_type, b"", *returned, b""]
+    lines = [b"Content-Description: " + description, b"Content-Type: " + content_type, *encoding(returned)]
+    return [*lines, b"", *returned, b""]
 
 
 def notice(host: bytes, letter: Letter) -> list:
@@ -211,6 +223,7 @@ def notice(host: bytes, letter: Letter) -> list:
         b"MIME-Version: 1.0",
         b"Content-Type: multipart/report; report-type=delivery-status;",
         b' boundary="' + bound + b'"',
+        *encoding(returned),
         b"",
     ]
     parts = [first_part(host, letter), second_part(host, letter)] + ([third_part(letter, returned)] if returned else [])
@@ -222,7 +235,8 @@ def notice(host: bytes, letter: Letter) -> list:
 def mail(host: bytes, letter: Letter) -> bytes:
     """One notice as an SMTP client sends it, dots doubled (RFC 5321 section 4.5.2)."""
     sent = [b"." + it if it.startswith(b".") else it for it in notice(host, letter)]
-    return crlf([b"MAIL FROM:<>", b"RCPT TO:<" + letter.draft.return_path + b">", b"DATA", *sent, b"."])
+    body = b" BODY=8BITMIME" if encoding(returned_lines(letter.draft)) else b""  # RFC 6152 section 3
+    return crlf([b"MAIL FROM:<>" + body, b"RCPT TO:<" + letter.draft.return_path + b">", b"DATA", *sent, b"."])
 
 
 def outbox(host: bytes, letters: list) -> bytes:

@@ -15,7 +15,7 @@ use Rattle.dsn_frame.specs.declared.bodies.body_fault.BodyFault.TheVariants as f
 use Rattle.dsn_outcome.specs.Returned.{returned_byte, returned_of_byte}
 use Rattle.dsn_outcome.specs.Wording.{wording_byte, wording_of_byte}
 use Rattle.dsn_outcome.specs.declared.returned.Returned.{Returned}
-use Rattle.dsn_outcome.specs.declared.returned.Returned.TheVariants.{Header, Message}
+use Rattle.dsn_outcome.specs.declared.returned.Returned.TheVariants.{Header, Message, EightBitMessage}
 use Rattle.dsn_outcome.specs.declared.wording.Wording.{Wording}
 use Rattle.dsn_outcome.specs.declared.wording.Wording.TheVariants.{ByService, ByOutcome}
 use Rattle.dsn_outcome.specs.Outcome.{Outcome, Fields, IsLegalOutcome, IsOutcomeOf, first_failed, first_outcome_fault, is_type_of}
@@ -459,6 +459,7 @@ append_written number id outcome few legal_id legal =
 returned-back : (returned : Returned) → returned_of_byte (returned_byte returned) ≡ Some returned
 returned-back Header = refl
 returned-back Message = refl
+returned-back EightBitMessage = refl
 
 wording-back : (wording : Wording) → wording_of_byte (wording_byte wording) ≡ Some wording
 wording-back ByService = refl

@@ -7,7 +7,7 @@ use Rattle.dsn_outcome.specs.Request.{Body, Append, Flush, Forget}
 use Rattle.dsn_text.specs.Extension.{are_extension_lines, is_extension_line}
 use Rattle.dsn_text.specs.declared.action.Action.TheVariants.{Failed, Delayed}
 use Rattle.dsn_outcome.specs.declared.returned.Returned.{Returned}
-use Rattle.dsn_outcome.specs.declared.returned.Returned.TheVariants.{Header, Message}
+use Rattle.dsn_outcome.specs.declared.returned.Returned.TheVariants.{Header, Message, EightBitMessage}
 use Rattle.dsn_outcome.specs.declared.wording.Wording.{Wording}
 use Rattle.dsn_outcome.specs.declared.wording.Wording.TheVariants.{ByService, ByOutcome}
 use Rattle.dsn_text.specs.declared.service.Service.TheVariants.{Bounce, Defer}
@@ -259,7 +259,7 @@ wording_missing : refused (flush_with 3 (0 ∷ 0 ∷ 1 ∷ 2 ∷ 1 ∷ [])) ≡ 
 unfolding first_body_fault has_kind first_own_fault body_at head_at text_at number_at own_at flush_at flush_body_at wishes_at are_extension_lines
 wording_missing = refl
 
--- a message, with words by outcome; each byte is 0 or 1, and the first is checked first
+-- a message, with words by outcome; the first byte is 0, 1 or 2, the second 0 or 1, and the first is checked first
 message_by_outcome_is_written : request_body 1 (flush_wishing None Message ByOutcome) ≡ flush_with 3 (replicate 4 255 ++ 1 ∷ 1 ∷ 0 ∷ 0 ∷ [])
 unfolding request_body fields_written flush_written_as body_bytes own_bytes counted_flush_bytes wish_bytes head_bytes flush_bytes text_bytes number_bytes
 message_by_outcome_is_written = refl
@@ -276,11 +276,31 @@ message_by_outcome_is_accepted : refused (flush_with 3 (replicate 4 255 ++ 1 ∷
 unfolding first_body_fault has_kind first_own_fault body_at head_at text_at number_at own_at flush_at flush_body_at wishes_at are_extension_lines
 message_by_outcome_is_accepted = refl
 
-returned_two : refused (flush_with 3 (replicate 4 255 ++ 2 ∷ 2 ∷ 0 ∷ 0 ∷ [])) ≡ Some 18
-unfolding first_body_fault has_kind first_own_fault body_at head_at text_at number_at own_at flush_at flush_body_at wishes_at are_extension_lines
-returned_two = refl
+eight_bit_message_is_written : request_body 1 (flush_wishing None EightBitMessage ByService) ≡ flush_with 3 (replicate 4 255 ++ 2 ∷ 0 ∷ 0 ∷ 0 ∷ [])
+unfolding request_body fields_written flush_written_as body_bytes own_bytes counted_flush_bytes wish_bytes head_bytes flush_bytes text_bytes number_bytes
+eight_bit_message_is_written = refl
 
-wording_two : refused (flush_with 3 (replicate 4 255 ++ 1 ∷ 2 ∷ 0 ∷ 1 ∷ 32 ∷ [])) ≡ Some 19
+eight_bit_message_is_accepted : refused (flush_with 3 (replicate 4 255 ++ 2 ∷ 1 ∷ 0 ∷ 0 ∷ [])) ≡ None
+unfolding first_body_fault has_kind first_own_fault body_at head_at text_at number_at own_at flush_at flush_body_at wishes_at are_extension_lines
+eight_bit_message_is_accepted = refl
+
+eight_bit_message_is_encoded : Encodes (flush_with 3 (replicate 4 255 ++ 2 ∷ 1 ∷ 0 ∷ 0 ∷ [])) 1 (flush_wishing None EightBitMessage ByOutcome)
+unfolding body_bytes own_bytes counted_flush_bytes wish_bytes head_bytes append_bytes flush_bytes text_bytes number_bytes FitsOwn first_own_fault StandsFor are_extension_lines
+eight_bit_message_is_encoded = record {
+  wire = CountedFlushFields (record { version = 3; number = 1; service = 1; id = codes "A1B2C3" }) (record { moment = 1700000000; arrival = 1699996400; return_path = codes "ann@example.com"; envelope_id = []; header = [] }) (record { expected = 4294967295; returned = 2; wording = 1; extensions = [] });
+  laid_out = refl;
+  known = refl;
+  fits = (record { number = lit< tt; id = lit< tt }, (refl, (record { moment = lit< tt; arrival = lit< tt; return_path = lit< tt; envelope_id = lit< tt; header = lit< tt }, record { expected = lit< tt; extensions = lit< tt })));
+  number_is = refl;
+  accepted = refl;
+  stands_for = (record { service_is = refl; id_is = refl }, refl);
+}
+
+returned_three : refused (flush_with 3 (replicate 4 255 ++ 3 ∷ 2 ∷ 0 ∷ 0 ∷ [])) ≡ Some 18
+unfolding first_body_fault has_kind first_own_fault body_at head_at text_at number_at own_at flush_at flush_body_at wishes_at are_extension_lines
+returned_three = refl
+
+wording_two : refused (flush_with 3 (replicate 4 255 ++ 2 ∷ 2 ∷ 0 ∷ 1 ∷ 32 ∷ [])) ≡ Some 19
 unfolding first_body_fault has_kind first_own_fault body_at head_at text_at number_at own_at flush_at flush_body_at wishes_at are_extension_lines
 wording_two = refl
 

@@ -5,7 +5,7 @@ use arrayvec::ArrayString;
 use dsn_hand_in::Submissions;
 use dsn_outcome::Letter;
 use dsn_smtp::HandInFault;
-use dsn_submission::Handled;
+use dsn_submission::{Handled, reason_of};
 
 /// How much of a reply is logged, in bytes.
 const REPLY_ROOM: usize = 240;
@@ -38,7 +38,9 @@ impl<H: Watch> Submissions for WatchedSubmissions<'_, H> {
     fn handled(&self, handled: &Handled, reply: &[u8]) {
         // A reply of an earlier command says nothing of a server that didn't answer.
         let reply = match handled.fault {
-            None | Some(HandInFault::Refused(_, _)) => reply,
+            None | Some(HandInFault::Refused(_, _) | HandInFault::NotOffered) => {
+                reason_of(&handled.fault, reply)
+            }
             Some(_) => b"",
         };
         self.watch

@@ -15,6 +15,7 @@ pub write_header-requires : goal.write_header-requires
 unfolding boundary_text
 write_header-requires g c =
     let boundary : c.bytes-boundary.result.now ≡ boundary_text c.args.letter.now c.boundary_beside.result = search rules in record {
+      eight_bit = c.requires.eight_bit;
       subject = search rules;
       front = rw boundary (boundary-front (boundary_front c.args.letter.now) (four_digits c.boundary_beside.result) refl);
     }
@@ -24,6 +25,6 @@ unfolding notice_lines lines_with_boundary part_of
 returns g c =
     let boundary : c.bytes-boundary.result.now ≡ boundary_of c.args.letter.now = search rules in
     let ended = c.block.ensures _ (block-line (codes "--") (c.bytes-boundary.result.now ∷ codes "--" ∷ []) refl block-none) in
-    Wrote-as (rw (boundary, c.of-words.ensures, c.of-returned.ensures.lines, c.of-returned.ensures.whole) (parts-after _ _ _ _ _))
+    Wrote-as (rw (boundary, c.of-words.ensures, c.requires.returned, c.requires.whole, c.requires.eight_bit) (parts-after _ _ _ _ _))
     (Wrote-then c.write_header.ensures (Wrote-then c.write_notification.ensures
     (Wrote-then c.write_delivery_status.ensures (Wrote-then c.write_returned_part.ensures ended))))

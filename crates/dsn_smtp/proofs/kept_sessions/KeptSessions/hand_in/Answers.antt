@@ -4,5 +4,5 @@ use Rattle.dsn_smtp.proofs.kept_sessions.KeptSessions.hand_in.Goals as goal
 
 pub returns : goal.returns
 returns g c =
-    over_some c.session_for-session.result c.hand_in_over-handed.result c.hand_in_over-handed.ensures.begun
-    c.hand_in_over-handed.ensures.over c.end_turn.ensures
+    over_some c.session_for-session.result c.hand_in_over-handed.result.session c.hand_in_over-handed.ensures.begun
+    (rw c.end_turn.ensures c.hand_in_over-handed.ensures.over)

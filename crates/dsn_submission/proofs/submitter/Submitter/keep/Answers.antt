@@ -1,4 +1,4 @@
-use Rattle.std.proofs.Common.{List, ℕ, true, false, ap, subst, ◌∙◌}
+use Rattle.std.proofs.Common.{true, false, ap, subst, ◌∙◌}
 use Rattle.dsn_submission.specs.Submitter.{Submitter, kept, not_kept}
 use Rattle.dsn_submission.specs.Waiting.{letter_in_hand}
 use Rattle.dsn_submission.proofs.SubmitterLemmas.{item_in_hand}
@@ -7,15 +7,11 @@ use Rattle.dsn_submission.proofs.submitter.Submitter.keep.Goals as goal
 pub returns-in-Ok : goal.returns-in-Ok
 returns-in-Ok g c letter here =
     let item = item_in_hand (letter_in_hand c.self.inside.waiting) c.in-Some.letter.now letter (rw c.in-Some.is at c.in_hand.ensures) (ap (λ (submitter : Submitter _ _). letter_in_hand submitter.waiting) c.self.view_is ∙ here) in
-    let reply = c.bytes.ensures ∙ ap (λ (submitter : Submitter _ _). submitter.reply) c.self.view_is in
     let is = rw c.in-Ok.is at c.keep.ensures in
-    kept (subst (λ (x : g.row.T.Denot). g.K.RefusedLetters.keeps c.args.refused.now (g.T.Mail.path_of x) (g.T.Mail.message_of x) c.args.self.now.reply true c.keep.new.self) item
-    (subst (λ (text : List ℕ). g.K.RefusedLetters.keeps c.args.refused.now (g.T.Mail.path_of c.in-Some.letter.now) (g.T.Mail.message_of c.in-Some.letter.now) text true c.keep.new.self) reply is))
+    kept (subst (λ (x : g.row.T.Denot). g.K.RefusedLetters.keeps c.args.refused.now (g.T.Mail.path_of x) (g.T.Mail.message_of x) c.args.reason.now true c.keep.new.self) item is)
 
 pub returns-in-Err : goal.returns-in-Err
 returns-in-Err g c letter here =
     let item = item_in_hand (letter_in_hand c.self.inside.waiting) c.in-Some.letter.now letter (rw c.in-Some.is at c.in_hand.ensures) (ap (λ (submitter : Submitter _ _). letter_in_hand submitter.waiting) c.self.view_is ∙ here) in
-    let reply = c.bytes.ensures ∙ ap (λ (submitter : Submitter _ _). submitter.reply) c.self.view_is in
     let is = rw c.in-Err.is at c.keep.ensures in
-    not_kept (subst (λ (x : g.row.T.Denot). g.K.RefusedLetters.keeps c.args.refused.now (g.T.Mail.path_of x) (g.T.Mail.message_of x) c.args.self.now.reply false c.keep.new.self) item
-    (subst (λ (text : List ℕ). g.K.RefusedLetters.keeps c.args.refused.now (g.T.Mail.path_of c.in-Some.letter.now) (g.T.Mail.message_of c.in-Some.letter.now) text false c.keep.new.self) reply is))
+    not_kept (subst (λ (x : g.row.T.Denot). g.K.RefusedLetters.keeps c.args.refused.now (g.T.Mail.path_of x) (g.T.Mail.message_of x) c.args.reason.now false c.keep.new.self) item is)

@@ -16,7 +16,7 @@ USAGE = (
     b" | hand-in [--done FILE] [--give-up SECONDS] HAND-IN"
     b" | postfix [--lifetime SECONDS] [--bounce-size-limit BYTES] [--double-bounce ADDRESS]"
     b" [--hash-queue-names NAMES]"
-    b" [--hash-queue-depth DEPTH] [--pass-on CLASSES] [--inherited] QUEUE-FOLDER HOST HAND-IN"
+    b" [--hash-queue-depth DEPTH] [--pass-on CLASSES] [--threaded] [--inherited] QUEUE-FOLDER HOST HAND-IN"
     b" | preview [OPTIONS] QUEUE-FOLDER HOST ID\n"
 )
 PATH = b"the path of the socket must have 1 to 107 bytes\n"
@@ -185,6 +185,7 @@ WRONG = {
     "postfix with an option of serve": ["postfix", "--log", QUEUE, HOST, HAND_IN],
     "postfix with a version": ["postfix", "--postfix", "3.7", QUEUE, HOST, HAND_IN],
     "postfix with --inherited twice": ["postfix", "--inherited", "--inherited", QUEUE, HOST, HAND_IN],
+    "postfix with --threaded and a value": ["postfix", "--threaded", "yes", QUEUE, HOST, HAND_IN],
     "postfix with --inherited and a value": ["postfix", "--inherited", "yes", QUEUE, HOST, HAND_IN],
     "postfix with an option in capitals": ["postfix", "--LIFETIME", "1", QUEUE, HOST, HAND_IN],
     "POSTFIX in capitals": ["POSTFIX", QUEUE, HOST, HAND_IN],
@@ -294,6 +295,7 @@ RIGHT_OF_POSTFIX = {
     "no classes": ["--pass-on", "", QUEUE, HOST, HAND_IN],
     "a list of classes": ["--pass-on", "bounce, 2bounce\tdelay", QUEUE, HOST, HAND_IN],
     "an address without a domain": ["--double-bounce", "double-bounce", QUEUE, HOST, HAND_IN],
+    "threads": ["--threaded", QUEUE, HOST, HAND_IN],
     "inherited sockets": ["--inherited", QUEUE, HOST, HAND_IN],
     "inherited sockets before another option": ["--inherited", "--lifetime", "1", QUEUE, HOST, HAND_IN],
     "all options": [*(word for it in POSTFIX_OPTIONS.items() for word in it), QUEUE, HOST, HAND_IN],

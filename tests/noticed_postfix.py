@@ -1,8 +1,9 @@
 """dist/noticed-postfix in front of a private Postfix: its commands, as an administrator types them. main.cf and
 master.cf are compared byte for byte before and after. A later change of hash_queue_names is honoured at the next start,
 root is refused as the account of the service, each setting that isn't honoured is named, a main.cf that refuses
-everything keeps no notice out. Notices are filtered only if internal_mail_filter_classes says so, and bounce(8) makes
-those of which notify_classes copies the postmaster. Needs root and Debian's package postfix, and is skipped without them."""
+everything keeps no notice out. Notices are from MAILER-DAEMON at myorigin. They are filtered only if
+internal_mail_filter_classes says so. bounce(8) makes those of which notify_classes copies the postmaster. Needs root
+and Debian's package postfix, and is skipped without them."""
 import os
 import pwd
 import shutil
@@ -30,8 +31,6 @@ PYTHON = "/usr/bin/python3"  # one that Postfix's account can run
 # Settings in use that noticed doesn't honour. This Postfix has `maillog_file` anyway.
 USED = {
     "bounce_template_file": "/etc/postfix/bounce.cf",
-    "enable_threaded_bounces": "yes",
-    "myorigin": "example.net",
     "mail_name": "Mailer",
     "header_from_format": "obsolete",
     "bounce_size_limit": "100000",
@@ -56,6 +55,18 @@ WRONG = {
     "double_bounce_sender": ('"double bounce"',),
     "hash_queue_names": ("defer;bounce",),
     "hash_queue_depth": ("0", "17"),
+}
+ORIGIN = "home.example.net"
+RENAMED = f"inline:{{ {{ MAILER-DAEMON@{ORIGIN} = mail@example.net }}, {{ mail@{HOST} = wrong }} }}"
+# Whom a notice is from, by what else main.cf says if it has `myorigin = /etc/mailname`.
+ORIGINS = {
+    f"MAILER-DAEMON@{ORIGIN}": {"mydestination": f"{HOST}, {ORIGIN}, example.net"},
+    "mail@example.net": {"sender_canonical_maps": RENAMED, "local_header_rewrite_clients": "", "syslog_name": "mta"},
+    f"mailer-daemon@{ORIGIN}": {
+        "sender_canonical_classes": "envelope_sender",
+        "canonical_maps": f"inline:{{ MAILER-DAEMON@{ORIGIN}=mailer-daemon@{ORIGIN} }}",
+    },
+    "mailer-daemon@example.net": {"masquerade_domains": "example.net"},
 }
 # Each would keep a notice out.
 AGAINST = {
@@ -234,6 +245,7 @@ def check_hashing(checks: Checks, it: Stock):
     """A change of main.cf is seen by `check`, and honoured at the next start."""
     before = it.texts()
     it.set(hash_queue_names="deferred, defer, bounce", hash_queue_depth="2", maximal_queue_lifetime="90m")
+    it.set(enable_threaded_bounces="yes")
     it.command("postfix", "reload")
     status, lines = it.script("check")
     named = [line.partition(":")[0] for line in beginning(lines, "wrong")]
@@ -243,7 +255,7 @@ def check_hashing(checks: Checks, it: Stock):
     it.restart()
     words = Path(f"/proc/{it.service.running.pid}/cmdline").read_text().split("\0")
     wanted = ["--lifetime", "5400", "--bounce-size-limit", "50000", "--double-bounce", f"double-bounce@{HOST}"]
-    wanted += ["--hash-queue-names", "deferred defer bounce", "--hash-queue-depth", "2"]
+    wanted += ["--hash-queue-names", "deferred defer bounce", "--hash-queue-depth", "2", "--threaded"]
     wanted += [str(it.queue), HOST, f"{it.queue}/private/noticed-submit"]
     checks.equal("its arguments", words[1:-1], ["postfix", "--inherited", *wanted])
     checks.equal("check: they are right", it.script("check")[0], 0)
@@ -330,6 +342,38 @@ def check_filtered(checks: Checks, it: Stock):
     it.command("postfix", "reload")
 
 
+def check_origin(checks: Checks, it: Stock):
+    """If myorigin is another name than myhostname, a notice is from whom one of bounce(8) is, also with tables of the
+    site. All else in it has myhostname. A change takes effect with `enable`, and `check` says so."""
+    before = it.texts()
+    (it.room / "etc/mailname").write_text(f"{ORIGIN}\n")
+    it.set(myorigin=str(it.room / "etc/mailname"))
+    for address, settings in ORIGINS.items():
+        it.set(**settings)
+        checks.equal(f"{address}: check", it.script("check")[0], 0 if "masquerade_domains" in settings else 1)
+        checks.equal(f"{address}: enable", it.script("enable")[0], 0)
+        status, lines = it.script("check")
+        named = {*names_of(lines)} - {"syslog_name"}
+        checks.equal(f"{address}: check after that", (status, named), (0, {"maillog_file"}))
+        shown = notice_comes(checks, it, f"from {address}")
+        it.set(bounce_service_name="bounce")
+        it.command("postfix", "reload")
+        wanted = f"From: Mail Delivery System <{address}>"
+        for who, lines in {"noticed": shown, "bounce(8)": it.script("test")[1]}.items():
+            found = [line for line in lines if line.startswith("From: Mail Delivery")]
+            checks.equal(f"{address}: From of {who}", found, [wanted])
+        others = {f"Reporting-MTA: dns; {HOST}", f"For help, write to <postmaster@{HOST}> and include this notice."}
+        checks.true(f"{address}: myhostname in all else", others <= {*shown})
+        ids = [line for line in shown if line.startswith("Message-ID: <B.") and line.endswith(f"@{HOST}>")]
+        checks.equal(f"{address}: one Message-ID with myhostname", len(ids), 1)
+        it.set(bounce_service_name=SWITCH["bounce_service_name"])
+    checks.true("lines of the hand-in are named after syslog_name", "mta/notices/smtpd[" in it.log())
+    it.set(myorigin="[10.0.0.1]", syslog_name="postfix")
+    checks.true("a name that no table has", "myorigin" in names_of(it.script("check")[1]))
+    it.restore(before)
+    checks.equal("enable without it", (it.script("enable")[0], it.script("check")[0]), (0, 0))
+
+
 def check_copies(checks: Checks, it: Stock):
     """With `bounce` in notify_classes bounce(8) makes the notice, and a copy of it for the postmaster."""
     before, box = it.texts(), it.room / "mail/root"
@@ -376,7 +420,7 @@ def main():
         it.start()
         before = it.texts()
         parts = (check_before, check_account, check_enabled, check_hashing, check_named, check_wrong, check_against)
-        for check in (*parts, check_filtered, check_copies):
+        for check in (*parts, check_filtered, check_origin, check_copies):
             check(checks, it)
         checks.equal("complaints of Postfix", it.complaints(), [])
         check_disabled(checks, it, before)

@@ -1,7 +1,8 @@
 """Sends the same messages, of over 200 kinds, to two private Postfixes on loopback. One has its own bounce(8), the
 other `noticed postfix` in front. Some runs only relay mail; the sandbox also delivers it, by local(8), pipe(8),
-virtual(8) and lmtp(8). The notices and the mail of both sides are compared field by field: they may differ only in what
-is named here. Needs root and Debian's package postfix, and is skipped without them.
+virtual(8) and lmtp(8). The notices and the mail of both sides are compared field by field, and the notices as programs
+read them: they may differ only in what is named here. Needs root and Debian's package postfix, and is skipped without
+them.
 
     python3 -m tests.postfix_beside [--itself] [NAME]...
 
@@ -18,8 +19,9 @@ from tests.postfix.capture.cases import Case
 from tests.postfix.capture.submit import by_sendmail, by_smtp
 from tests.support import sandbox_cases
 from tests.support.private_postfix import Delivery, Mailbox, Postfix, comes_true, lacks, mail_filter
-from tests.support.running import HOST, Checks, program, run
-from tests.support.sandbox import HOME, Sandbox
+from tests.support.readers import compare_readers
+from tests.support.running import Checks, program, run
+from tests.support.sandbox import Sandbox
 from tests.support.told import Told, differences, name_in, retry_seconds, taken_apart
 
 # What error(8) says of these has a byte past the end of a text, which may be any.
@@ -105,9 +107,24 @@ SMALL = [
     Case("over-the-size-limit", "bounce", ["no.bob@example.org"], body=b"A line of a short message.\n" * 100),
     Case("header-over-it", "bounce", ["no.bob@example.org"], options="RET=FULL", header=b"X-Field: value\n" * 200),
 ]
+NO_FIELDS = b"From: Ann <ann@example.com>\nSubject: hello\n%s\nHello.\n"
+IDS = {
+    "id-in-small-letters": b"message-id:\t<small@client.example.com> \t\n",
+    "id-without-brackets": b"Message-ID: bare@client.example.com\n",
+    "id-on-the-next-line": b"Message-ID:\n <next@client.example.com>\n",
+    "two-ids": b"Message-ID: <first@client.example.com>\nMessage-ID: <second@client.example.com>\n",
+    "id-with-words": b"Message-ID: <some words> <and@client.example.com>\n",
+    "id-before-a-colon": b"Message-ID : <old@client.example.com>\n",
+    "id-of-its-own": b"",
+}
+THREADED = [
+    Case("id-of-client", "bounce", ["no.bob@example.org"]),
+    *(Case(name, "bounce", ["no.bob@example.org"], whole=NO_FIELDS % field) for name, field in IDS.items()),
+]
 RUNS = [
     Run("at once", {}, cases.BOUNCED + AT_ONCE + cases.TRACED),
     Run("size limit", {"bounce_size_limit": "2000"}, SMALL),
+    Run("threads", {"enable_threaded_bounces": "yes"}, THREADED),
     Run("put off", HURRIED, cases.DEFERRED + EXPIRING, expires=True),
     Run("long ids", LONG_IDS | HURRIED, cases.RUNS[1][1] + cases.RUNS[2][1], expires=True),
     Run("sandbox", {}, sandbox_cases.AT_ONCE, sandbox=True),
@@ -165,11 +182,11 @@ def cut_remarks(groups: list, met: list, _) -> list:
 
 
 def is_whole(there: Told) -> bool:
-    """Whether noticed gives the message back as a whole: it is short, and each line can stand in a 7bit mail."""
-    text = there.parts.get("given back", b"")
-    return len(text) <= 32_768 and all(
-        len(it) <= 998 and re.fullmatch(rb"[\x01-\x0c\x0e-\x7f]*", it) for it in text.split(b"\n")
-    )
+    """Whether noticed gives the text back as it is: it is short, and each line can stand in an 8bit mail, or in a 7bit
+    one if it is the header alone."""
+    text, kind = there.parts.get("given back", b""), there.parts.get("type of what is given back")
+    allowed = rb"[\x01-\x0c\x0e-\xff]*" if kind == b"message/rfc822" else rb"[\x01-\x0c\x0e-\x7f]*"
+    return len(text) <= 32_768 and all(len(it) <= 998 and re.fullmatch(allowed, it) for it in text.split(b"\n"))
 
 
 def header(text: bytes) -> bytes:
@@ -221,12 +238,6 @@ ALLOWED = [
         "as above, in the Return-Path",
         lambda there, *_: re.sub(rb"\AReturn-Path: <MAILER-DAEMON@[^\n]*>\n", b"Return-Path: <>\n", there),
     ),
-    Difference(
-        "domain of From",
-        "From",
-        "noticed writes HOST, bounce(8) leaves it to cleanup(8), which writes myorigin",
-        lambda there, *_: [it.replace(f"@{HOME}>".encode(), f"@{HOST}>".encode()) for it in there],
-    ),
     Difference("words for people", "words", "noticed has its own, and no templates", lambda _, met, __: met),
     Difference(
         "subject of a success",
@@ -258,7 +269,7 @@ ALLOWED = [
     Difference(
         "header in place of the message",
         "given back",
-        "noticed gives a message back that is short and can stand in a 7bit mail",
+        "noticed gives a message back that is short and can stand in an 8bit mail",
         given_back,
     ),
     Difference("header in place of the message", TYPE, "as above", header_in_place(lambda _: b"text/rfc822-headers")),
@@ -362,8 +373,9 @@ def summary(notices: list) -> str:
     return "; ".join(sorted(words))
 
 
-def compare_case(checks: Checks, name: str, case: Case, notices: list, others: list, used: Counter | None):
-    """Compares the notices of one message on both sides."""
+def compare_case(checks: Checks, name: str, case: Case, notices: list, others: list, used: Counter | None) -> list:
+    """Compares the notices of one message on both sides. Returns those that noticed made, beside those of bounce(8)."""
+    pairs = []
     if case.told is not None:
         checks.equal(f"{name}: what bounce(8) tells", summary(notices), case.told)
     checks.equal(f"{name}: who is told", [it.key for it in others], [it.key for it in notices])
@@ -373,6 +385,8 @@ def compare_case(checks: Checks, name: str, case: Case, notices: list, others: l
         if like:
             notices.remove(like)
             compare(checks, name, like, other, used)
+            pairs += [(name, like.text, other.text)] * other.is_own
+    return pairs
 
 
 def compare_own(checks: Checks, run: Run, notices: dict):
@@ -392,10 +406,12 @@ def compare_sides(checks: Checks, run: Run, sides: list, used: Counter | None):
     """Compares what came of each message on both sides."""
     there, here = (it.told() for it in sides)
     counts = sum(map(len, there.values())), sum(len(it.recipients) for of_one in there.values() for it in of_one)
+    pairs = []
     for case in run.messages:
         of_one = [list(it.get(case.name, [])) for it in (there, here)]
-        compare_case(checks, f"{run.name}, {case.name}", case, *of_one, used)
+        pairs += compare_case(checks, f"{run.name}, {case.name}", case, *of_one, used)
     if used is not None:
+        compare_readers(checks, pairs, used)
         compare_own(checks, run, here)
     known = {case.name for case in run.messages}
     for side, found in zip(sides, (there, here)):

@@ -813,7 +813,7 @@ def check_copies(checks: Checks):
     services = {1: "bounce", 2: "defer", 3: "bounce", 4: "bounce", 5: "trace"}
     for classes, copied in (
         ("bounce", {(kind, sender) for kind in (1, 3, 4) for sender in (ann, nobody)}),
-        ("2bounce", {(kind, nobody) for kind in (1, 3, 4)}),
+        ("2bounce", {(kind, nobody) for kind in (1, 3, 4, 5)}),
         ("delay", {(2, ann), (2, nobody)}),
         ("", set()),
     ):
@@ -881,15 +881,69 @@ def check_own_service(checks: Checks, it: Postfix, own: OwnService):
 
 def check_send_options(checks: Checks):
     """The options to send by are served by both of their names; where a notice can't keep one of them, the request is
-    passed on as it came."""
+    passed on as it came. `TLS-Required: no` is kept, in front of each notice."""
     with Postfix() as it:
         own = OwnService(it.folder, "bounce")
         for name in ("smtputf8", "sendopts"):
-            for value in (0, 2, 4, 8, 14, 1, 7, 16, 18, 32, 48, 64, 2**31):
+            for value in (0, 2, 4, 8, 14, 16, 18, 30, 1, 7, 17, 32, 48, 64, 2**31):
                 it.put("one", "bounce")
                 asked, taken, passed_on = notice(1, ONE, options=(name, value)), len(it.server.taken), len(own.asked)
                 found = (it.ask("bounce", asked), len(it.server.taken) - taken, own.asked[passed_on:])
-                checks.equal(f"{name} {value}", found, (0, 1, []) if value in (0, 2, 4, 8, 14) else (0, 0, [asked]))
+                kept = value < 32 and value % 2 == 0
+                checks.equal(f"{name} {value}", found, (0, 1, []) if kept else (0, 0, [asked]))
+                if kept:
+                    head = email.message_from_bytes(it.server.taken[-1][2])
+                    found = (head.keys()[0] == "TLS-Required", head.get_all("TLS-Required", []), len(head.get_all("From")))
+                    wanted = (True, ["no"], 1) if value >= 16 else (False, [], 1)
+                    checks.equal(f"{name} {value}: TLS-Required", found, wanted)
+
+
+def fields_in_front(text: bytes) -> list:
+    """The fields of a notice before its Received and its Date, in their order."""
+    found = email.message_from_bytes(text).items()
+    return [it for it in found if it[0] in ("References", "In-Reply-To", "TLS-Required")]
+
+
+def threaded(name: str) -> list:
+    """The fields that refer to a message, as bounce(8) has them."""
+    return [("References", name), ("In-Reply-To", name)]
+
+
+def check_threads(checks: Checks):
+    """With --threaded a notice refers to the Message-ID of its message: that of the queue file's attribute, or else that
+    of the header. One that can't be in a line is left out."""
+    field, own = b"Message-ID: <one@client.example.com>", "<one@client.example.com>"
+    changes = {
+        "as it was": (field, own),
+        "in small letters": (b"message-id:\t<12@client.example.com>\t", "<12@client.example.com>"),
+        "without brackets": (b"Message-ID:  one@client.example.com ", None),
+        "with another byte": (b"Message-ID: <\x7fne@client.example.com>", None),
+        "empty": (b"Message-ID: <>" + b" " * 22, None),
+        "another field": (b"Message-Id2 :<one@client.example.com", None),
+        "in the body": (b"\nMessage-ID: <ne@client.example.com>", None),
+    }
+    with Postfix("--threaded") as it:
+
+        def told(change: bytes, noted: bytes = b"", options: int = 0) -> list:
+            place = it.at(f"deferred/0/{it.put('one', 'bounce')}")
+            text = place.read_bytes().replace(field, change)
+            noted = noted and b"A" + bytes([len(noted)]) + noted
+            place.write_bytes(text[: text.rindex(b"E\0")] + noted + text[text.rindex(b"E\0") :])
+            checks.equal(f"{change} {noted}: a flush", it.ask("bounce", notice(1, ONE, options=("sendopts", options))), 0)
+            return fields_in_front(it.server.taken[-1][2])
+
+        for what, (change, wanted) in changes.items():
+            checks.equal(f"an id {what}", told(change), threaded(wanted) if wanted else [])
+        noted = b"message_id=<noted@example.com>"
+        checks.equal("an id that cleanup(8) noted", told(field, noted), threaded("<noted@example.com>"))
+        checks.equal("one that it noted badly", told(field, b"message_id=noted"), [])
+        wanted = [*threaded(own), ("TLS-Required", "no")]
+        checks.equal("with TLS-Required", told(field, options=16), wanted)
+        checks.equal("they are the first", it.server.taken[-1][2].index(b"References: "), 0)
+    with Postfix() as it:
+        it.put("one", "bounce")
+        checks.equal("without the option: a flush", it.ask("bounce", notice(1, ONE)), 0)
+        checks.equal("without the option", fields_in_front(it.server.taken[-1][2]), [])
 
 
 def check_outcomes(checks: Checks):
@@ -1273,6 +1327,7 @@ def main():
         check_reasons,
         check_copies,
         check_send_options,
+        check_threads,
         check_outcomes,
         check_broken_clients,
         check_locked_log,

@@ -7,6 +7,7 @@ import grp
 import os
 import pwd
 import random
+import runpy
 import shutil
 import signal
 import socket
@@ -18,6 +19,7 @@ from dataclasses import dataclass
 from pathlib import Path
 
 from tests.postfix.capture import milter, upstream
+from tests.support.running import DIST
 
 HOST = "mx.example.net"
 SBIN = Path("/usr/lib/postfix/sbin")
@@ -91,7 +93,10 @@ noticed-cleanup unix n - n - 0 cleanup
     -o recipient_bcc_maps=
     -o message_size_limit=0
     -o in_flow_delay=0
+    {of_origin}
 """
+OF_ORIGIN = runpy.run_path(str(DIST / "noticed-postfix"))["of_origin"]  # the options of its cleanup(8) for From
+NO_TABLES = {"sender_canonical_maps": "", "sender_canonical_classes": ""}
 # The queue manager is woken often. It puts a message whose file is locked back to those that came in, for a minute. It
 # looks at these only if it is woken or mail comes.
 MUTE = "    -o cleanup_service_name=nowhere"  # of bounce(8), so that it can't hand a notice in
@@ -356,13 +361,15 @@ class Postfix:
                 option,
                 value.replace(" ", "").removesuffix("s") if option == "--lifetime" else value.replace(" ", ""),
             )
-        ]
+        ] + ["--threaded"] * (self.settings.get("enable_threaded_bounces") == "yes")
 
     def write(self):
         """Writes the configuration."""
         etc = self.room / "etc"
         (etc / "main.cf").write_text("".join(f"{name} = {value}\n" for name, value in self.settings.items()))
-        (etc / "master.cf").write_text(self.services() + ("" if self.mute else HAND_IN.format(**self.ports)))
+        settings = NO_TABLES | {"myorigin": HOST} | self.settings
+        words = {"of_origin": "".join(f"-o {it} " for it in OF_ORIGIN(settings))} | self.ports
+        (etc / "master.cf").write_text(self.services() + ("" if self.mute else HAND_IN.format(**words)))
         (etc / "header_checks").write_text(HEADER_CHECKS.format(**self.ports))
         # postfix(1) looks for these beside main.cf
         for name in ("postfix-files", "postfix-files.d", "dynamicmaps.cf", "dynamicmaps.cf.d"):

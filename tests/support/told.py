@@ -86,6 +86,9 @@ def taken_apart(to: list, text: bytes, varying: dict) -> Told:
     head = fields(header)
     for name in (b"From", b"To", b"Subject", b"Auto-Submitted", b"MIME-Version"):
         it.parts[name.decode()] = [value for found, value in head if found.lower() == name.lower()]
+    for name in (b"References", b"In-Reply-To", b"TLS-Required"):
+        found = [cleaned(value, it.queue_id, varying) for given, value in head if given.lower() == name.lower()]
+        it.parts[name.decode()] = found
     it.parts["Date, Message-ID"] = [
         len([1 for found, _ in head if found.lower() == name]) for name in (b"date", b"message-id")
     ]

@@ -127,12 +127,15 @@ const PLANS: [Plan; 11] = [
         b"",
         Err(PlanFault::Unsaid(CantSay::NeedsSmtputf8)),
     ),
+    // a notice keeps `TLS-Required: no`
     (
         Service::Bounce,
         NEWER_TLS,
         Some(BOUNCED),
         b"",
-        Err(PlanFault::Unsaid(CantSay::SendOptions(16))),
+        Ok(
+            b"ann@example.com at ann@example.com B whole\n- no-two@example.com 5.1.1 failed\n- no-one@example.org 5.1.1 failed\n",
+        ),
     ),
     // an expired message has failed
     (

@@ -273,10 +273,23 @@ of_smtputf8 : notices_of double_bounce Bounce (Flush (notice_with sender 1 0)) [
 unfolding notices_of
 of_smtputf8 = refl
 
--- `TLS-Required: no`, REQUIRETLS, and an unknown option; a message from the null sender requires nothing
-of_tls_required : notices_of double_bounce Bounce (Flush (notice_with sender 16 0)) [] None ≡ Err (SendOptions 16)
+-- a notice keeps `TLS-Required: no`, with UTF-8 in the header or without
+of_tls_optional : notices_of double_bounce Defer (Warn (notice_with sender 16 0)) [] None ≡ Ok []
 unfolding notices_of
-of_tls_required = refl
+of_tls_optional = refl
+
+of_tls_optional_and_utf8 : notices_of double_bounce Defer (Warn (notice_with sender 30 0)) [] None ≡ Ok []
+unfolding notices_of
+of_tls_optional_and_utf8 = refl
+
+of_tls_optional_and_smtputf8 : notices_of double_bounce Bounce (Flush (notice_with sender 17 0)) [] None ≡ Err NeedsSmtputf8
+unfolding notices_of
+of_tls_optional_and_smtputf8 = refl
+
+-- REQUIRETLS, and an unknown option; a message from the null sender requires nothing
+of_require_tls_and_tls_optional : notices_of double_bounce Defer (Warn (notice_with sender 48 0)) [] None ≡ Err (SendOptions 48)
+unfolding notices_of
+of_require_tls_and_tls_optional = refl
 
 of_require_tls : notices_of double_bounce Defer (Warn (notice_with sender 34 0)) [] None ≡ Err (SendOptions 34)
 unfolding notices_of

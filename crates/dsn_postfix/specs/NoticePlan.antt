@@ -213,13 +213,13 @@ notices_with service request notice queued (Err reason) = Err reason
 notices_with service request notice queued (Ok records) =
     notices_telling request notice (told_of service request queued records)
 
--- The send options that no notice keeps. 1: the message was submitted with SMTPUTF8 (RFC 6531). 16: its header has
--- `TLS-Required: no`, and 32: it was submitted with REQUIRETLS (RFC 8689); the notice would need these too. Greater
--- ones are unknown. 2, 4 and 8 only say where the message has UTF-8, which messages without SMTPUTF8 may have too.
+-- The send options that no notice keeps. 1: the message was submitted with SMTPUTF8 (RFC 6531), and 32: with REQUIRETLS
+-- (RFC 8689); the notice would need these too. Greater ones are unknown. 2, 4 and 8 only say where the message has UTF-8,
+-- which messages without SMTPUTF8 may have too. A notice keeps 16 (`TLS-Required: no`).
 abbrev pub option_lost : NoticeRequest → Option CantSay
 option_lost notice =
     if needs_smtputf8 notice then Some NeedsSmtputf8
-    else (if nat_lt notice.send_options 16 then None else Some (SendOptions notice.send_options))
+    else (if nat_lt notice.send_options 32 then None else Some (SendOptions notice.send_options))
 
 abbrev pub notices_unless : Option CantSay → Result (List NoticeFacts) CantSay → Result (List NoticeFacts) CantSay
 notices_unless None notices = notices

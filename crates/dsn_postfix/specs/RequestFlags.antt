@@ -26,3 +26,7 @@ marks_recipients notice = has_flag 2 notice.flags
 -- the message was submitted with SMTPUTF8 (RFC 6531)
 abbrev pub needs_smtputf8 : NoticeRequest → Bool
 needs_smtputf8 notice = has_flag 1 notice.send_options
+
+-- the message's header has `TLS-Required: no` (RFC 8689 section 3)
+abbrev pub is_tls_optional : NoticeRequest → Bool
+is_tls_optional notice = has_flag 16 notice.send_options

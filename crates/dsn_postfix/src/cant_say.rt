@@ -15,7 +15,7 @@ pub enum CantSay {
     /// The message was submitted with SMTPUTF8 (RFC 6531).
     #[error("the message needs SMTPUTF8")]
     NeedsSmtputf8,
-    /// These send options have a bit that no notice keeps: 16, 32 or an unknown one.
+    /// These send options have a bit that no notice keeps: 32 or an unknown one.
     #[error("the message has send options {0}")]
     SendOptions(u32),
     /// This field of the request's recipient can't be expressed.

@@ -20,8 +20,8 @@ use dsn_postfix_files::{LogRecord, QueuedRecipient};
 use dsn_text::Service;
 use std::alloc::{AllocError, Global};
 
-/// The least of the send options that no notice keeps, besides SMTPUTF8: `TLS-Required: no`.
-const TLS_REQUIRED: u32 = 16;
+/// The least of the send options that no notice keeps, besides SMTPUTF8: REQUIRETLS.
+const REQUIRETLS: u32 = 32;
 
 /// Why no notice can keep the send options of a message. Returns `None` if a notice can.
 fn option_lost(notice: &NoticeRequest<'_>) -> Option<CantSay>
@@ -32,8 +32,8 @@ fn option_lost(notice: &NoticeRequest<'_>) -> Option<CantSay>
     if notice.needs_smtputf8() {
         return Some(CantSay::NeedsSmtputf8);
     }
-    // The notice would also need 16 (`TLS-Required: no`) and 32 (REQUIRETLS); others are unknown.
-    if notice.send_options >= TLS_REQUIRED {
+    // The notice would also need 32 (REQUIRETLS); greater ones are unknown.
+    if notice.send_options >= REQUIRETLS {
         return Some(CantSay::SendOptions(notice.send_options));
     }
     None

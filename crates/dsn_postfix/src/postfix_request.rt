@@ -1,6 +1,6 @@
 //! The requests of Postfix's programs to its bounce service.
 ghost use Rattle.std.specs.Prelude.{◌≡◌};
-ghost use Rattle.dsn_postfix.specs.RequestFlags.{asks_clean, flags_of, marks_recipients, needs_smtputf8};
+ghost use Rattle.dsn_postfix.specs.RequestFlags.{asks_clean, flags_of, is_tls_optional, marks_recipients, needs_smtputf8};
 
 use crate::attribute_text::AttributeText;
 use crate::queue_name::QueueName;
@@ -103,6 +103,14 @@ impl<'a> NoticeRequest<'a> {
         ensures { result ≡ needs_smtputf8 self.now }
     {
         self.send_options % 2 == 1
+    }
+
+    /// Whether the message's header has `TLS-Required: no`: its delivery counts more than TLS (RFC
+    /// 8689 section 3).
+    pub fn is_tls_optional(&self) -> bool
+        ensures { result ≡ is_tls_optional self.now }
+    {
+        self.send_options / 16 % 2 == 1
     }
 }
 

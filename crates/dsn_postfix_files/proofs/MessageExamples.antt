@@ -20,15 +20,15 @@ mixed : said_of_message (
     ∷ at 994 77 []
     ∷ at 1320 88 []
     ∷ [])
-    ≡ record { arrival = Some 1795671363; sender = Some (codes "ann@example.com"); envelope_id = Some (codes "QQ314159"); return_flags = Some 2 }
+    ≡ record { arrival = Some 1795671363; sender = Some (codes "ann@example.com"); envelope_id = Some (codes "QQ314159"); return_flags = Some 2; message_id = None }
 mixed = refl
 
 -- a notice has an empty sender, and no further facts
 null_sender : said_of_message (at 97 84 (codes "1795671363 224406") ∷ at 186 83 [] ∷ at 729 77 [] ∷ [])
-    ≡ record { arrival = Some 1795671363; sender = Some []; envelope_id = None; return_flags = None }
+    ≡ record { arrival = Some 1795671363; sender = Some []; envelope_id = None; return_flags = None; message_id = None }
 null_sender = refl
 
--- the first time and sender count, and the last id and flags, in either form
+-- the first time, sender and Message-ID count, and the last id and flags, in either form
 again : said_of_message (
     at 0 84 (codes "0 5")
     ∷ at 9 84 (codes "7 5")
@@ -39,11 +39,13 @@ again : said_of_message (
     ∷ at 64 65 (codes "envelope_id=second")
     ∷ at 84 60 (codes "1")
     ∷ at 87 65 (codes "ret_flags=3")
+    ∷ at 100 65 (codes "message_id=<1@example.org>")
+    ∷ at 129 65 (codes "message_id=<2@example.org>")
     ∷ [])
-    ≡ record { arrival = Some 7; sender = Some (codes "a@example.org"); envelope_id = Some (codes "second"); return_flags = Some 1 }
+    ≡ record { arrival = Some 7; sender = Some (codes "a@example.org"); envelope_id = Some (codes "second"); return_flags = Some 1; message_id = Some (codes "<1@example.org>") }
 again = refl
 
-no_record : said_of_message [] ≡ record { arrival = None; sender = None; envelope_id = None; return_flags = None }
+no_record : said_of_message [] ≡ record { arrival = None; sender = None; envelope_id = None; return_flags = None; message_id = None }
 no_record = refl
 
 no_time : arrival_in (at 0 84 (codes "soon")) ≡ None

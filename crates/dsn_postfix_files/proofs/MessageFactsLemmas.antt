@@ -2,7 +2,7 @@
 use Rattle.std.proofs.Common.{◌≡◌, ℕ, List, [], ◌∷◌, Option, Some, None, refl, ◌∙◌, ap}
 use Rattle.std.specs.List.{cons_option, filter_map, last_or}
 use Rattle.dsn_postfix_files.specs.inner.QueueReading.{MessageLeft, said_with, with_record}
-use Rattle.dsn_postfix_files.specs.MessageFacts.{SaidOfMessage, arrival_in, earliest, envelope_id_in, first_or, return_flags_in, sender_in}
+use Rattle.dsn_postfix_files.specs.MessageFacts.{SaidOfMessage, arrival_in, earliest, envelope_id_in, first_or, message_id_in, return_flags_in, sender_in}
 use Rattle.dsn_postfix_files.specs.QueueListing.{QueueEnding, ending_step}
 use Rattle.dsn_postfix_files.specs.QueueRecord.{PlacedBytes}
 use Rattle.dsn_postfix_files.specs.QueueWalk.{QueuePlace, RecordThere, StepsTo}
@@ -24,6 +24,7 @@ step-said before found records = λ i. record {
   sender = first-step before.sender (sender_in found) (earliest sender_in records) i;
   envelope_id = last-by before.envelope_id (envelope_id_in found) (filter_map envelope_id_in records) i;
   return_flags = last-by before.return_flags (return_flags_in found) (filter_map return_flags_in records) i;
+  message_id = first-step before.message_id (message_id_in found) (earliest message_id_in records) i;
 }
 
 pub more_said : (file : List ℕ) (start next : QueuePlace) (before said : SaidOfMessage) (found : PlacedBytes) (ending : QueueEnding)
@@ -48,6 +49,7 @@ all-said before = λ i. record {
   sender = nothing-more before.sender i;
   envelope_id = before.envelope_id;
   return_flags = before.return_flags;
+  message_id = nothing-more before.message_id i;
 }
 
 pub no_more_said : (file : List ℕ) (start : QueuePlace) (here : QueueEnding) (before said : SaidOfMessage) (ending : QueueEnding)

@@ -1,6 +1,6 @@
 -- Worked examples of the header of a message, computed by the definitions.
-use Rattle.std.proofs.Common.{◌≡◌, ℕ, true, false, List, [], ◌∷◌, ◌++◌, codes, refl}
-use Rattle.dsn_postfix_files.specs.MessageHeader.{is_header_line, message_header}
+use Rattle.std.proofs.Common.{◌≡◌, ℕ, true, false, List, [], ◌∷◌, ◌++◌, codes, refl, Some, None}
+use Rattle.dsn_postfix_files.specs.MessageHeader.{is_header_line, message_header, message_id_of_text}
 
 -- up to the empty line; a field may continue on further lines, and may have blanks before its colon
 fields : message_header (codes "Subject: hello\n\tand more\nX-Old : form\n\nTo: nobody\n") ≡ codes "Subject: hello\n\tand more\nX-Old : form\n"
@@ -43,3 +43,29 @@ words = refl
 -- a line of blanks continues a field
 blanks : is_header_line (codes " ") ≡ true
 blanks = refl
+
+-- ---- the Message-ID
+
+own_id : message_id_of_text (kept ++ codes "\nMessage-ID: <body@example.com>\n") ≡ Some (codes "<20261126234815.D8CA2A85C29@mx.example.net>")
+own_id = refl
+
+-- blanks around it don't count, and letters of either case are the same
+blanks_around_id : message_id_of_text (codes "Subject: x\nMESSAGE-id:\t <1@example.com> \t\n") ≡ Some (codes "<1@example.com>")
+blanks_around_id = refl
+
+-- the first line counts, and only that line of a field
+first_id : message_id_of_text (codes "Message-ID: <1@example.com>\nMessage-ID: <2@example.com>\n") ≡ Some (codes "<1@example.com>")
+first_id = refl
+
+id_on_the_next_line : message_id_of_text (codes "Message-ID:\n <1@example.com>\n") ≡ Some []
+id_on_the_next_line = refl
+
+-- other fields, a longer name, the older form, and text in the body
+no_id : message_id_of_text (codes "Resent-Message-ID: <1@example.com>\nMessage-IDs: <2@example.com>\nMessage-ID : <3@example.com>\n\nMessage-ID: <4@example.com>\n") ≡ None
+no_id = refl
+
+id_at_the_end : message_id_of_text (codes "Message-ID: <1@example.com>") ≡ Some (codes "<1@example.com>")
+id_at_the_end = refl
+
+short_text : message_id_of_text (codes "Message-ID") ≡ None
+short_text = refl

@@ -1,5 +1,5 @@
 -- The facts of a message in the records of its queue file: its arrival, its sender, its envelope
--- id, and the part that the sender wants returned.
+-- id, the part that the sender wants returned, and its Message-ID.
 use Rattle.std.specs.Prelude.{◌≡◌, ◌||◌, ℕ, List, [], ◌∷◌, Option, Some, None, Result, MatchResult, ◌==◌, codes, if◌then◌else◌}
 use Rattle.std.specs.List.{before_first, filter_map, last_or}
 use Rattle.std.specs.Option.{option_map}
@@ -35,6 +35,10 @@ sender_in placed = if placed.kind == 83 then Some placed.bytes else None
 abbrev pub envelope_id_in : PlacedBytes → Option (List ℕ)
 envelope_id_in placed = said_as 105 (codes "envelope_id") placed
 
+-- `A` alone: the Message-ID of the header, which cleanup(8) of Postfix 3.10 notes after the text
+abbrev pub message_id_in : PlacedBytes → Option (List ℕ)
+message_id_in placed = if placed.kind == 65 then value_named (codes "message_id") placed.bytes else None
+
 -- `<`: 1 for the whole message, 2 for its header; other numbers are ignored
 abbrev pub known_return : Option ℕ → Option ℕ
 known_return None = None
@@ -66,15 +70,17 @@ pub record SaidOfMessage : Type 0 where
   pub sender : Option (List ℕ)
   pub envelope_id : Option (List ℕ)
   pub return_flags : Option ℕ
+  pub message_id : Option (List ℕ)
 
--- the first arrival and sender count, and the last id and return flags, since a milter may change
--- these
+-- the first arrival, sender and Message-ID count, and the last envelope id and return flags, since
+-- a milter may change these
 abbrev pub said_of_message : List PlacedBytes → SaidOfMessage
 said_of_message records = record {
   arrival = earliest arrival_in records;
   sender = earliest sender_in records;
   envelope_id = latest envelope_id_in records;
   return_flags = latest return_flags_in records;
+  message_id = earliest message_id_in records;
 }
 
 -- the texts that the program's references point to
@@ -84,6 +90,7 @@ message_facts_in facts = record {
   sender = option_map (λ text. text.now) facts.sender;
   envelope_id = option_map (λ text. text.now) facts.envelope_id;
   return_flags = facts.return_flags;
+  message_id = option_map (λ text. text.now) facts.message_id;
 }
 
 -- the result has the facts in the records: all of them, or those before the break if the file can't

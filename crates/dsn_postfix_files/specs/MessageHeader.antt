@@ -1,7 +1,8 @@
 -- The header of a message: the lines of its text before its body.
-use Rattle.std.specs.Prelude.{◌≡◌, ◌<◌, ℕ, Bool, false, not, ◌&&◌, ◌||◌, ◌+◌, ◌==◌, List, [], ◌∷◌, length, take, drop, nat_lt, if◌then◌else◌}
-use Rattle.std.specs.List.{prefix_len}
-use Rattle.dsn_postfix_files.specs.LogLine.{all_lines}
+use Rattle.std.specs.Prelude.{◌≡◌, ◌<◌, ℕ, Bool, false, not, ◌&&◌, ◌||◌, ◌+◌, ◌-◌, ◌==◌, List, [], ◌∷◌, Option, Some, None, codes, length, take, drop, nat_lt, if◌then◌else◌}
+use Rattle.std.specs.List.{prefix_len, suffix_len}
+use Rattle.std.specs.Str.{str_eq_ignore_ascii_case}
+use Rattle.dsn_postfix_files.specs.LogLine.{all_lines, first_said}
 use Rattle.dsn_postfix_files.specs.LogParts.{with_its_feed}
 
 -- whether a byte is a space or a tab
@@ -48,6 +49,27 @@ header_size (line ∷ lines) = if is_header_line line then with_its_feed line li
 
 abbrev pub message_header : List ℕ → List ℕ
 message_header text = take (header_size (all_lines text)) text
+
+-- ---- the Message-ID in a header
+
+abbrev pub without_trailing_blanks : List ℕ → List ℕ
+without_trailing_blanks text = take (length text - suffix_len is_blank_byte text) text
+
+-- a line's text after `Message-ID:`, in letters of either case, without the blanks around it
+abbrev pub message_id_of_line : List ℕ → Option (List ℕ)
+message_id_of_line line =
+    if str_eq_ignore_ascii_case (take 11 line) (codes "Message-ID:")
+    then Some (without_trailing_blanks (after_all is_blank_byte (drop 11 line)))
+    else None
+
+-- the first such text of some lines
+abbrev pub first_message_id : List (List ℕ) → Option (List ℕ)
+first_message_id [] = None
+first_message_id (line ∷ lines) = first_said (message_id_of_line line) (first_message_id lines)
+
+-- the Message-ID of a text's header, of the first line that has one; a line that continues it doesn't count
+abbrev pub message_id_of_text : List ℕ → Option (List ℕ)
+message_id_of_text text = first_message_id (all_lines (message_header text))
 
 -- ---- the header of a text of which only the front is known
 

@@ -37,7 +37,7 @@ pub use log_record::{LogRecord, full_text_or, usual_action, usual_status};
 pub use log_write_error::LogWriteError;
 pub use log_writer::is_full_loggable;
 pub use message_facts::MessageFacts;
-pub use message_header::{LONGEST_FIELD_NAME, header_of_message};
+pub use message_header::{LONGEST_FIELD_NAME, header_of_message, message_id_of_text};
 pub use message_text::text_of_message;
 pub use placed_record::PlacedRecord;
 pub use queue_broken::QueueBroken;

@@ -4,7 +4,7 @@ ghost use Rattle.std.specs.Prelude.{◌≡◌, List};
 ghost use Rattle.std.specs.List.{before_first};
 ghost use Rattle.std.specs.Option.{option_map};
 ghost use Rattle.dsn_postfix_files.specs.LogLine.{is_space};
-ghost use Rattle.dsn_postfix_files.specs.MessageFacts.{ReadsMessage, arrival_in, message_facts_in, return_flags_in, said_as, sender_in};
+ghost use Rattle.dsn_postfix_files.specs.MessageFacts.{ReadsMessage, arrival_in, message_facts_in, message_id_in, return_flags_in, said_as, sender_in};
 ghost use Rattle.dsn_postfix_files.specs.inner.QueueReading.{with_record};
 ghost use Rattle.dsn_postfix_files.specs.QueueListing.{QueueEnding, RecordsFrom};
 ghost use Rattle.dsn_postfix_files.specs.QueueRecord.{PlacedBytes, placed_bytes_in};
@@ -29,6 +29,8 @@ pub struct MessageFacts<'a> {
     /// The part of the message that the sender wants returned: 1 the whole message, 2 its header
     /// (RFC 3461 section 4.3).
     pub return_flags: Option<u8>,
+    /// The Message-ID that cleanup(8) of Postfix 3.10 found in the header, in angle brackets.
+    pub message_id: Option<&'a [u8]>,
 }
 
 /// A text up to its first space.
@@ -76,6 +78,17 @@ fn sender_in<'a>(found: PlacedRecord<'a>) -> Option<&'a [u8]>
     }
 }
 
+/// The Message-ID in a record.
+fn message_id_in<'a>(found: PlacedRecord<'a>) -> Option<&'a [u8]>
+    ensures { option_map (λ text. text.now) result ≡ message_id_in (placed_bytes_in found.entry) }
+{
+    if found.kind == b'A' {
+        value_named(b"message_id", found.bytes)
+    } else {
+        None
+    }
+}
+
 /// The part to be returned in a record.
 fn return_flags_in(found: PlacedRecord<'_>) -> Option<u8>
     ensures { result ≡ return_flags_in (placed_bytes_in found.entry) }
@@ -99,6 +112,7 @@ impl<'a> MessageFacts<'a> {
             sender: self.sender.or(sender_in(found)),
             envelope_id: envelope_id.or(self.envelope_id),
             return_flags: return_flags_in(found).or(self.return_flags),
+            message_id: self.message_id.or(message_id_in(found)),
         }
     }
 
@@ -116,12 +130,14 @@ impl<'a> MessageFacts<'a> {
         let mut sender: Option<&'a [u8]> = None;
         let mut envelope_id: Option<&'a [u8]> = None;
         let mut return_flags = None;
+        let mut message_id: Option<&'a [u8]> = None;
         loop {
             let facts = MessageFacts {
                 arrival,
                 sender,
                 envelope_id,
                 return_flags,
+                message_id,
             };
             match next_step(file, here, left) {
                 QueueStep::Record(found, after, fewer) => {
@@ -130,6 +146,7 @@ impl<'a> MessageFacts<'a> {
                     sender = more.sender;
                     envelope_id = more.envelope_id;
                     return_flags = more.return_flags;
+                    message_id = more.message_id;
                     here = after;
                     left = fewer;
                 }

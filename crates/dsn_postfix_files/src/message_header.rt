@@ -1,7 +1,9 @@
 //! The header of a message.
 //! Implements RFC 5322 section 2.2 and docs/postfix-internals.md, "Postfix's queue files".
 ghost use Rattle.std.specs.Prelude.{◌≡◌, take};
-ghost use Rattle.dsn_postfix_files.specs.MessageHeader.{after_all, begins_with, is_blank_byte, is_colon, is_header_line, is_name_byte, longest_field_name, message_header, names_field};
+ghost use Rattle.std.specs.Option.{option_map};
+ghost use Rattle.dsn_postfix_files.specs.LogLine.{all_lines};
+ghost use Rattle.dsn_postfix_files.specs.MessageHeader.{after_all, begins_with, is_blank_byte, is_colon, is_header_line, first_message_id, is_name_byte, longest_field_name, message_header, message_id_of_line, message_id_of_text, names_field, without_trailing_blanks};
 
 use crate::log_line::whole_line;
 
@@ -111,4 +113,51 @@ pub fn header_of_message(text: &[u8]) -> &[u8]
         return text;
     }
     &text[..text.len() - rest.len()]
+}
+
+/// The name of the field with a message's own id, and its colon.
+const MESSAGE_ID: &[u8] = b"Message-ID:";
+
+/// A text without its trailing spaces and tabs.
+fn without_trailing_blanks(text: &[u8]) -> &[u8]
+    ensures { result.now ≡ without_trailing_blanks text.now }
+{
+    let mut len = text.len();
+    while len > 0 && is_blank_byte(text[len - 1]) {
+        len -= 1;
+    }
+    &text[..len]
+}
+
+/// The Message-ID in a line, if it begins that field.
+fn message_id_of_line(line: &[u8]) -> Option<&[u8]>
+    ensures { option_map (λ text. text.now) result ≡ message_id_of_line line.now }
+{
+    let (name, value) = line.split_at_checked(MESSAGE_ID.len())?;
+    if !name.eq_ignore_ascii_case(MESSAGE_ID) {
+        return None;
+    }
+    Some(without_trailing_blanks(after_blanks(value)))
+}
+
+/// The first Message-ID in some lines.
+fn first_message_id(text: &[u8]) -> Option<&[u8]>
+    ensures { option_map (λ id. id.now) result ≡ first_message_id (all_lines text.now) }
+{
+    let mut rest = text;
+    while let Some((line, after)) = whole_line(rest) {
+        if let Some(id) = message_id_of_line(line) {
+            return Some(id);
+        }
+        rest = after;
+    }
+    message_id_of_line(rest)
+}
+
+/// The Message-ID in the header of a message's text: what the first line with that field has of it,
+/// as bounce(8) reads it. It is not checked.
+pub fn message_id_of_text(text: &[u8]) -> Option<&[u8]>
+    ensures { option_map (λ id. id.now) result ≡ message_id_of_text text.now }
+{
+    first_message_id(header_of_message(text))
 }

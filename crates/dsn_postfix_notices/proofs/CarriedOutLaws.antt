@@ -236,12 +236,13 @@ once_longer task front others none once = record {
   found = once.found;
   more = once.more ++ others;
   gained_are = ap (λ (deeds : List Deed). deeds ++ others) once.gained_are ∙ append_assoc (readings task once.found) once.more others;
+  heading = once.heading;
   letters = once.letters;
   asked = once.asked;
   front = once.front;
   rest = once.rest;
   letters_are = once.letters_are;
-  each = subst (λ (deeds : List Deed). AreHandedIn task.terms.settings.host once.front deeds) (sym (none_after front others none)) once.each;
+  each = subst (λ (deeds : List Deed). AreHandedIn once.heading once.front deeds) (sym (none_after front others none)) once.each;
 }
 
 once_or_none : (task : Task) (front others : List Deed) → hand_ins others ≡ []
@@ -282,11 +283,11 @@ pub none_once : (task : Task) (gained : List Deed) → notice_asked task.request
     → (hand_ins gained ≡ []) ⊎ HandsInOnce task gained → hand_ins gained ≡ []
 none_once task gained asked none (inl is) = is
 none_once task gained asked none (inr once) =
-    let letters = once.asked in
+    let letters = once.asked.each in
     let no_notices : letters.notices ≡ [] = sym (same_notices [] letters.notices _ (no_sender_plan task _ once.found.log asked none) letters.planned) in
     let no_letters : once.letters ≡ [] = subst (λ (ns : List NoticeFacts). AreLettersOf (message_said task letters.records) task.terms.moment (first_serial task once.found.log) ns once.letters) no_notices letters.each in
     let no_front : once.front ≡ [] = empty_front once.front once.rest (sym no_letters ∙ once.letters_are) in
-    subst (λ (ls : List Letter). AreHandedIn task.terms.settings.host ls (hand_ins gained)) no_front once.each
+    subst (λ (ls : List Letter). AreHandedIn once.heading ls (hand_ins gained)) no_front once.each
 
 pub nobody_is_told : (task : Task) (bytes : List ℕ) (answer : RequestAnswer) (gained : List Deed)
     → IsTellingDone task bytes answer gained → is_no_sender task.terms.settings.double_bounce task.notice.sender ≡ true → hand_ins gained ≡ []

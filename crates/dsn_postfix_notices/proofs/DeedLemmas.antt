@@ -3,7 +3,6 @@ use Rattle.std.proofs.Common.{◌≡◌, ℕ, Bool, true, false, List, [], ◌�
 use Rattle.std.specs.Prelude.{◌==◌, unwrap_or}
 use Rattle.dsn_outcome.specs.Letter.{Letter}
 use Rattle.dsn_report.specs.Notice.{return_path_of}
-use Rattle.dsn_report.specs.Outbox.{mail_data}
 use Rattle.dsn_text.specs.declared.service.Service.{Service}
 use Rattle.dsn_text.specs.declared.service.Service.TheVariants.{Bounce}
 use Rattle.dsn_postfix.specs.LoggedAppend.{unlogged_field}
@@ -19,11 +18,12 @@ use Rattle.dsn_postfix_notices.specs.requests.Deed.{Answer, Appended, Deed, Hand
 use Rattle.dsn_postfix_notices.specs.requests.Finishing.{FailsToMark, FinishesAt, StopsAtPlace, marking}
 use Rattle.dsn_postfix_notices.specs.requests.Gains.{Gains, with_deeds}
 use Rattle.dsn_postfix_notices.specs.requests.HandingIn.{AreAccepted, IsNotAccepted, StopsAtLetter, hand_in_of, is_first_after, refusal_of, refused}
+use Rattle.dsn_postfix_notices.specs.requests.Heading.{AreNoticesAsked, Heading, submitted_data}
 use Rattle.dsn_postfix_notices.specs.requests.MailFound.{FailsToRead, MailRead, log_reading, log_unread, message_reading, message_unread, readings}
 use Rattle.dsn_postfix_notices.specs.inner.MailFound.{ReadsLog}
 use Rattle.dsn_postfix_notices.specs.requests.NoticeDeeds.{EndsTelling, IsNotified, Tells, TellsOrLeaves, accepted, no_memory, unsayable}
 use Rattle.dsn_postfix_notices.specs.requests.PostmasterCopies.{is_copied}
-use Rattle.dsn_postfix_notices.specs.requests.RequestLetters.{AreLettersAsked, CantBeSaid, places_done}
+use Rattle.dsn_postfix_notices.specs.requests.RequestLetters.{CantBeSaid, places_done}
 use Rattle.dsn_postfix_notices.specs.inner.RequestLetters.{IsReason}
 use Rattle.dsn_postfix_notices.specs.requests.RequestStatus.{RequestAnswer, carried_out, is_carried_out, status_after}
 use Rattle.dsn_postfix_notices.specs.requests.Task.{Task, Terms}
@@ -115,28 +115,28 @@ unread_log deeds old new task why first = record {
 
 -- ---- letters
 
-pub one_accepted : {S : Type 0} → (deeds : S → Option (List Deed)) (old new : S) (host : List ℕ) (letter : Letter) (path data' reply : List ℕ)
-    → letter.draft.return_path ≡ Some path → data' ≡ mail_data host letter → deeds new ≡ with_deeds (deeds old) (HandedIn path data' (Ok reply) ∷ [])
-    → Gains deeds old new (AreAccepted host (letter ∷ []))
-one_accepted deeds old new host letter path data' reply to is after = record {
-  gained = hand_in_of host letter (Ok reply) ∷ [];
+pub one_accepted : {S : Type 0} → (deeds : S → Option (List Deed)) (old new : S) (heading : Heading) (letter : Letter) (path data' reply : List ℕ)
+    → letter.draft.return_path ≡ Some path → data' ≡ submitted_data heading letter → deeds new ≡ with_deeds (deeds old) (HandedIn path data' (Ok reply) ∷ [])
+    → Gains deeds old new (AreAccepted heading (letter ∷ []))
+one_accepted deeds old new heading letter path data' reply to is after = record {
+  gained = hand_in_of heading letter (Ok reply) ∷ [];
   after = after ∙ (λ i. with_deeds (deeds old) (HandedIn (sym (path_is letter path to) i) (is i) (Ok reply) ∷ []));
   are = (record { reply = reply; deed_is = refl }, refl);
 }
 
-pub one_refused : {S : Type 0} → (deeds : S → Option (List Deed)) (old new : S) (host : List ℕ) (first : Bool) (letter : Letter) (path data' : List ℕ) (fault : HandInFault) (why : Untold)
-    → letter.draft.return_path ≡ Some path → data' ≡ mail_data host letter → why ≡ refusal_of first fault → deeds new ≡ with_deeds (deeds old) (HandedIn path data' (Err fault) ∷ [])
-    → Gains deeds old new (IsNotAccepted host first letter why)
-one_refused deeds old new host first letter path data' fault why to is why_is after = record {
-  gained = hand_in_of host letter (Err fault) ∷ [];
+pub one_refused : {S : Type 0} → (deeds : S → Option (List Deed)) (old new : S) (heading : Heading) (first : Bool) (letter : Letter) (path data' : List ℕ) (fault : HandInFault) (why : Untold)
+    → letter.draft.return_path ≡ Some path → data' ≡ submitted_data heading letter → why ≡ refusal_of first fault → deeds new ≡ with_deeds (deeds old) (HandedIn path data' (Err fault) ∷ [])
+    → Gains deeds old new (IsNotAccepted heading first letter why)
+one_refused deeds old new heading first letter path data' fault why to is why_is after = record {
+  gained = hand_in_of heading letter (Err fault) ∷ [];
   after = after ∙ (λ i. with_deeds (deeds old) (HandedIn (sym (path_is letter path to) i) (is i) (Err fault) ∷ []));
   are = refused fault why_is refl;
 }
 
-pub accepted_more : (host : List ℕ) (front back : List Letter) (taken more : List Deed) → AreAccepted host front taken → AreAccepted host back more → AreAccepted host (front ++ back) (taken ++ more)
-accepted_more host [] back taken more first second = subst (λ (deeds : List Deed). AreAccepted host back (deeds ++ more)) (sym first) second
-accepted_more host (letter ∷ front) back [] more first second = absurd first
-accepted_more host (letter ∷ front) back (deed ∷ taken) more first second = (first.0, accepted_more host front back taken more first.1 second)
+pub accepted_more : (heading : Heading) (front back : List Letter) (taken more : List Deed) → AreAccepted heading front taken → AreAccepted heading back more → AreAccepted heading (front ++ back) (taken ++ more)
+accepted_more heading [] back taken more first second = subst (λ (deeds : List Deed). AreAccepted heading back (deeds ++ more)) (sym first) second
+accepted_more heading (letter ∷ front) back [] more first second = absurd first
+accepted_more heading (letter ∷ front) back (deed ∷ taken) more first second = (first.0, accepted_more heading front back taken more first.1 second)
 
 -- letters up to one, and those after it
 pub past_one : {X : Type 0} → (xs front rest after : List X) (x : X) → xs ≡ front ++ rest → rest ≡ x ∷ after → xs ≡ (front ++ x ∷ []) ++ after
@@ -147,32 +147,32 @@ pub at_one : {X : Type 0} → (xs front rest after : List X) (x : X) → xs ≡ 
 at_one xs front rest after x split first = split ∙ ap (λ (left : List _). front ++ left) first
 
 -- the letters so far were accepted, and the next is the first or not
-pub record AcceptedSoFar {S : Type 0} (deeds : S → Option (List Deed)) (old new : S) (host : List ℕ) (letters rest : List Letter) (first : Bool) : Type 0 where
+pub record AcceptedSoFar {S : Type 0} (deeds : S → Option (List Deed)) (old new : S) (heading : Heading) (letters rest : List Letter) (first : Bool) : Type 0 where
   pub front : List Letter
   pub taken : List Deed
   pub split : letters ≡ front ++ rest
   pub after : deeds new ≡ with_deeds (deeds old) taken
-  pub accepted : AreAccepted host front taken
+  pub accepted : AreAccepted heading front taken
   pub first_is : first ≡ is_first_after front
 
 not_first : (front : List Letter) (letter : Letter) → false ≡ is_first_after (front ++ letter ∷ [])
 not_first [] letter = refl
 not_first (other ∷ front) letter = refl
 
-pub accepted_one_more : {S : Type 0} → (deeds : S → Option (List Deed)) (old between new : S) (host : List ℕ) (letters rest after : List Letter) (first : Bool) (letter : Letter)
-    → AcceptedSoFar deeds old between host letters rest first → rest ≡ letter ∷ after → Gains deeds between new (AreAccepted host (letter ∷ [])) → AcceptedSoFar deeds old new host letters after false
-accepted_one_more deeds old between new host letters rest after first letter so_far next one = record {
+pub accepted_one_more : {S : Type 0} → (deeds : S → Option (List Deed)) (old between new : S) (heading : Heading) (letters rest after : List Letter) (first : Bool) (letter : Letter)
+    → AcceptedSoFar deeds old between heading letters rest first → rest ≡ letter ∷ after → Gains deeds between new (AreAccepted heading (letter ∷ [])) → AcceptedSoFar deeds old new heading letters after false
+accepted_one_more deeds old between new heading letters rest after first letter so_far next one = record {
   front = so_far.front ++ letter ∷ [];
   taken = so_far.taken ++ one.gained;
   split = past_one letters so_far.front rest after letter so_far.split next;
   after = after_both deeds old between new so_far.taken one.gained so_far.after one.after;
-  accepted = accepted_more host so_far.front (letter ∷ []) so_far.taken one.gained so_far.accepted one.are;
+  accepted = accepted_more heading so_far.front (letter ∷ []) so_far.taken one.gained so_far.accepted one.are;
   first_is = not_first so_far.front letter;
 }
 
-pub stopped_at : {S : Type 0} → (deeds : S → Option (List Deed)) (old between new : S) (host : List ℕ) (letters rest after : List Letter) (first : Bool) (letter : Letter) (why : Untold)
-    → AcceptedSoFar deeds old between host letters rest first → rest ≡ letter ∷ after → Gains deeds between new (IsNotAccepted host first letter why) → Gains deeds old new (StopsAtLetter host letters why)
-stopped_at deeds old between new host letters rest after first letter why so_far next one = record {
+pub stopped_at : {S : Type 0} → (deeds : S → Option (List Deed)) (old between new : S) (heading : Heading) (letters rest after : List Letter) (first : Bool) (letter : Letter) (why : Untold)
+    → AcceptedSoFar deeds old between heading letters rest first → rest ≡ letter ∷ after → Gains deeds between new (IsNotAccepted heading first letter why) → Gains deeds old new (StopsAtLetter heading letters why)
+stopped_at deeds old between new heading letters rest after first letter why so_far next one = record {
   gained = so_far.taken ++ one.gained;
   after = after_both deeds old between new so_far.taken one.gained so_far.after one.after;
   are = record {
@@ -184,7 +184,7 @@ stopped_at deeds old between new host letters rest after first letter why so_far
     last = one.gained;
     gained_are = refl;
     accepted = so_far.accepted;
-    not_accepted = subst (λ (is_first : Bool). IsNotAccepted host is_first letter why one.gained) so_far.first_is one.are;
+    not_accepted = subst (λ (is_first : Bool). IsNotAccepted heading is_first letter why one.gained) so_far.first_is one.are;
   };
 }
 
@@ -234,14 +234,14 @@ none_made task found (PassedOn reason) gained is unsaid = unsayable found reason
 none_made task found Failed gained is none = absurd none
 none_made task found no_memory_left gained is none = no_memory found refl is
 
-pub all_told : {S : Type 0} → (deeds : S → Option (List Deed)) (old read handed new : S) (task : Task) (found : MailRead) (made : List Letter) (telling : Result (Unit {0}) Untold)
-    → AreLettersAsked task found made → Gains deeds old read (λ gained. gained ≡ readings task found) → Gains deeds read handed (AreAccepted task.terms.settings.host made)
+pub all_told : {S : Type 0} → (deeds : S → Option (List Deed)) (old read handed new : S) (task : Task) (found : MailRead) (heading : Heading) (made : List Letter) (telling : Result (Unit {0}) Untold)
+    → AreNoticesAsked task found heading made → Gains deeds old read (λ gained. gained ≡ readings task found) → Gains deeds read handed (AreAccepted heading made)
     → Gains deeds handed new (FinishesAt task found.log (places_done task found.log) telling) → Gains deeds old new (Tells task telling)
-all_told deeds old read handed new task found made telling asked reads accepts finishes = record {
+all_told deeds old read handed new task found heading made telling asked reads accepts finishes = record {
   gained = reads.gained ++ (accepts.gained ++ finishes.gained);
   after = after_both deeds old read new reads.gained (accepts.gained ++ finishes.gained) reads.after
       (after_both deeds read handed new accepts.gained finishes.gained accepts.after finishes.after);
-  are = accepted found made accepts.gained finishes.gained (ap (λ (deeds : List Deed). deeds ++ (accepts.gained ++ finishes.gained)) reads.are) asked accepts.are finishes.are;
+  are = accepted found heading made accepts.gained finishes.gained (ap (λ (deeds : List Deed). deeds ++ (accepts.gained ++ finishes.gained)) reads.are) asked accepts.are finishes.are;
 }
 
 pub told_if_not_copied : (task : Task) (telling : Result (Unit {0}) Untold) (gained : List Deed) → is_copied task.terms.settings task.request ≡ false

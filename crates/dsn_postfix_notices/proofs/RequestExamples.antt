@@ -91,6 +91,7 @@ settings_with copies = record {
   lifetime = 432000;
   size_limit = 50000;
   copies = copies;
+  threaded = false;
 }
 
 abbrev no_copies : PostmasterCopies
@@ -210,6 +211,13 @@ failure_is_no_delay = refl
 
 delay_is_no_failure : is_copied (settings_with of_bounces) (Warn (asked_by (codes "ann@example.com"))) ≡ false
 delay_is_no_failure = refl
+
+report_copied : is_copied (settings_with of_double_bounces) (Trace (asked_by [])) ≡ true
+report_copied = refl
+
+-- of a report, `bounce` doesn't imply `2bounce`
+report_not_implied : is_copied (settings_with of_bounces) (Trace (asked_by [])) ≡ false
+report_not_implied = refl
 
 success_not_copied : is_copied (settings_with of_bounces) (Trace (asked_by (codes "ann@example.com"))) ≡ false
 success_not_copied = refl

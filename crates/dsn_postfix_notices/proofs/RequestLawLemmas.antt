@@ -16,6 +16,7 @@ use Rattle.dsn_postfix_notices.specs.requests.Deed.{Appended, Deed, HandedIn, Lo
 use Rattle.dsn_postfix_notices.specs.requests.Finishing.{AreMarked, StopsAtPlace, marking}
 use Rattle.dsn_postfix_notices.specs.requests.HandingIn.{AreAccepted, IsNotAccepted, StopsAtLetter, hand_in_of, is_first_after}
 use Rattle.dsn_postfix_notices.specs.requests.HandingIn as handing
+use Rattle.dsn_postfix_notices.specs.requests.Heading.{Heading}
 use Rattle.dsn_postfix_notices.specs.requests.MailFound.{FailsToRead, MailRead, log_reading, log_unread, message_reading, message_unread, readings, tells_of_log}
 use Rattle.dsn_postfix_notices.specs.requests.Task.{Task}
 use Rattle.dsn_postfix_notices.specs.requests.RequestLaws.{AreHandedIn, hand_ins, is_hand_in, onto_if}
@@ -84,76 +85,76 @@ unread_block task gained (message_unread log why is) = block_is gained _ [] is (
 
 -- ---- letters
 
-hand_in_alone : (deed : Deed) (host : List ℕ) (letter : Letter) (answer : Result (List ℕ) _) → deed ≡ hand_in_of host letter answer → (is_removal deed ≡ false) × (is_hand_in deed ≡ true)
-hand_in_alone deed host letter answer is = (ap is_removal is, ap is_hand_in is)
+hand_in_alone : (deed : Deed) (heading : Heading) (letter : Letter) (answer : Result (List ℕ) _) → deed ≡ hand_in_of heading letter answer → (is_removal deed ≡ false) × (is_hand_in deed ≡ true)
+hand_in_alone deed heading letter answer is = (ap is_removal is, ap is_hand_in is)
 
-pub accepted_block : (host : List ℕ) (letters : List Letter) (gained : List Deed) → AreAccepted host letters gained → Block gained gained
-accepted_block host [] gained are = subst (λ (deeds : List Deed). Block deeds deeds) (sym are) no_deeds
-accepted_block host (letter ∷ letters) [] are = absurd are
-accepted_block host (letter ∷ letters) (deed ∷ gained) are =
-    let alone = hand_in_alone deed host letter (Ok are.0.reply) are.0.deed_is in
-    let rest = accepted_block host letters gained are.1 in
+pub accepted_block : (heading : Heading) (letters : List Letter) (gained : List Deed) → AreAccepted heading letters gained → Block gained gained
+accepted_block heading [] gained are = subst (λ (deeds : List Deed). Block deeds deeds) (sym are) no_deeds
+accepted_block heading (letter ∷ letters) [] are = absurd are
+accepted_block heading (letter ∷ letters) (deed ∷ gained) are =
+    let alone = hand_in_alone deed heading letter (Ok are.0.reply) are.0.deed_is in
+    let rest = accepted_block heading letters gained are.1 in
     record {
       keeps = (alone.0, rest.keeps);
       handed_are = ap (λ (b : Bool). onto_if b deed (hand_ins gained)) alone.1 ∙ ap (λ (deeds : List Deed). deed ∷ deeds) rest.handed_are;
     }
 
-pub accepted_handed : (host : List ℕ) (letters : List Letter) (gained : List Deed) → AreAccepted host letters gained → AreHandedIn host letters gained
-accepted_handed host [] gained are = are
-accepted_handed host (letter ∷ letters) [] are = absurd are
-accepted_handed host (letter ∷ letters) (deed ∷ gained) are = (record { answer = Ok are.0.reply; deed_is = are.0.deed_is }, accepted_handed host letters gained are.1)
+pub accepted_handed : (heading : Heading) (letters : List Letter) (gained : List Deed) → AreAccepted heading letters gained → AreHandedIn heading letters gained
+accepted_handed heading [] gained are = are
+accepted_handed heading (letter ∷ letters) [] are = absurd are
+accepted_handed heading (letter ∷ letters) (deed ∷ gained) are = (record { answer = Ok are.0.reply; deed_is = are.0.deed_is }, accepted_handed heading letters gained are.1)
 
-handed_more : (host : List ℕ) (front back : List Letter) (one two : List Deed) → AreHandedIn host front one → AreHandedIn host back two → AreHandedIn host (front ++ back) (one ++ two)
-handed_more host [] back one two first second = subst (λ (deeds : List Deed). AreHandedIn host back (deeds ++ two)) (sym first) second
-handed_more host (letter ∷ front) back [] two first second = absurd first
-handed_more host (letter ∷ front) back (deed ∷ one) two first second = (first.0, handed_more host front back one two first.1 second)
+handed_more : (heading : Heading) (front back : List Letter) (one two : List Deed) → AreHandedIn heading front one → AreHandedIn heading back two → AreHandedIn heading (front ++ back) (one ++ two)
+handed_more heading [] back one two first second = subst (λ (deeds : List Deed). AreHandedIn heading back (deeds ++ two)) (sym first) second
+handed_more heading (letter ∷ front) back [] two first second = absurd first
+handed_more heading (letter ∷ front) back (deed ∷ one) two first second = (first.0, handed_more heading front back one two first.1 second)
 
 -- a prefix of some letters was submitted, and no log was removed
-pub record FrontHanded (host : List ℕ) (letters : List Letter) (gained : List Deed) : Type 0 where
+pub record FrontHanded (heading : Heading) (letters : List Letter) (gained : List Deed) : Type 0 where
   pub front : List Letter
   pub rest : List Letter
   pub letters_are : letters ≡ front ++ rest
   pub block : Block gained gained
-  pub each : AreHandedIn host front gained
+  pub each : AreHandedIn heading front gained
 
-one_tried : (host : List ℕ) (letter : Letter) (why : _) → Block (hand_in_of host letter (Err why) ∷ []) (hand_in_of host letter (Err why) ∷ [])
-one_tried host letter why = record { keeps = (refl, tt); handed_are = refl }
+one_tried : (heading : Heading) (letter : Letter) (why : _) → Block (hand_in_of heading letter (Err why) ∷ []) (hand_in_of heading letter (Err why) ∷ [])
+one_tried heading letter why = record { keeps = (refl, tt); handed_are = refl }
 
-last_handed : (host : List ℕ) (first : Bool) (before after : List Letter) (stopped : Letter) (why : Untold) (taken last : List Deed) → AreAccepted host before taken → IsNotAccepted host first stopped why last
-    → FrontHanded host (before ++ stopped ∷ after) (taken ++ last)
-last_handed host first before after stopped why taken last accepted (handing.refused fault why_is is) =
-    let tried : List Deed = hand_in_of host stopped (Err fault) ∷ [] in
-    subst (λ (deeds : List Deed). FrontHanded host (before ++ stopped ∷ after) (taken ++ deeds)) (sym is) (record {
+last_handed : (heading : Heading) (first : Bool) (before after : List Letter) (stopped : Letter) (why : Untold) (taken last : List Deed) → AreAccepted heading before taken → IsNotAccepted heading first stopped why last
+    → FrontHanded heading (before ++ stopped ∷ after) (taken ++ last)
+last_handed heading first before after stopped why taken last accepted (handing.refused fault why_is is) =
+    let tried : List Deed = hand_in_of heading stopped (Err fault) ∷ [] in
+    subst (λ (deeds : List Deed). FrontHanded heading (before ++ stopped ∷ after) (taken ++ deeds)) (sym is) (record {
       front = before ++ stopped ∷ [];
       rest = after;
       letters_are = sym (append_assoc before (stopped ∷ []) after);
-      block = both taken tried taken tried (accepted_block host before taken accepted) (one_tried host stopped fault);
-      each = handed_more host before (stopped ∷ []) taken tried (accepted_handed host before taken accepted) (record { answer = Err fault; deed_is = refl }, refl);
+      block = both taken tried taken tried (accepted_block heading before taken accepted) (one_tried heading stopped fault);
+      each = handed_more heading before (stopped ∷ []) taken tried (accepted_handed heading before taken accepted) (record { answer = Err fault; deed_is = refl }, refl);
     })
-last_handed host first before after stopped why taken last accepted (handing.no_memory why_is is) =
-    subst (λ (deeds : List Deed). FrontHanded host (before ++ stopped ∷ after) (taken ++ deeds)) (sym is)
-    (subst (λ (deeds : List Deed). FrontHanded host (before ++ stopped ∷ after) deeds) (sym (append-nil taken)) (record {
+last_handed heading first before after stopped why taken last accepted (handing.no_memory why_is is) =
+    subst (λ (deeds : List Deed). FrontHanded heading (before ++ stopped ∷ after) (taken ++ deeds)) (sym is)
+    (subst (λ (deeds : List Deed). FrontHanded heading (before ++ stopped ∷ after) deeds) (sym (append-nil taken)) (record {
       front = before;
       rest = stopped ∷ after;
       letters_are = refl;
-      block = accepted_block host before taken accepted;
-      each = accepted_handed host before taken accepted;
+      block = accepted_block heading before taken accepted;
+      each = accepted_handed heading before taken accepted;
     }))
 
-pub stopped_front : (host : List ℕ) (letters : List Letter) (why : Untold) (gained : List Deed) → StopsAtLetter host letters why gained → FrontHanded host letters gained
-stopped_front host letters why gained stops =
-    subst (λ (deeds : List Deed). FrontHanded host letters deeds) (sym stops.gained_are)
-    (subst (λ (ls : List Letter). FrontHanded host ls (stops.taken ++ stops.last)) (sym stops.letters_are)
-    (last_handed host (is_first_after stops.before) stops.before stops.after stops.stopped why stops.taken stops.last stops.accepted stops.not_accepted))
+pub stopped_front : (heading : Heading) (letters : List Letter) (why : Untold) (gained : List Deed) → StopsAtLetter heading letters why gained → FrontHanded heading letters gained
+stopped_front heading letters why gained stops =
+    subst (λ (deeds : List Deed). FrontHanded heading letters deeds) (sym stops.gained_are)
+    (subst (λ (ls : List Letter). FrontHanded heading ls (stops.taken ++ stops.last)) (sym stops.letters_are)
+    (last_handed heading (is_first_after stops.before) stops.before stops.after stops.stopped why stops.taken stops.last stops.accepted stops.not_accepted))
 
 -- the first of some letters was refused for good, and no other was submitted
-pub record FirstRefused (host : List ℕ) (letters : List Letter) (gained : List Deed) : Type 0 where
+pub record FirstRefused (heading : Heading) (letters : List Letter) (gained : List Deed) : Type 0 where
   pub letter : Letter
   pub others : List Letter
   pub fault : HandInFault
   pub letters_are : letters ≡ letter ∷ others
   pub for_good : is_refused_for_good fault ≡ true
-  pub tried : gained ≡ hand_in_of host letter (Err fault) ∷ []
+  pub tried : gained ≡ hand_in_of heading letter (Err fault) ∷ []
 
 refused_now : (reason : PassReason) → PassedOn reason ≡ Failed → ⊥
 refused_now reason e = cc
@@ -165,9 +166,9 @@ for_good_if : (reason : PassReason) (b : Bool) → PassedOn reason ≡ (if b the
 for_good_if reason true e = refl
 for_good_if reason false e = absurd (refused_now reason e)
 
-first_of : (host : List ℕ) (letters before after : List Letter) (stopped : Letter) (reason : PassReason) (gained taken last : List Deed) → letters ≡ before ++ stopped ∷ after → gained ≡ taken ++ last → AreAccepted host before taken
-    → IsNotAccepted host (is_first_after before) stopped (PassedOn reason) last → FirstRefused host letters gained
-first_of host letters [] after stopped reason gained taken last letters_are is accepted (handing.refused fault why_is tried) = record {
+first_of : (heading : Heading) (letters before after : List Letter) (stopped : Letter) (reason : PassReason) (gained taken last : List Deed) → letters ≡ before ++ stopped ∷ after → gained ≡ taken ++ last → AreAccepted heading before taken
+    → IsNotAccepted heading (is_first_after before) stopped (PassedOn reason) last → FirstRefused heading letters gained
+first_of heading letters [] after stopped reason gained taken last letters_are is accepted (handing.refused fault why_is tried) = record {
   letter = stopped;
   others = after;
   fault = fault;
@@ -175,13 +176,13 @@ first_of host letters [] after stopped reason gained taken last letters_are is a
   for_good = for_good_if reason (is_refused_for_good fault) why_is;
   tried = is ∙ ap (λ (deeds : List Deed). deeds ++ last) accepted ∙ tried;
 }
-first_of host letters (other ∷ before) after stopped reason gained taken last letters_are is accepted (handing.refused fault why_is tried) = absurd (refused_now reason why_is)
-first_of host letters [] after stopped reason gained taken last letters_are is accepted (handing.no_memory why_is none) = absurd (without_memory reason why_is)
-first_of host letters (other ∷ before) after stopped reason gained taken last letters_are is accepted (handing.no_memory why_is none) = absurd (without_memory reason why_is)
+first_of heading letters (other ∷ before) after stopped reason gained taken last letters_are is accepted (handing.refused fault why_is tried) = absurd (refused_now reason why_is)
+first_of heading letters [] after stopped reason gained taken last letters_are is accepted (handing.no_memory why_is none) = absurd (without_memory reason why_is)
+first_of heading letters (other ∷ before) after stopped reason gained taken last letters_are is accepted (handing.no_memory why_is none) = absurd (without_memory reason why_is)
 
-pub first_refused : (host : List ℕ) (letters : List Letter) (reason : PassReason) (gained : List Deed) → StopsAtLetter host letters (PassedOn reason) gained → FirstRefused host letters gained
-first_refused host letters reason gained stops =
-    first_of host letters stops.before stops.after stops.stopped reason gained stops.taken stops.last stops.letters_are stops.gained_are stops.accepted stops.not_accepted
+pub first_refused : (heading : Heading) (letters : List Letter) (reason : PassReason) (gained : List Deed) → StopsAtLetter heading letters (PassedOn reason) gained → FirstRefused heading letters gained
+first_refused heading letters reason gained stops =
+    first_of heading letters stops.before stops.after stops.stopped reason gained stops.taken stops.last stops.letters_are stops.gained_are stops.accepted stops.not_accepted
 
 -- ---- recipients
 

@@ -12,13 +12,14 @@ use Rattle.dsn_postfix_notices.specs.requests.Deed.{Answer, Deed, LogReleased, L
 use Rattle.dsn_postfix_notices.specs.requests.Finishing.{AreMarked, FinishesAt, RemovesLog}
 use Rattle.dsn_postfix_notices.specs.requests.Finishing as finishing
 use Rattle.dsn_postfix_notices.specs.requests.HandingIn.{AreAccepted, StopsAtLetter}
+use Rattle.dsn_postfix_notices.specs.requests.Heading.{AreNoticesAsked, Heading}
 use Rattle.dsn_postfix_notices.specs.requests.MailFound.{MailRead, readings}
 use Rattle.dsn_postfix_notices.specs.requests.NoticeDeeds.{EndsTelling, IsNotified, Tells}
 use Rattle.dsn_postfix_notices.specs.requests.NoticeDeeds as notices
 use Rattle.dsn_postfix_notices.specs.requests.PostmasterCopies.{is_copied}
 use Rattle.dsn_postfix_notices.specs.requests.RequestLaws.{AreAllTold, AreHandedIn, HandsInOnce, IsLeftOver, hand_ins}
 use Rattle.dsn_postfix_notices.specs.requests.RequestLaws as laws
-use Rattle.dsn_postfix_notices.specs.requests.RequestLetters.{AreLettersAsked, places_done}
+use Rattle.dsn_postfix_notices.specs.requests.RequestLetters.{places_done}
 use Rattle.dsn_postfix_notices.specs.requests.RequestStatus.{RequestAnswer}
 use Rattle.dsn_postfix_notices.specs.requests.Task.{Task}
 use Rattle.dsn_postfix_notices.proofs.RequestLawLemmas.{Block, RemovesNone, accepted_block, accepted_handed, block_is, both, first_refused, marked_block, no_deeds, readings_block, stopped_front, stopped_marks, unread_block}
@@ -92,14 +93,14 @@ told_if_done : (task : Task) (telling : Result (Unit {0}) Untold) (Marked : Type
 told_if_done task telling Marked front told all (inl done) = told_as task telling (Ok tt) front told done.0 (all done.1)
 told_if_done task telling Marked front told all (inr failed) = told_as task telling (Err Failed) front told failed tt
 
-told_if_stopped : (task : Task) (found : MailRead) (made : List Letter) (why : Untold) (front gained : List Deed)
-    → AreLettersAsked task found made → StopsAtLetter task.terms.settings.host made why gained → ToldSo task (Err why) front (readings task found ++ gained)
-told_if_stopped task found made Failed front gained asked stops = tt
-told_if_stopped task found made NoMemory front gained asked stops = tt
-told_if_stopped task found made (PassedOn reason) front gained asked stops =
-    let first = first_refused task.terms.settings.host made reason gained stops in
-    laws.refused found first.letter first.others first.fault
-    (subst (λ (letters : List Letter). AreLettersAsked task found letters) first.letters_are asked) first.for_good
+told_if_stopped : (task : Task) (found : MailRead) (heading : Heading) (made : List Letter) (why : Untold) (front gained : List Deed)
+    → AreNoticesAsked task found heading made → StopsAtLetter heading made why gained → ToldSo task (Err why) front (readings task found ++ gained)
+told_if_stopped task found heading made Failed front gained asked stops = tt
+told_if_stopped task found heading made NoMemory front gained asked stops = tt
+told_if_stopped task found heading made (PassedOn reason) front gained asked stops =
+    let first = first_refused heading made reason gained stops in
+    laws.refused found heading first.letter first.others first.fault
+    (subst (λ (letters : List Letter). AreNoticesAsked task found heading letters) first.letters_are asked) first.for_good
     (ap (λ (tried : List Deed). readings task found ++ tried) first.tried)
 
 pub record TellingParts (task : Task) (telling : Result (Unit {0}) Untold) (gained : List Deed) : Type 0 where
@@ -128,10 +129,10 @@ removal_told : (task : Task) (places : List ℕ) (front marks removal : List Dee
 removal_told task places front marks removal told (inl none) = nothing_removed none
 removal_told task places front marks removal told (inr some) = removed_told some.0 some.1 (told some.2)
 
-stopped_parts : (task : Task) (found : MailRead) (made : List Letter) (why : Untold) (gained : List Deed)
-    → AreLettersAsked task found made → StopsAtLetter task.terms.settings.host made why gained → TellingParts task (Err why) (readings task found ++ gained)
-stopped_parts task found made why gained asked stops =
-    let tried = stopped_front task.terms.settings.host made why gained stops in
+stopped_parts : (task : Task) (found : MailRead) (heading : Heading) (made : List Letter) (why : Untold) (gained : List Deed)
+    → AreNoticesAsked task found heading made → StopsAtLetter heading made why gained → TellingParts task (Err why) (readings task found ++ gained)
+stopped_parts task found heading made why gained asked stops =
+    let tried = stopped_front heading made why gained stops in
     let read = readings task found in
     let block = both read gained [] gained (readings_block task found) tried.block in
     record {
@@ -143,30 +144,31 @@ stopped_parts task found made why gained asked stops =
         found = found;
         more = gained;
         gained_are = refl;
+        heading = heading;
         letters = made;
         asked = asked;
         front = tried.front;
         rest = tried.rest;
         letters_are = tried.letters_are;
-        each = subst (λ (deeds : List Deed). AreHandedIn task.terms.settings.host tried.front deeds) (sym block.handed_are) tried.each;
+        each = subst (λ (deeds : List Deed). AreHandedIn heading tried.front deeds) (sym block.handed_are) tried.each;
       });
       removal_is = nothing_removed refl;
-      so = told_if_stopped task found made why (read ++ gained) gained asked stops;
+      so = told_if_stopped task found heading made why (read ++ gained) gained asked stops;
     }
 
-accepted_parts : (task : Task) (found : MailRead) (made : List Letter) (telling : Result (Unit {0}) Untold) (taken rest : List Deed)
-    → AreLettersAsked task found made → AreAccepted task.terms.settings.host made taken → FinishesAt task found.log (places_done task found.log) telling rest
+accepted_parts : (task : Task) (found : MailRead) (heading : Heading) (made : List Letter) (telling : Result (Unit {0}) Untold) (taken rest : List Deed)
+    → AreNoticesAsked task found heading made → AreAccepted heading made taken → FinishesAt task found.log (places_done task found.log) telling rest
     → TellingParts task telling (readings task found ++ (taken ++ rest))
-accepted_parts task found made telling taken rest asked accepted finishes =
+accepted_parts task found heading made telling taken rest asked accepted finishes =
     let places = places_done task found.log in
     let finish = finish_parts task found.log places telling rest finishes in
     let read = readings task found in
     let front : List Deed = read ++ (taken ++ finish.marks) in
     let block : Block front taken = both read (taken ++ finish.marks) [] taken (readings_block task found)
     (subst (λ (handed : List Deed). Block (taken ++ finish.marks) handed) (append-nil taken)
-    (both taken finish.marks taken [] (accepted_block task.terms.settings.host made taken accepted) finish.block)) in
+    (both taken finish.marks taken [] (accepted_block heading made taken accepted) finish.block)) in
     let told : AreMarked task.notice places finish.marks → AreAllTold task front =
-    λ marked. record { found = found; letters = made; handed = taken; marks = finish.marks; gained_are = refl; asked = asked; accepted = accepted; marked = marked } in
+    λ marked. record { found = found; heading = heading; letters = made; handed = taken; marks = finish.marks; gained_are = refl; asked = asked; accepted = accepted; marked = marked } in
     record {
       front = front;
       removal = finish.removal;
@@ -177,12 +179,13 @@ accepted_parts task found made telling taken rest asked accepted finishes =
         found = found;
         more = taken ++ finish.marks;
         gained_are = refl;
+        heading = heading;
         letters = made;
         asked = asked;
         front = made;
         rest = [];
         letters_are = sym (append-nil made);
-        each = subst (λ (deeds : List Deed). AreHandedIn task.terms.settings.host made deeds) (sym block.handed_are) (accepted_handed task.terms.settings.host made taken accepted);
+        each = subst (λ (deeds : List Deed). AreHandedIn heading made deeds) (sym block.handed_are) (accepted_handed heading made taken accepted);
       });
       removal_is = removal_told task places front finish.marks finish.removal told finish.removal_is;
       so = told_if_done task telling (AreMarked task.notice places finish.marks) front (read ++ (taken ++ rest)) told finish.ends;
@@ -197,11 +200,11 @@ telling_parts task telling gained (notices.unsayable found why t is unsaid) =
     quiet_parts task telling gained
     (told_as task telling (Err (PassedOn why)) gained gained t (laws.unsayable found unsaid is))
     (block_is gained _ [] is (readings_block task found))
-telling_parts task telling gained (notices.stopped found made tried why t is asked stops) =
+telling_parts task telling gained (notices.stopped found heading made tried why t is asked stops) =
     subst (λ (end : Result (Unit {0}) Untold). TellingParts task end gained) (sym t)
-    (subst (λ (deeds : List Deed). TellingParts task (Err why) deeds) (sym is) (stopped_parts task found made why tried asked stops))
-telling_parts task telling gained (notices.accepted found made taken rest is asked accepted finishes) =
-    subst (λ (deeds : List Deed). TellingParts task telling deeds) (sym is) (accepted_parts task found made telling taken rest asked accepted finishes)
+    (subst (λ (deeds : List Deed). TellingParts task (Err why) deeds) (sym is) (stopped_parts task found heading made why tried asked stops))
+telling_parts task telling gained (notices.accepted found heading made taken rest is asked accepted finishes) =
+    subst (λ (deeds : List Deed). TellingParts task telling deeds) (sym is) (accepted_parts task found heading made telling taken rest asked accepted finishes)
 
 telling_parts_by : (task : Task) (copied : Bool) (telling : Result (Unit {0}) Untold) (gained : List Deed) → is_copied task.terms.settings task.request ≡ copied
     → MatchBool copied ((telling ≡ Err (PassedOn Postmaster)) × (gained ≡ [])) (Tells task telling gained) → TellingParts task telling gained

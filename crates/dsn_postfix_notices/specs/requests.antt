@@ -5,6 +5,7 @@ pub mod Deed
 pub mod Finishing
 pub mod Gains
 pub mod HandingIn
+pub mod Heading
 pub mod MailFound
 pub mod NoticeDeeds
 pub mod PostmasterCopies
@@ -12,3 +13,4 @@ pub mod RequestLetters
 pub mod RequestLaws
 pub mod RequestStatus
 pub mod Task
+pub mod ThreadId

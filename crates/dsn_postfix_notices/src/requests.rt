@@ -9,6 +9,7 @@ mod laws;
 mod letters_made;
 mod mail_found;
 mod mail_system;
+mod notice_heading;
 mod notice_task;
 mod notify;
 mod pass_reason;
@@ -18,14 +19,15 @@ mod request_letters;
 mod request_status;
 mod request_terms;
 mod service_settings;
+mod thread_id;
 mod untold;
 
 pub use answering::answer_request;
 pub use carrying_out::queue_id_of;
 pub use deed_fault::DeedFault;
 pub use laws::{
-    answered_appends_stand, bounce_logs_are_told_first, logs_are_removed_after_acceptance,
-    no_notice_causes_another, notices_are_handed_in_once,
+    answered_appends_stand, bounce_logs_are_told_first, fields_come_before_notices,
+    logs_are_removed_after_acceptance, no_notice_causes_another, notices_are_handed_in_once,
 };
 pub use mail_system::MailSystem;
 pub use pass_reason::PassReason;

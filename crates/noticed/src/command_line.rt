@@ -202,7 +202,8 @@ fn with_settings<'a>(alloc: Global, command: Command<'a>) -> Result<Command<'a>,
                 .value_parser(ValueParser::String)
                 .default_value("")
                 .help("Classes that bounce(8) reports: bounce, 2bounce, delay"),
-        )
+        )?
+        .arg(flag(alloc, "threaded").help("Refers to the Message-ID of a notice's message"))
 }
 
 /// The argument QUEUE-FOLDER.

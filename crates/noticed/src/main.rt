@@ -54,7 +54,7 @@ use stop_command::run_stop;
 
 /// The line that wrong arguments print on standard error.
 const USAGE: &str =
-    "usage: noticed batch HOST | serve [--config FILE] [--inherited] [[--journal FOLDER] --outbox PATH | --journal FOLDER --hand-in HAND-IN [--give-up SECONDS]] [--release-closed] [--logs N] [--entries N] [--idle SECONDS] [--end-on-fault] [--log] SOCKET HOST AGENTS MAX-USE | stop SOCKET | send SOCKET | status [--open|--prometheus] SOCKET | discard SOCKET SERVICE ID | forget SOCKET SERVICE ID | journal FOLDER | hand-in [--done FILE] [--give-up SECONDS] HAND-IN | postfix [--lifetime SECONDS] [--bounce-size-limit BYTES] [--double-bounce ADDRESS] [--hash-queue-names NAMES] [--hash-queue-depth DEPTH] [--pass-on CLASSES] [--inherited] QUEUE-FOLDER HOST HAND-IN | preview [OPTIONS] QUEUE-FOLDER HOST ID";
+    "usage: noticed batch HOST | serve [--config FILE] [--inherited] [[--journal FOLDER] --outbox PATH | --journal FOLDER --hand-in HAND-IN [--give-up SECONDS]] [--release-closed] [--logs N] [--entries N] [--idle SECONDS] [--end-on-fault] [--log] SOCKET HOST AGENTS MAX-USE | stop SOCKET | send SOCKET | status [--open|--prometheus] SOCKET | discard SOCKET SERVICE ID | forget SOCKET SERVICE ID | journal FOLDER | hand-in [--done FILE] [--give-up SECONDS] HAND-IN | postfix [--lifetime SECONDS] [--bounce-size-limit BYTES] [--double-bounce ADDRESS] [--hash-queue-names NAMES] [--hash-queue-depth DEPTH] [--pass-on CLASSES] [--threaded] [--inherited] QUEUE-FOLDER HOST HAND-IN | preview [OPTIONS] QUEUE-FOLDER HOST ID";
 
 fn main(rt: HostRuntime) -> ExitCode {
     let done = match begin(&rt) {

@@ -32,6 +32,8 @@ pub(crate) struct PostfixValues {
     pub(crate) size_limit: u32,
     /// Of which notices the postmaster gets a copy.
     copies: PostmasterCopies,
+    /// Whether a notice refers to the Message-ID of its message.
+    threaded: bool,
     /// The sender of notices about notices.
     pub(crate) double_bounce: String,
     /// The names of the hashed queues, with commas, spaces or tabs between them.
@@ -79,6 +81,7 @@ impl PostfixValues {
             lifetime: self.lifetime,
             size_limit: self.size_limit,
             copies: self.copies,
+            threaded: self.threaded,
         }
     }
 }
@@ -109,6 +112,7 @@ pub(crate) fn values_of(
         lifetime: number_of(alloc, given, "lifetime", MOST_LIFETIME)?,
         size_limit: number_of(alloc, given, "bounce-size-limit", MOST_SIZE_LIMIT)?,
         copies: copies_of(alloc, given)?,
+        threaded: given.get_flag("threaded"),
         double_bounce: double_bounce_of(alloc, given, host)?,
         hashed: owned(alloc, text_of(given, "hash-queue-names"))?,
         depth: number_of(alloc, given, "hash-queue-depth", MOST_DEPTH)?,

@@ -107,6 +107,7 @@ fn served<R: AllocGlobal + Clock, S: Stream + Drop>(
         lifetime: 432_000,
         size_limit: 50_000,
         copies: NO_COPIES,
+        threaded: false,
     };
     let mut client = match hear_client(rt.alloc(), stream) {
         Ok(client) => client,

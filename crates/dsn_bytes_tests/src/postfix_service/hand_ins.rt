@@ -4,7 +4,9 @@ use crate::assert_same::same;
 use crate::device::ALWAYS;
 use crate::postfix_service::server::{Server, host, path, refused_at};
 use dsn_outcome::{Plain, Stream};
-use dsn_smtp::{HandInFault, HandInStep, ReplyBuffer, ReplyFault, greet, hand_in_notice, leave};
+use dsn_smtp::{
+    Extensions, HandInFault, HandInStep, ReplyBuffer, ReplyFault, greet, hand_in_notice, leave,
+};
 use dsn_text::{Address, MtaName};
 use std::alloc::{AllocGlobal, Global};
 use std::cell::RefCell;
@@ -14,6 +16,13 @@ use std::test::Fail;
 /// The mail data of a message with a line of one dot. That dot is doubled, and a last line of one
 /// dot ends the data.
 const MESSAGE: &[u8] = b"Subject: no\r\n\r\n..\r\n.\r\n";
+
+/// What a server offers that offers nothing.
+const NO_EXTENSIONS: Extensions = Extensions {
+    eight_bit_mime: false,
+    pipelining: false,
+    size_limit: None,
+};
 
 /// The replies of a server that takes the message (RFC 5321 appendix D.1).
 const TAKES: &[u8] =
@@ -50,7 +59,7 @@ fn taken<S: Stream>(
     buffer: &mut ReplyBuffer,
     path: &Address,
 ) -> Result<(), HandInFault> {
-    hand_in_notice(stream, buffer, path, MESSAGE)
+    hand_in_notice(stream, buffer, NO_EXTENSIONS, path, MESSAGE)
 }
 
 /// Begins a session, and submits the message `times` times, up to the first fault.

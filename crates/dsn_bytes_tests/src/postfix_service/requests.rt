@@ -566,6 +566,7 @@ fn answered(
         lifetime: 432_000,
         size_limit: 50_000,
         copies: NO_COPIES,
+        threaded: false,
     };
     let terms = RequestTerms {
         settings: &settings,

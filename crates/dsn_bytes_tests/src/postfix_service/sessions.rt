@@ -163,41 +163,39 @@ fn fault_of<S: Stream + Drop, C: Connect<S>>(
     place: &mut C,
     kept: Option<Session<S>>,
     host: &MtaName,
-    path: &Address,
+    (path, message): (&Address, &[u8]),
 ) -> Option<HandInFault> {
-    let notice = Submission {
-        path,
-        message: MESSAGE,
-    };
-    hand_in_over(place, kept, host, &notice, &mut ReplyBuffer::new()).err()
+    let notice = Submission { path, message };
+    hand_in_over(place, kept, host, &notice, &mut ReplyBuffer::new()).fault
 }
 
-/// The fault of a case's notice, if there is one. The bytes sent over the kept session and over a
-/// new one are recorded.
+/// The fault of a message, if there is one, with the replies over a kept session and over a new one.
+/// The bytes sent over each are recorded.
 fn tried(
     alloc: Global,
-    case: &Case,
+    (kept, new, message): (Option<&'static [u8]>, Option<&'static [u8]>, &[u8]),
     over_kept: &RefCell<Vec<u8>>,
     over_new: &RefCell<Vec<u8>>,
 ) -> Result<Option<HandInFault>, Fail> {
     let host = host(alloc)?;
     let path = path(alloc)?;
-    let kept = match case.kept {
+    let kept = match kept {
         Some(script) => begun(Server::steady(script, over_kept), &host),
         None => None,
     };
     let mut place = Place {
-        script: case.new,
+        script: new,
         heard: over_new,
     };
-    Ok(fault_of(&mut place, kept, &host, &path))
+    Ok(fault_of(&mut place, kept, &host, (&path, message)))
 }
 
 /// A case's notice has the expected fault, and the expected bytes are sent to each server.
 fn expect_case(rt: &(impl AllocGlobal + Abort), case: &Case) -> Result<(), Fail> {
     let over_kept = RefCell::new(Vec::new(rt.alloc()));
     let over_new = RefCell::new(Vec::new(rt.alloc()));
-    let fault = tried(rt.alloc(), case, &over_kept, &over_new)?;
+    let notice = (case.kept, case.new, MESSAGE);
+    let fault = tried(rt.alloc(), notice, &over_kept, &over_new)?;
     same(rt, fault, wanted(case));
     same(rt, over_kept.into_inner().as_slice(), case.over_kept);
     same(rt, over_new.into_inner().as_slice(), case.over_new);
@@ -208,6 +206,91 @@ fn expect_case(rt: &(impl AllocGlobal + Abort), case: &Case) -> Result<(), Fail>
 fn a_notice_over_a_kept_session_or_a_new_one(rt: HostRuntime) -> Result<(), Fail> {
     for case in &CASES {
         expect_case(&rt, case)?;
+    }
+    Ok(())
+}
+
+/// The mail data of a message with bytes above 127.
+const IN_UTF8: &[u8] = b"Subject: no\r\n\r\ncaf\xc3\xa9\r\n.\r\n";
+
+/// The replies of a server that offers 8BITMIME, alone or with PIPELINING, and takes the message.
+const EIGHT_BIT_TAKES: &[u8] =
+    b"|220 a\r\n|250-a\r\n250 8BITMIME\r\n|250 b\r\n|250 c\r\n|354 d\r\n|250 e\r\n";
+
+const EIGHT_BIT_GROUP_TAKES: &[u8] =
+    b"|220 a\r\n|250-a\r\n250-PIPELINING\r\n250 8BITMIME\r\n|250 b\r\n250 c\r\n354 d\r\n|250 e\r\n";
+
+/// The bytes sent to such servers.
+const EIGHT_BIT_WHOLE: &[u8] =
+    b"<EHLO mail.example.net\r\n<MAIL FROM:<> BODY=8BITMIME\r\n<RCPT TO:<ann@example.org>\r\n<DATA\r\n<Subject: no\r\n\r\ncaf\xc3\xa9\r\n.\r\n<";
+
+const EIGHT_BIT_GROUP_WHOLE: &[u8] =
+    b"<EHLO mail.example.net\r\n<MAIL FROM:<> BODY=8BITMIME\r\nRCPT TO:<ann@example.org>\r\nDATA\r\n<Subject: no\r\n\r\ncaf\xc3\xa9\r\n.\r\n<";
+
+/// The bytes sent to a server without 8BITMIME: nothing after EHLO.
+const NOTHING_SENT: &[u8] = b"<EHLO mail.example.net\r\n<";
+
+/// The replies over a kept session and over a new one, each if there is one; the fault of a message
+/// with bytes above 127; and the bytes sent over each session.
+type EightBitCase = (
+    Option<&'static [u8]>,
+    Option<&'static [u8]>,
+    Option<HandInFault>,
+    &'static [u8],
+    &'static [u8],
+);
+
+/// Such a message needs 8BITMIME (RFC 6152 section 3). A new session is no use to it.
+const EIGHT_BIT_CASES: [EightBitCase; 5] = [
+    (Some(EIGHT_BIT_TAKES), None, None, EIGHT_BIT_WHOLE, b""),
+    (
+        Some(EIGHT_BIT_GROUP_TAKES),
+        None,
+        None,
+        EIGHT_BIT_GROUP_WHOLE,
+        b"",
+    ),
+    (
+        Some(TAKES),
+        Some(EIGHT_BIT_TAKES),
+        Some(HandInFault::NotOffered),
+        NOTHING_SENT,
+        b"",
+    ),
+    (
+        Some(GROUP_TAKES),
+        Some(EIGHT_BIT_TAKES),
+        Some(HandInFault::NotOffered),
+        NOTHING_SENT,
+        b"",
+    ),
+    (
+        None,
+        Some(GROUP_TAKES),
+        Some(HandInFault::NotOffered),
+        b"",
+        NOTHING_SENT,
+    ),
+];
+
+/// A message with bytes above 127 has the expected fault, and the expected bytes are sent.
+fn expect_eight_bit(
+    rt: &(impl AllocGlobal + Abort),
+    &(kept, new, want, to_kept, to_new): &EightBitCase,
+) -> Result<(), Fail> {
+    let over_kept = RefCell::new(Vec::new(rt.alloc()));
+    let over_new = RefCell::new(Vec::new(rt.alloc()));
+    let fault = tried(rt.alloc(), (kept, new, IN_UTF8), &over_kept, &over_new)?;
+    same(rt, fault, want);
+    same(rt, over_kept.into_inner().as_slice(), to_kept);
+    same(rt, over_new.into_inner().as_slice(), to_new);
+    Ok(())
+}
+
+#[test]
+fn a_notice_with_8bit_bytes(rt: HostRuntime) -> Result<(), Fail> {
+    for case in &EIGHT_BIT_CASES {
+        expect_eight_bit(&rt, case)?;
     }
     Ok(())
 }

@@ -1,7 +1,7 @@
 -- The reading of a queue file, step by step.
 use Rattle.std.specs.Prelude.{None, List, ◌≡◌, Bool, ℕ, ◌++◌, [], ◌<◌, ◌≤◌, length}
 use Rattle.std.specs.List.{filter_map, last_or}
-use Rattle.dsn_postfix_files.specs.MessageFacts.{SaidOfMessage, arrival_in, sender_in, envelope_id_in, return_flags_in, first_or, earliest}
+use Rattle.dsn_postfix_files.specs.MessageFacts.{SaidOfMessage, arrival_in, sender_in, envelope_id_in, return_flags_in, message_id_in, first_or, earliest}
 use Rattle.dsn_postfix_files.specs.MessageText.{text_from}
 use Rattle.dsn_postfix_files.specs.QueueListing.{QueueEnding, RecordsFrom, BrokenOff, WholeFile}
 use Rattle.dsn_postfix_files.specs.QueueRecipients.{SaidBefore, RecipientFacts, recipient_facts_in, BeginsRecipients}
@@ -14,7 +14,7 @@ use Rattle.dsn_postfix_files.specs.declared.queued_recipient.RecipientStep.{Reci
 use Rattle.dsn_postfix_files.specs.declared.said_before.SaidBefore.{SaidBefore as WhatWasSaid}
 
 abbrev pub nothing_said : SaidOfMessage
-nothing_said = record { arrival = None; sender = None; envelope_id = None; return_flags = None }
+nothing_said = record { arrival = None; sender = None; envelope_id = None; return_flags = None; message_id = None }
 
 unfoldable pub with_record : SaidOfMessage → PlacedBytes → SaidOfMessage
 with_record before placed = record {
@@ -22,6 +22,7 @@ with_record before placed = record {
   sender = first_or before.sender (sender_in placed);
   envelope_id = first_or (envelope_id_in placed) before.envelope_id;
   return_flags = first_or (return_flags_in placed) before.return_flags;
+  message_id = first_or before.message_id (message_id_in placed);
 }
 
 abbrev pub said_with : SaidOfMessage → List PlacedBytes → SaidOfMessage
@@ -30,6 +31,7 @@ said_with before records = record {
   sender = first_or before.sender (earliest sender_in records);
   envelope_id = last_or before.envelope_id (filter_map envelope_id_in records);
   return_flags = last_or before.return_flags (filter_map return_flags_in records);
+  message_id = first_or before.message_id (earliest message_id_in records);
 }
 
 -- records follow from here on, and together with the facts before they have these facts

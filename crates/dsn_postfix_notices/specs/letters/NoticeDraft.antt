@@ -77,8 +77,9 @@ abbrev pub is_message_told : MessageSaid → NoticeFacts → Bool
 is_message_told message notice =
     is_returned_whole notice.returned message.size_limit (return_path_line message.sender) message.text
 
+-- Postfix's own smtpd takes the notice, and Postfix converts what a later server can't take, so that it may be 8bit
 abbrev pub returned_as : Bool → Returned
-returned_as true = returned.Message
+returned_as true = returned.EightBitMessage
 returned_as false = returned.Header
 
 abbrev pub draft_fields_told : MessageSaid → NoticeFacts → DraftFields

@@ -6,9 +6,10 @@ use Rattle.dsn_text.specs.declared.service.Service.{Service}
 use Rattle.dsn_postfix_notices.specs.requests.Deed.{Deed, LogReleased}
 use Rattle.dsn_postfix_notices.specs.requests.Finishing.{FinishesAt}
 use Rattle.dsn_postfix_notices.specs.requests.HandingIn.{AreAccepted, StopsAtLetter}
+use Rattle.dsn_postfix_notices.specs.requests.Heading.{AreNoticesAsked, Heading}
 use Rattle.dsn_postfix_notices.specs.requests.MailFound.{FailsToRead, MailRead, readings}
 use Rattle.dsn_postfix_notices.specs.requests.PostmasterCopies.{is_copied}
-use Rattle.dsn_postfix_notices.specs.requests.RequestLetters.{AreLettersAsked, CantBeSaid, places_done}
+use Rattle.dsn_postfix_notices.specs.requests.RequestLetters.{CantBeSaid, places_done}
 use Rattle.dsn_postfix_notices.specs.requests.RequestStatus.{PassesOn, RequestAnswer, carried_out, not_carried_out}
 use Rattle.dsn_postfix_notices.specs.requests.Task.{Task}
 use Rattle.dsn_postfix_notices.specs.declared.requests.pass_reason.PassReason.{PassReason}
@@ -24,12 +25,12 @@ pub data Tells (task : Task) (telling : Result (Unit {0}) Untold) (gained : List
   no_memory : (found : MailRead) → telling ≡ Err NoMemory → gained ≡ readings task found → Tells task telling gained
   unsayable : (found : MailRead) (why : PassReason) → telling ≡ Err (PassedOn why) → gained ≡ readings task found
       → CantBeSaid task found → Tells task telling gained
-  stopped : (found : MailRead) (made : List Letter) (tried : List Deed) (why : Untold) → telling ≡ Err why
-      → gained ≡ readings task found ++ tried → AreLettersAsked task found made
-      → StopsAtLetter task.terms.settings.host made why tried → Tells task telling gained
-  accepted : (found : MailRead) (made : List Letter) (taken rest : List Deed)
-      → gained ≡ readings task found ++ (taken ++ rest) → AreLettersAsked task found made
-      → AreAccepted task.terms.settings.host made taken
+  stopped : (found : MailRead) (heading : Heading) (made : List Letter) (tried : List Deed) (why : Untold) → telling ≡ Err why
+      → gained ≡ readings task found ++ tried → AreNoticesAsked task found heading made
+      → StopsAtLetter heading made why tried → Tells task telling gained
+  accepted : (found : MailRead) (heading : Heading) (made : List Letter) (taken rest : List Deed)
+      → gained ≡ readings task found ++ (taken ++ rest) → AreNoticesAsked task found heading made
+      → AreAccepted heading made taken
       → FinishesAt task found.log (places_done task found.log) telling rest → Tells task telling gained
 
 -- If the postmaster gets a copy of the notices, nothing is read and nothing submitted. Otherwise the message's sender

@@ -20,11 +20,16 @@ copies_failure settings sender =
 abbrev pub copies_delay : SettingsSaid → List ℕ → Bool
 copies_delay settings sender = not (is_from_postfix settings sender) && settings.copies.delay
 
--- an append has no notice, and a notice of deliveries has no copy
+-- `2bounce` sends the postmaster the report of deliveries that a message from the null sender has
+abbrev pub copies_report : SettingsSaid → List ℕ → Bool
+copies_report settings sender =
+    not (is_from_postfix settings sender) && (settings.copies.double_bounce && has_no_bytes sender)
+
+-- an append has no notice
 abbrev pub is_copied : SettingsSaid → PostfixRequest → Bool
 is_copied settings (Append append) = false
 is_copied settings (Flush notice) = copies_failure settings notice.sender
 is_copied settings (Warn notice) = copies_delay settings notice.sender
 is_copied settings (Verp notice delimiters) = copies_failure settings notice.sender
 is_copied settings (One notice recipient report) = copies_failure settings notice.sender
-is_copied settings (Trace notice) = false
+is_copied settings (Trace notice) = copies_report settings notice.sender

@@ -14,9 +14,10 @@ use Rattle.dsn_postfix_notices.specs.requests.CarriedOut.{IsCarriedOut, must_cle
 use Rattle.dsn_postfix_notices.specs.requests.Deed.{Appended, Deed, HandedIn, LogRead, LogReleased, LogRemoved, LogSought, MarkedDone, MessageRead, PassedOn}
 use Rattle.dsn_postfix_notices.specs.requests.Finishing.{AreMarked}
 use Rattle.dsn_postfix_notices.specs.requests.HandingIn.{AreAccepted, hand_in_of}
+use Rattle.dsn_postfix_notices.specs.requests.Heading.{AreNoticesAsked, Heading}
 use Rattle.dsn_postfix_notices.specs.requests.MailFound.{MailRead, readings}
 use Rattle.dsn_postfix_notices.specs.requests.PostmasterCopies.{is_copied}
-use Rattle.dsn_postfix_notices.specs.requests.RequestLetters.{AreLettersAsked, CantBeSaid, places_done}
+use Rattle.dsn_postfix_notices.specs.requests.RequestLetters.{CantBeSaid, places_done}
 use Rattle.dsn_postfix_notices.specs.requests.RequestStatus.{RequestAnswer, carried_out}
 use Rattle.dsn_postfix_notices.specs.requests.Task.{Task}
 use Rattle.dsn_smtp.specs.declared.hand_in_fault.HandInFault.{HandInFault}
@@ -43,15 +44,15 @@ abbrev pub hand_ins : List Deed → List Deed
 hand_ins [] = []
 hand_ins (deed ∷ deeds) = onto_if (is_hand_in deed) deed (hand_ins deeds)
 
-pub record IsHandedIn (host : List ℕ) (letter : Letter) (deed : Deed) : Type 0 where
+pub record IsHandedIn (heading : Heading) (letter : Letter) (deed : Deed) : Type 0 where
   pub answer : Result (List ℕ) HandInFault
-  pub deed_is : deed ≡ hand_in_of host letter answer
+  pub deed_is : deed ≡ hand_in_of heading letter answer
 
 -- letters were submitted, each once, in their order, whatever the results
-abbrev pub AreHandedIn : List ℕ → List Letter → List Deed → Type 0
-AreHandedIn host [] deeds = deeds ≡ []
-AreHandedIn host (letter ∷ letters) [] = ⊥
-AreHandedIn host (letter ∷ letters) (deed ∷ deeds) = IsHandedIn host letter deed × AreHandedIn host letters deeds
+abbrev pub AreHandedIn : Heading → List Letter → List Deed → Type 0
+AreHandedIn heading [] deeds = deeds ≡ []
+AreHandedIn heading (letter ∷ letters) [] = ⊥
+AreHandedIn heading (letter ∷ letters) (deed ∷ deeds) = IsHandedIn heading letter deed × AreHandedIn heading letters deeds
 
 -- ---- the requests
 
@@ -68,23 +69,25 @@ pub record HandsInOnce (task : Task) (gained : List Deed) : Type 0 where
   pub found : MailRead
   pub more : List Deed
   pub gained_are : gained ≡ readings task found ++ more
+  pub heading : Heading
   pub letters : List Letter
-  pub asked : AreLettersAsked task found letters
+  pub asked : AreNoticesAsked task found heading letters
   pub front : List Letter
   pub rest : List Letter
   pub letters_are : letters ≡ front ++ rest
-  pub each : AreHandedIn task.terms.settings.host front (hand_ins gained)
+  pub each : AreHandedIn heading front (hand_ins gained)
 
 -- A log and a file were read. Then all letters of the notices that the request has of these were accepted, and its
 -- recipients were marked as done if the request asks for that. These are all of the deeds.
 pub record AreAllTold (task : Task) (gained : List Deed) : Type 0 where
   pub found : MailRead
+  pub heading : Heading
   pub letters : List Letter
   pub handed : List Deed
   pub marks : List Deed
   pub gained_are : gained ≡ readings task found ++ (handed ++ marks)
-  pub asked : AreLettersAsked task found letters
-  pub accepted : AreAccepted task.terms.settings.host letters handed
+  pub asked : AreNoticesAsked task found heading letters
+  pub accepted : AreAccepted heading letters handed
   pub marked : AreMarked task.notice (places_done task found.log) marks
 
 -- the first deeds notified the sender of all, and those after them submit nothing
@@ -109,10 +112,10 @@ pub record IsRemovedAfter (task : Task) (answer : RequestAnswer) (before after :
 pub data IsLeftOver (task : Task) (tried : List Deed) : Type 0 where
   copied : is_copied task.terms.settings task.request ≡ true → tried ≡ [] → IsLeftOver task tried
   unsayable : (found : MailRead) → CantBeSaid task found → tried ≡ readings task found → IsLeftOver task tried
-  refused : (found : MailRead) (letter : Letter) (letters : List Letter) (fault : HandInFault)
-      → AreLettersAsked task found (letter ∷ letters)
+  refused : (found : MailRead) (heading : Heading) (letter : Letter) (letters : List Letter) (fault : HandInFault)
+      → AreNoticesAsked task found heading (letter ∷ letters)
       → is_refused_for_good fault ≡ true
-      → tried ≡ readings task found ++ hand_in_of task.terms.settings.host letter (Err fault) ∷ []
+      → tried ≡ readings task found ++ hand_in_of heading letter (Err fault) ∷ []
       → IsLeftOver task tried
 
 -- No notice was accepted, and Postfix's own service answered 0 to the whole request. These are all of the deeds.

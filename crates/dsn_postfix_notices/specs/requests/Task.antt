@@ -1,5 +1,5 @@
 -- What the answer to a request depends on: the terms of a call, and a request for notices with them.
-use Rattle.std.specs.Prelude.{ℕ, List}
+use Rattle.std.specs.Prelude.{ℕ, Bool, List}
 use Rattle.dsn_text.specs.declared.service.Service.{Service}
 use Rattle.dsn_postfix.specs.declared.postfix_request.NoticeRequest.{NoticeRequest}
 use Rattle.dsn_postfix.specs.declared.postfix_request.PostfixRequest.{PostfixRequest}
@@ -12,6 +12,7 @@ pub record SettingsSaid : Type 0 where
   pub lifetime : ℕ
   pub size_limit : ℕ
   pub copies : PostmasterCopies
+  pub threaded : Bool
 
 -- `serial` is that of the letter of a request without a log
 pub record Terms : Type 0 where

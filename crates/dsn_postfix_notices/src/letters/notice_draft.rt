@@ -114,7 +114,8 @@ fn returned_as(whole: bool) -> Returned
     ensures { result ≡ returned_as whole }
 {
     if whole {
-        Returned::Message
+        // Postfix's own smtpd has 8BITMIME, and smtp(8) converts for a server that lacks it.
+        Returned::EightBitMessage
     } else {
         Returned::Header
     }

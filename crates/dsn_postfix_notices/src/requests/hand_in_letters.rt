@@ -6,10 +6,10 @@ ghost use Rattle.dsn_postfix_notices.specs.inner.HandingIn.{HandsInAll, HandsInO
 ghost use Rattle.dsn_postfix_notices.specs.requests.HandingIn.{refusal_of};
 
 use crate::requests::mail_system::MailSystem;
+use crate::requests::notice_heading::NoticeHeading;
 use crate::requests::pass_reason::PassReason;
 use crate::requests::untold::Untold;
 use dsn_outcome::Letter;
-use dsn_report::{Site, mail_data};
 use dsn_smtp::{HandInFault, ReplyBuffer};
 use std::alloc::Global;
 
@@ -30,14 +30,14 @@ fn refusal(is_first: bool, fault: HandInFault) -> Untold
 /// Submits one letter. `is_first` says whether it is the first of its request.
 fn hand_in_letter<M: MailSystem>(
     alloc: Global,
-    site: &Site,
+    heading: &NoticeHeading<'_>,
     letter: &Letter,
     is_first: bool,
     system: &mut M,
 ) -> Result<(), Untold>
-    ensures { Gains M.deeds system.old system.new (HandsInOne site.now is_first letter.now result) }
+    ensures { Gains M.deeds system.old system.new (HandsInOne heading.now is_first letter.now result) }
 {
-    let message = mail_data(alloc, site, letter)?;
+    let message = heading.mail_data(alloc, letter)?;
     let mut reply = ReplyBuffer::new();
     match system.hand_in(letter.return_path(), &message, &mut reply) {
         Ok(()) => Ok(()),
@@ -48,15 +48,15 @@ fn hand_in_letter<M: MailSystem>(
 /// Submits letters in their order, each once. Stops at the first that isn't accepted.
 pub(super) fn hand_in_letters<M: MailSystem>(
     alloc: Global,
-    site: &Site,
+    heading: &NoticeHeading<'_>,
     letters: &[Letter],
     system: &mut M,
 ) -> Result<(), Untold>
-    ensures { Gains M.deeds system.old system.new (HandsInAll site.now letters.now result) }
+    ensures { Gains M.deeds system.old system.new (HandsInAll heading.now letters.now result) }
 {
     let mut is_first = true;
     for letter in letters {
-        hand_in_letter(alloc, site, letter, is_first, system)?;
+        hand_in_letter(alloc, heading, letter, is_first, system)?;
         is_first = false;
     }
     Ok(())

@@ -9,11 +9,17 @@ ghost use Rattle.dsn_postfix.specs.declared.postfix_request.PostfixRequest.TheVa
 ghost use Rattle.dsn_postfix_notices.specs.requests.AnsweredRequest.{IsAnswered, first_flush};
 ghost use Rattle.dsn_postfix_notices.specs.requests.CarriedOut.{IsCarriedOut};
 ghost use Rattle.dsn_postfix_notices.specs.requests.Deed.{Answer, Deed, LogRemoved, LogSought};
+ghost use Rattle.std.specs.List.{list_all};
+ghost use Rattle.dsn_postfix_files.specs.QueueRecord.{PlacedBytes};
+ghost use Rattle.dsn_postfix_notices.specs.requests.Heading.{ReceivesFront, front_lines, is_front_line};
 ghost use Rattle.dsn_postfix_notices.specs.requests.RequestLaws.{HandsInInTurn, HandsInOnce, IsRemovedAfter, IsRemovedInTurn, IsTellingDone, IsToldFirst, StandsOrIsPassedOn, hand_ins};
 ghost use Rattle.dsn_postfix_notices.specs.requests.RequestStatus.{RequestAnswer};
 ghost use Rattle.dsn_postfix_notices.specs.requests.Task.{Task, Terms};
 ghost use Rattle.dsn_text.specs.declared.service.Service.{Service};
 ghost use Rattle.dsn_text.specs.declared.service.Service.TheVariants.{Bounce};
+
+use dsn_outcome::Letter;
+use dsn_report::{Site, data_law};
 
 /// A request for notices removes only its own log. Unless it does so for CLEAN, it did only the
 /// following before. It read the log and the message's file. Each letter of each notice planned
@@ -72,6 +78,17 @@ pub fn no_notice_causes_another()
         → is_no_sender task.terms.settings.double_bounce task.notice.sender ≡ true
         → hand_ins gained ≡ [] }
 {}
+
+/// The receiver of a notice gets the header fields in front of it, and then the notice itself. Each
+/// of these fields is a printable line of at most 998 bytes.
+#[tactic(auto, using(crate::proofs::HeadingLemmas::front_received, crate::proofs::HeadingLemmas::front_legal))]
+pub fn fields_come_before_notices(site: &Site, letter: &Letter)
+    ensures received { ReceivesFront site.now letter.now }
+    ensures legal { (task : Task) (records : List PlacedBytes)
+        → list_all is_front_line (front_lines task records) ≡ true }
+{
+    data_law(site, letter);
+}
 
 /// An append that is answered 0 was appended and synced, or Postfix's own service answered 0 to it;
 /// nothing else was done.

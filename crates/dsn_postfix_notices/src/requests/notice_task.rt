@@ -49,6 +49,15 @@ impl<'a> NoticeTask<'a> {
         is_copied(terms.settings, self.request)
     }
 
+    /// Whether its notices refer to the message.
+    pub(super) fn is_threaded(&self) -> bool
+        ensures { result ≡ self.now.terms.settings.threaded }
+    {
+        let terms: &RequestTerms<'_> = self.terms;
+        let settings: &ServiceSettings<'_> = terms.settings;
+        settings.threaded
+    }
+
     /// The mail system's name.
     pub(super) fn site(&self) -> &'a Site
         ensures { result.now ≡ self.now.terms.settings.host }

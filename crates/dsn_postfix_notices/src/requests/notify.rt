@@ -9,10 +9,12 @@ use crate::requests::hand_in_letters::hand_in_letters;
 use crate::requests::letters_made::make_letters;
 use crate::requests::mail_found::read_mail;
 use crate::requests::mail_system::MailSystem;
+use crate::requests::notice_heading::NoticeHeading;
 use crate::requests::notice_task::NoticeTask;
 use crate::requests::pass_reason::PassReason;
 use crate::requests::request_status::{CARRIED_OUT, NOT_CARRIED_OUT, pass_on};
 use crate::requests::untold::Untold;
+use dsn_postfix_files::queue_files_have_one_list;
 use dsn_text::NoMemory;
 use std::alloc::Global;
 
@@ -22,11 +24,16 @@ use std::alloc::Global;
 fn tell<M: MailSystem>(alloc: Global, task: &NoticeTask<'_>, system: &mut M) -> Result<(), Untold>
     ensures { Gains M.deeds system.old system.new (Tells task.now result) }
 {
+    queue_files_have_one_list();
     let found = read_mail(alloc, task, system)?;
     // All of them, and the list of places to mark: what can't be expressed, or has no memory, shows
     // before anybody is notified. A letter's text is made in its turn.
     let made = make_letters(alloc, task, &found)?;
-    hand_in_letters(alloc, task.site(), &made.letters, system)?;
+    let heading = NoticeHeading {
+        site: task.site(),
+        front: &made.front,
+    };
+    hand_in_letters(alloc, &heading, &made.letters, system)?;
     finish(task, found.log(), &made.places, system)
 }
 

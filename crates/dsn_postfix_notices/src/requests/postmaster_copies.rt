@@ -1,7 +1,7 @@
 //! Of which notices the postmaster gets a copy. Postfix's own service makes both.
 //! Implements docs/postfix-internals.md, "The notice of a Postfix log".
 ghost use Rattle.std.specs.Prelude.{◌≡◌};
-ghost use Rattle.dsn_postfix_notices.specs.requests.PostmasterCopies.{copies_delay, copies_failure, is_copied};
+ghost use Rattle.dsn_postfix_notices.specs.requests.PostmasterCopies.{copies_delay, copies_failure, copies_report, is_copied};
 
 use crate::requests::service_settings::ServiceSettings;
 use dsn_postfix::PostfixRequest;
@@ -11,7 +11,8 @@ use dsn_postfix::PostfixRequest;
 pub struct PostmasterCopies {
     /// `bounce`: of each notice of failure.
     pub bounce: bool,
-    /// `2bounce`: of the failure of a message from the null sender. `bounce` implies it.
+    /// `2bounce`: of a notice about a message from the null sender. For a failure `bounce` implies
+    /// it.
     pub double_bounce: bool,
     /// `delay`: of each notice of delay.
     pub delay: bool,
@@ -33,15 +34,25 @@ fn copies_delay(settings: &ServiceSettings<'_>, sender: &[u8]) -> bool
     !sender.eq_ignore_ascii_case(settings.double_bounce) && settings.copies.delay
 }
 
+/// Whether the postmaster gets the report of deliveries of a message from this sender.
+fn copies_report(settings: &ServiceSettings<'_>, sender: &[u8]) -> bool
+    ensures { result ≡ copies_report settings.now sender.now }
+{
+    !sender.eq_ignore_ascii_case(settings.double_bounce)
+        && settings.copies.double_bounce
+        && sender.is_empty()
+}
+
 /// Whether the postmaster gets a copy of the notices that a request asks for.
 pub(super) fn is_copied(settings: &ServiceSettings<'_>, request: &PostfixRequest<'_>) -> bool
     ensures { result ≡ is_copied settings.now request.now }
 {
     match request {
-        PostfixRequest::Append(_) | PostfixRequest::Trace(_) => false,
+        PostfixRequest::Append(_) => false,
         PostfixRequest::Flush(notice)
         | PostfixRequest::Verp(notice, _)
         | PostfixRequest::One(notice, _, _) => copies_failure(settings, notice.sender.bytes()),
         PostfixRequest::Warn(notice) => copies_delay(settings, notice.sender.bytes()),
+        PostfixRequest::Trace(notice) => copies_report(settings, notice.sender.bytes()),
     }
 }

@@ -29,7 +29,7 @@ use std::alloc::{AllocError, Global};
 
 /// How many bytes of a message's text letters need. A longer text isn't returned whole, and a
 /// header that doesn't end within these bytes isn't returned.
-const FRONT_OF_TEXT: usize = LONGEST_HEADER + LONGEST_FIELD_NAME + 1;
+pub(super) const FRONT_OF_TEXT: usize = LONGEST_HEADER + LONGEST_FIELD_NAME + 1;
 
 /// The distance between the first serials of two logs whose lengths differ by one byte. Two logs of
 /// a message share a serial only if one of them has more than 500,000 notices, which nothing checks.
@@ -66,7 +66,7 @@ fn queued_recipients(alloc: Global, file: &[u8]) -> Result<Vec<QueuedRecipient<'
 }
 
 /// What a file says of its message, even if it can't be read to its end.
-fn facts_said(file: &[u8]) -> MessageFacts<'_>
+pub(super) fn facts_said(file: &[u8]) -> MessageFacts<'_>
     ensures { (records : List PlacedBytes) (ending : QueueEnding)
         → RecordsFrom file.now (first_place file.now) records ending
         → message_facts_in result ≡ said_of_message records }

@@ -16,6 +16,8 @@ pub struct ServiceSettings<'a> {
     pub size_limit: u32,
     /// Of which notices the postmaster gets a copy: Postfix's own service makes these.
     pub copies: PostmasterCopies,
+    /// Whether a notice refers to the Message-ID of its message (`enable_threaded_bounces`).
+    pub threaded: bool,
 }
 
 impl<'a> Model for ServiceSettings<'a> {
@@ -29,5 +31,6 @@ impl<'a> Model for ServiceSettings<'a> {
       lifetime = settings.lifetime;
       size_limit = settings.size_limit;
       copies = settings.copies;
+      threaded = settings.threaded;
     } };
 }

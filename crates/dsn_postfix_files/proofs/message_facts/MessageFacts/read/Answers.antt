@@ -14,7 +14,7 @@ loop-found-preserved c =
     let text = λ (text : Bor (List ℕ)). text.now in
     let here : QueuePlace = record { rest = c.loop-found.here.now; jumps = c.loop-found.left } in
     let next : QueuePlace = record { rest = c.in-Record.after.now; jumps = c.in-Record.fewer } in
-    let before : SaidOfMessage = record { arrival = c.loop-found.arrival; sender = option_map text c.loop-found.sender; envelope_id = option_map text c.loop-found.envelope_id; return_flags = c.loop-found.return_flags } in
+    let before : SaidOfMessage = record { arrival = c.loop-found.arrival; sender = option_map text c.loop-found.sender; envelope_id = option_map text c.loop-found.envelope_id; return_flags = c.loop-found.return_flags; message_id = option_map text c.loop-found.message_id } in
     record {
       within = c.in-Record.ensures.next.1;
       left = λ said ending from.
@@ -26,7 +26,7 @@ pub returns-in-End : goal.returns-in-End
 returns-in-End c records ending come =
     let text = λ (text : Bor (List ℕ)). text.now in
     let here : QueuePlace = record { rest = c.loop-found.here.now; jumps = c.loop-found.left } in
-    let before : SaidOfMessage = record { arrival = c.loop-found.arrival; sender = option_map text c.loop-found.sender; envelope_id = option_map text c.loop-found.envelope_id; return_flags = c.loop-found.return_flags } in
+    let before : SaidOfMessage = record { arrival = c.loop-found.arrival; sender = option_map text c.loop-found.sender; envelope_id = option_map text c.loop-found.envelope_id; return_flags = c.loop-found.return_flags; message_id = option_map text c.loop-found.message_id } in
     let ends = no_more_said c.args.file.now here WholeFile before (said_of_message records) ending c.in-End.ensures.steps (c.loop-found.invariant.left (said_of_message records) ending (record { records = records; come = come; are = refl })) in
     (ends.0, sym ends.1)
 
@@ -34,6 +34,6 @@ pub returns-in-Broken : goal.returns-in-Broken
 returns-in-Broken c records ending come =
     let text = λ (text : Bor (List ℕ)). text.now in
     let here : QueuePlace = record { rest = c.loop-found.here.now; jumps = c.loop-found.left } in
-    let before : SaidOfMessage = record { arrival = c.loop-found.arrival; sender = option_map text c.loop-found.sender; envelope_id = option_map text c.loop-found.envelope_id; return_flags = c.loop-found.return_flags } in
+    let before : SaidOfMessage = record { arrival = c.loop-found.arrival; sender = option_map text c.loop-found.sender; envelope_id = option_map text c.loop-found.envelope_id; return_flags = c.loop-found.return_flags; message_id = option_map text c.loop-found.message_id } in
     let ends = no_more_said c.args.file.now here BrokenOff before (said_of_message records) ending c.in-Broken.ensures.steps (c.loop-found.invariant.left (said_of_message records) ending (record { records = records; come = come; are = refl })) in
     (ends.0, sym ends.1)

@@ -11,7 +11,7 @@ use Rattle.dsn_postfix_files.proofs.message_facts.MessageFacts.read.Given as goa
 abbrev pub invariant-loop-found : goal.invariant-loop-found
 invariant-loop-found l = record {
   within : length l.here ≤ length l.file;
-  left : (said : SaidOfMessage) (ending : QueueEnding) → MessageLeft (record { file = l.file; place = first_place l.file }) nothing_said said ending → MessageLeft (record { file = l.file; place = record { rest = l.here; jumps = l.left } }) (record { arrival = l.arrival; sender = option_map (λ (text : Bor (List ℕ)). text.now) l.sender; envelope_id = option_map (λ (text : Bor (List ℕ)). text.now) l.envelope_id; return_flags = l.return_flags }) said ending;
+  left : (said : SaidOfMessage) (ending : QueueEnding) → MessageLeft (record { file = l.file; place = first_place l.file }) nothing_said said ending → MessageLeft (record { file = l.file; place = record { rest = l.here; jumps = l.left } }) (record { arrival = l.arrival; sender = option_map (λ (text : Bor (List ℕ)). text.now) l.sender; envelope_id = option_map (λ (text : Bor (List ℕ)). text.now) l.envelope_id; return_flags = l.return_flags; message_id = option_map (λ (text : Bor (List ℕ)). text.now) l.message_id }) said ending;
 }
 
 abbrev pub decreases-loop-found : goal.decreases-loop-found

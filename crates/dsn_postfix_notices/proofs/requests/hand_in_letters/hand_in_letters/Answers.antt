@@ -6,11 +6,11 @@ use Rattle.dsn_postfix_notices.proofs.requests.hand_in_letters.hand_in_letters.G
 pub returns-in_err-hand_in_letter : goal.returns-in_err-hand_in_letter
 returns-in_err-hand_in_letter g c =
     let exit = err_from_is_err_and c.from_residual.result c.from_residual.ensures.1 in
-    rw (exit.1, exit.2) (stopped_at g.M.MailSystem.deeds _ _ _ c.args.site.now c.args.letters.now _ _ _ c.letter-item.result c.in_err-hand_in_letter.field-0.0 c.loop-letter.invariant
+    rw (exit.1, exit.2) (stopped_at g.M.MailSystem.deeds _ _ _ c.args.heading.now c.args.letters.now _ _ _ c.letter-item.result c.in_err-hand_in_letter.field-0.0 c.loop-letter.invariant
     (left_from _ _ _ c.loop-letter-test.true c.letter-item.is) c.in_err-hand_in_letter.ensures)
 
 -- one more letter was accepted
 pub loop-letter-preserved : goal.loop-letter-preserved
 loop-letter-preserved g c =
-    accepted_one_more g.M.MailSystem.deeds _ _ _ c.args.site.now c.args.letters.now _ _ _ c.letter-item.result c.loop-letter.invariant
+    accepted_one_more g.M.MailSystem.deeds _ _ _ c.args.heading.now c.args.letters.now _ _ _ c.letter-item.result c.loop-letter.invariant
     (left_from _ _ _ c.loop-letter-test.true c.letter-item.is) c.in_ok-hand_in_letter.ensures

@@ -31,6 +31,7 @@ returns-clause-letters c =
           lifetime = c.settings.inside.lifetime;
           size_limit = c.settings.inside.size_limit;
           copies = c.settings.inside.copies;
+          threaded = c.settings.inside.threaded;
         };
         service = c.terms.inside.service;
         moment = c.terms.inside.moment;
@@ -98,6 +99,7 @@ returns-clause-none c =
           lifetime = c.settings.inside.lifetime;
           size_limit = c.settings.inside.size_limit;
           copies = c.settings.inside.copies;
+          threaded = c.settings.inside.threaded;
         };
         service = c.terms.inside.service;
         moment = c.terms.inside.moment;
@@ -164,6 +166,7 @@ returns-in_err-notices-clause-none c =
           lifetime = c.settings.inside.lifetime;
           size_limit = c.settings.inside.size_limit;
           copies = c.settings.inside.copies;
+          threaded = c.settings.inside.threaded;
         };
         service = c.terms.inside.service;
         moment = c.terms.inside.moment;

@@ -163,7 +163,7 @@ install: $(BUILT)
 	    to 644 lib/noticed_dsn.h "$(PREFIX)/include/noticed_dsn.h"
 	    for it in lib/notice.*; do to 644 "$$it" "$(PREFIX)/share/noticed/$$it"; done
 	fi
-	for it in docs/{postfix,operating,troubleshooting,first-client}.md; do
+	for it in docs/{postfix,bounce-features,operating,troubleshooting,first-client}.md; do
 	    naming "$$it" "$(PREFIX)/share/doc/noticed/$${it##*/}"
 	done
 	for it in LICENSE CHANGELOG.md dist/noticed.conf vectors/one-bounce.frames; do

@@ -108,7 +108,7 @@ def installed(kind: str) -> set:
     zipped = ".gz" if kind == "deb" else ""
     zsh = "vendor-completions" if kind == "deb" else "site-functions"
     licence = {"deb": ["copyright", "changelog.gz"], "archive": ["LICENSE", "CHANGELOG.md"]}[kind]
-    doc = {f"share/doc/noticed/{it}" for it in ("BUILD", "operating.md", "postfix.md", *licence)}
+    doc = {f"share/doc/noticed/{it}" for it in ("BUILD", "operating.md", "postfix.md", "bounce-features.md", *licence)}
     own = {"bin/noticed", "sbin/noticed-postfix", "share/noticed/clients/python/noticed.py", f"share/zsh/{zsh}/_noticed"}
     own |= {"share/bash-completion/completions/noticed", "lib/sysusers.d/noticed.conf", "lib/tmpfiles.d/noticed.conf"}
     return units | doc | own | {it + zipped for it in pages}

@@ -4,19 +4,22 @@ writes both. docs/testing.md has each script of tests/. docs/proofs.md has each 
 each name and file that it has in code is in the crates. The manual pages have the commands and options of the usage that
 the program prints, and why a run ends. The bytes of the examples in noticed-protocol(5) and noticed-journal(5) are
 right, the words of a fault are those that the program lists, mandoc(1) and man(1) find nothing in a manual page, each
-page or section that a source cites is there, and each file that a page names by its path."""
+page or section that a source cites is there, and each file that a page names by its path. docs/bounce-features.md
+counts its rows, and has the settings that dist/noticed-postfix reads, and what docs/postfix.md says is passed on."""
 import os
 import re
+import runpy
 import shutil
 import subprocess
 import sys
+from collections import Counter
 
 from tests.support.definitions import sources
 from tests.support.faults import words
 from tests.support.formats import journal
 from tests.support.formats.logs import Limits
 from tests.support.formats.sessions import WORDS
-from tests.support.running import ROOT, VECTORS, Checks
+from tests.support.running import DIST, ROOT, VECTORS, Checks
 
 PAGES = [ROOT / "README.md", *sorted(it for it in (ROOT / "docs").iterdir() if it.suffix in (".md", ".5", ".8"))]
 MANUAL = {"serve": "noticed-serve.8", "postfix": "noticed-postfix.8"}  # of a command; of others noticed.8
@@ -42,6 +45,9 @@ USAGE = re.compile(r'"usage: noticed (.*)";')
 PATH = re.compile(r"(?<![\w/.])(?:crates|tests|clients|docs|examples|bench|mutants|vectors)/[\w./-]*\w")
 FAULT = re.compile(r"`(?:fault )?(\d+): ([^`]+)`")
 NOT_KEPT = re.compile(r"/(?:[A-Z]+|out)(?:/|\.py$|$)")  # any file, as examples/FILE, or one that is built
+VERDICTS = {"same": "same", "better": "better", "passed on": "passed on", "differs": "differ", "not there": "not there"}
+SETTING = re.compile(r"`([a-z0-9]+(?:_[a-z0-9]+)+)`")
+ITEM = re.compile(r"^- (.*)[;.]$", re.M)
 
 
 def text(name: str) -> str:
@@ -228,6 +234,30 @@ def check_faults(checks: Checks):
             checks.true(f"{page.name}: fault {number}: {said}", re.fullmatch(pattern, words().get(int(number), "")))
 
 
+def check_features(checks: Checks):
+    """The features of bounce(8): the counts of the rows, the settings, and what is passed on. A setting in a row that
+    says `same` is read by the script, unless another program of Postfix has it. The script warns of a setting in use
+    only if its row says that it isn't honoured, and of each such setting."""
+    page = text("docs/bounce-features.md")
+    rows = [[cell.strip() for cell in line.split("|")] for line in page.splitlines() if line.count("|") == 3]
+    rows = [it for it in rows if it[2] in VERDICTS]
+    counts = Counter(it[2] for it in rows)
+    said = ", ".join(f"{counts[verdict]} {word}" for verdict, word in VERDICTS.items())
+    checks.true(f"bounce-features.md says: {len(rows)} features: {said}.", f"\n{len(rows)} features: {said}.\n" in page)
+    script = runpy.run_path(str(DIST / "noticed-postfix"))
+    found = {verdict: set() for verdict in VERDICTS}
+    for what, where, verdict, how in rows:
+        checks.true(f"bounce-features.md: {what}: it says how", how)
+        found[verdict] |= set() if "Postfix's" in how else set(SETTING.findall(where))
+    read, warned = {*script["NAMES"], "sender_canonical_maps"}, set(script["NOT_HONOURED"])
+    checks.equal("settings that are said to be honoured, and aren't read", found["same"] - read, set())
+    checks.equal("settings that are said to be honoured, and warned of", found["same"] & warned, set())
+    checks.equal("settings that are warned of, and not named", warned - found["differs"] - found["not there"], set())
+    passed_on = [it[0] for it in rows if it[2] == "passed on"]
+    listed = ITEM.findall(between(text("docs/postfix.md"), "## What is passed on", "\n**"))
+    checks.equal("what is passed on, in docs/postfix.md", passed_on, listed)
+
+
 def main():
     checks = Checks("pages: crates, clauses, numbers, usage, examples and paths of the pages are those of the sources")
     writes = "--write" in sys.argv[1:]
@@ -242,6 +272,7 @@ def main():
     check_citations(checks)
     check_faults(checks)
     check_paths(checks)
+    check_features(checks)
     checks.done()
 
 

@@ -87,7 +87,8 @@ WANTED_OF_SOCKETS = {
 }
 
 
-GUIDES = ("postfix.md", "operating.md", "troubleshooting.md", "first-client.md")  # the installed pages
+# the installed pages
+GUIDES = ("postfix.md", "bounce-features.md", "operating.md", "troubleshooting.md", "first-client.md")
 
 
 def sections_of(text: str) -> dict:

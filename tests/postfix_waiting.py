@@ -1,6 +1,6 @@
 """What `noticed postfix` does where a mail server, or other clients, are slow. An append is answered within a second
-all the same; a request for notices waits for its turn, for a limited time, or is told at once that it can't be done
-now; and a client that doesn't say its list at once is cut off. An append is answered only once its record is synced."""
+all the same; a request for notices waits for its turn, for a limited time, or is told soon that it can't be done now
+if none is carried out; and a client that doesn't say its list at once is cut off. An append is answered only once its record is synced."""
 import os
 import re
 import threading
@@ -22,10 +22,11 @@ from tests.support.preloading import built, preloading
 from tests.support.running import Checks
 
 ONE = "090B8A85C9C"  # the queue id of the message `one`
-AT_ONCE = 2  # notices that are handed in at once
+AT_ONCE = 8  # notices that are handed in at once
 TELLING, WAITING = 8, 200  # of one service: threads that make notices, and requests that wait for one
-SECONDS_FOR_LIST, SECONDS_FOR_TURN = 5, 60
-FURTHER = 20  # requests for notices beyond those that wait
+SECONDS_FOR_LIST, SECONDS_FOR_TURN, SECONDS_FOR_ROOM = 5, 60, 10  # a reply has as long as a turn
+FURTHER, OTHERS = 20, 4  # requests for notices beyond those that wait; of another service
+MANY = 2 * (TELLING + WAITING)  # requests for notices of which half find no room
 SLOW_SYNC = 500  # milliseconds
 
 
@@ -76,7 +77,7 @@ def check_one_log(checks: Checks):
 
 
 def check_slow_server(checks: Checks):
-    """A server that takes its time: two notices are handed in side by side, and others wait; no append does."""
+    """A server that takes its time: some notices are handed in side by side, and others wait; no append does."""
     with Postfix() as it:
         go, waiting, statuses = threading.Event(), [], []
         it.server.waits["message"] = lambda: (waiting.append(1), go.wait(30))
@@ -96,29 +97,54 @@ def check_slow_server(checks: Checks):
         checks.equal("all are told", (statuses, len(it.server.taken)), ([0] * len(ids), len(ids)))
 
 
+def check_many(checks: Checks):
+    """More notices than wait, of a server that takes one after another: none is refused."""
+    with Postfix() as it:
+        it.server.waits["message"] = lambda: time.sleep(0.01)
+        ids = put_messages(it, MANY)
+        asked = [lambda message=message: it.ask("bounce", notice(1, message)) for message in ids]
+        checks.equal("many are told", (at_once(*asked), len(it.server.taken)), ([0] * len(ids), len(ids)))
+
+
 class Hanging:
     """A mail server that accepts connections and says nothing, and more requests for notices than wait, from the first
     step of this script to its last."""
 
     def __init__(self):
-        self.postfix, self.statuses, self.end = Postfix(), [], threading.Event()
+        self.postfix, self.end = Postfix(), threading.Event()
         self.postfix.server.waits["connect"] = self.end.wait
-        self.began = time.monotonic()
-        self.ids = put_messages(self.postfix, TELLING + WAITING + FURTHER)
-        for message in self.ids:
-            threading.Thread(target=self.ask, args=(message,), daemon=True).start()
+        ids = put_messages(self.postfix, TELLING + WAITING + FURTHER + OTHERS)
+        self.ids, self.others = ids[:-OTHERS], ids[-OTHERS:]
+        self.postfix.at("defer/A").mkdir()
+        for message in self.others:
+            self.postfix.at(f"bounce/{message}").unlink()
+            for place, name in ((f"deferred/A/{message}", "queue"), (f"defer/A/{message}", "defer")):
+                self.postfix.at(place).write_bytes((FILES / "later" / name).read_bytes())
+        self.statuses = self.ask("bounce", self.ids)
 
-    def ask(self, message: str):
-        with Client(self.postfix.folder, "bounce") as client:
-            client.peer.settimeout(4 * SECONDS_FOR_TURN)
-            status = client.ask(notice(1, message))
-            self.statuses.append((time.monotonic() - self.began, status))
+    def ask(self, service: str, messages: list) -> list:
+        """Asks for a notice of each message. The list grows by the seconds and the status of each answer."""
+        statuses, began = [], time.monotonic()
+
+        def ask_one(message: str):
+            with Client(self.postfix.folder, service) as client:
+                client.peer.settimeout(4 * SECONDS_FOR_TURN)
+                status = client.ask(notice(1, message))
+                statuses.append((time.monotonic() - began, status))
+
+        for message in messages:
+            threading.Thread(target=ask_one, args=(message,), daemon=True).start()
+        return statuses
 
     def check_refused(self, checks: Checks):
-        """Those beyond the ones that wait are answered at once, and appends as well."""
+        """Those beyond the ones that wait are answered soon, and appends at once."""
+        expect_appends(checks, self.postfix, "the mail server hangs")
         checks.true(
-            f"further requests are answered at once: {len(self.statuses)}", until(lambda: len(self.statuses) >= FURTHER)
+            f"further requests are answered soon: {len(self.statuses)}",
+            until(lambda: len(self.statuses) >= FURTHER, 2 * SECONDS_FOR_ROOM),
         )
+        after = min(seconds for seconds, _ in self.statuses)
+        checks.true(f"not before some seconds have passed: {after:.1f} s", after > SECONDS_FOR_ROOM - 1)
         checks.equal("that they weren't carried out", {status for _, status in self.statuses}, {FAILED})
         checks.true(
             "each has a line",
@@ -128,19 +154,29 @@ class Hanging:
             ),
         )
         checks.equal("and no other", len(self.statuses), FURTHER)
-        expect_appends(checks, self.postfix, "the mail server hangs")
+        began = time.monotonic()
+        checks.equal("then one is answered at once", self.postfix.ask("bounce", notice(1, self.ids[0])), FAILED)
+        checks.true(f"in {time.monotonic() - began:.2f} s", time.monotonic() - began < 1)
+        self.turns = self.ask("defer", self.others)
 
     def check_turns(self, checks: Checks):
-        """Who had no turn for a minute is answered that it wasn't carried out; the logs stay."""
-        least = FURTHER + TELLING - AT_ONCE
+        """Whom the server doesn't answer for a minute is answered that it wasn't carried out, and so is whoever waits
+        for a turn meanwhile; the logs stay."""
+        least = FURTHER + AT_ONCE
         checks.true(
-            "a turn is waited for for a minute", until(lambda: len(self.statuses) >= least, 2 * SECONDS_FOR_TURN)
+            "a reply is waited for for a minute", until(lambda: len(self.statuses) >= least, 2 * SECONDS_FOR_TURN)
         )
         after = sorted(self.statuses)[FURTHER][0]
         checks.true(f"and no less: {after:.1f} s", SECONDS_FOR_TURN - 1 < after < SECONDS_FOR_TURN + 20)
-        checks.equal("nobody is told that it was done", {status for _, status in self.statuses}, {FAILED})
-        logs = set(os.listdir(self.postfix.at("bounce")))
-        checks.true("all logs are left", logs.issuperset(self.ids))
+        checks.true(
+            "a turn is waited for for a minute",
+            until(lambda: len(self.turns) == OTHERS, 3 * SECONDS_FOR_TURN),
+        )
+        after = min(seconds for seconds, _ in self.turns)
+        checks.true(f"a turn and a reply: {after:.1f} s", SECONDS_FOR_TURN - 1 < after < 2 * SECONDS_FOR_TURN + 20)
+        checks.equal("nobody is told that it was done", {it for _, it in self.statuses + self.turns}, {FAILED})
+        logs = {*os.listdir(self.postfix.at("bounce")), *os.listdir(self.postfix.at("defer/A"))}
+        checks.true("all logs are left", logs.issuperset(self.ids + self.others))
         self.end.set()
 
 
@@ -203,6 +239,7 @@ def main():
             check_synced,
             check_one_log,
             check_slow_server,
+            check_many,
             check_silent_clients,
             check_one_slow_client,
             hanging.check_turns,

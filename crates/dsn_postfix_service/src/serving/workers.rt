@@ -235,9 +235,9 @@ fn is_logged(service: Service, list: &[u8]) -> bool {
     }
 }
 
-/// Lets a client wait for a thread that makes notices. If too many wait, answers at once that its
-/// request isn't carried out, and its program repeats it.
-fn let_wait<'a, R: Wait>(
+/// Lets a client wait for a thread that makes notices. If too many wait and none of them is served,
+/// answers that its request isn't carried out, and its program repeats it.
+fn let_wait<'a, R: Wait + Clock>(
     rt: &'a HostRuntime,
     waiting: &R,
     client: Client<'a>,

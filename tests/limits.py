@@ -23,13 +23,14 @@ def keys(checks: Checks):
     given = b"".join(frames.append(it, BOUNCE, queue_id(it), b"x@y", FAILED, STATUS) for it in range(LOGS))
     given += frames.append(LOGS, BOUNCE, b"K", b"x@y", FAILED, STATUS)
     given += flush(LOGS + 1, b"K") + frames.discard(LOGS + 2, BOUNCE, queue_id(0))
-    given += frames.discard(LOGS + 3, BOUNCE, b"K")
+    given += frames.discard(LOGS + 3, BOUNCE, b"K") + flush(LOGS + 4, b"K", expected=1)
     answers = [b"%d logged 0" % it for it in range(LOGS)]
     answers += [
         b"%d table full" % LOGS,
         b"%d table full" % (LOGS + 1),
         b"%d discarded 1" % (LOGS + 2),
         b"%d table full" % (LOGS + 3),
+        b"%d differs 0" % (LOGS + 4),
     ]
     open_logs = [b"open B %s 1" % queue_id(it) for it in range(1, LOGS)]
     ran = batch(given)

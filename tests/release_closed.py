@@ -11,7 +11,7 @@ import sys
 import tempfile
 from pathlib import Path
 
-from tests.support.daemon_and_clients import Daemon, append, frames
+from tests.support.daemon_and_clients import Daemon, append, flush, frames
 from tests.support.faults import fault_line
 from tests.support.running import Checks, Ran, run
 
@@ -88,6 +88,9 @@ def goes_on_both_ways(checks: Checks, messages: int):
 
 def makes_room(checks: Checks, daemon: Daemon, about: str):
     """Keys 10 to 73 are closed: which of them make room, until each log is open."""
+    # A flush that expects an outcome of a new key holds none, so it releases none.
+    said = asked(daemon, [lambda number: flush(number, key(99), expected=1), *appends([10])])
+    checks.equal(f"{about}: a flush that expects an outcome", said, [b"differs 0", b"closed"])
     # 100 and 101 release 10 and 11; then 11 is a new key, which releases 12.
     said = asked(daemon, appends([12, 100, 101, 13, 11]))
     checks.equal(about, said, [b"closed", b"logged 0", b"logged 0", b"closed", b"logged 0"])

@@ -4,21 +4,21 @@ use Rattle.std.specs.Prelude.{Option, Some, None, is_none}
 use Rattle.std.specs.Option.{option_map_or}
 use Rattle.std.specs.List.{list_any, IsDistinct}
 use Rattle.std.proofs.lemmas.Bool.{false≢true, eqb-true}
-use Rattle.dsn_outcome.specs.History.{Limits, Exchange, answer_of, closes_log, exchange_of, held_keys, held_with, history_after, holds_key, is_closed, is_empty, is_forget, is_forgotten, is_held, let_go, log_of, reply_about, reply_to, reply_when_open}
+use Rattle.dsn_outcome.specs.History.{Limits, Exchange, answer_of, closes_log, exchange_of, held_keys, held_with, history_after, holds_key, holds_none, is_closed, is_empty, is_forget, is_forgotten, is_held, let_go, log_of, needs_room_for, reply_about, reply_to, reply_when_open}
 use Rattle.dsn_outcome.specs.Draft.{differs}
 use Rattle.dsn_outcome.specs.Outcome.{Outcome}
-use Rattle.dsn_outcome.specs.Request.{Append, Body, Bye, Discard, Flush, Forget, Request, key_of}
+use Rattle.dsn_outcome.specs.Request.{Append, Body, Bye, Discard, Flush, Forget, Request, expected_by, key_of}
 use Rattle.dsn_outcome.specs.declared.answer.Answer.{Answer}
 use Rattle.dsn_outcome.specs.declared.answer.Reply.{Reply}
 use Rattle.dsn_outcome.specs.declared.answer.Reply.TheVariants.{Logged, Closed, TableFull, LogFull, Nothing, NoReturn, Sealed, Discarded, Gone, Forgotten, NotClosed, Differs}
-use Rattle.dsn_outcome.proofs.HistoryLemmas.{contradiction, held_keys-more, unheld-not_closed}
+use Rattle.dsn_outcome.proofs.HistoryLemmas.{and_false, contradiction, held_keys-more, unheld-not_closed}
 use Rattle.dsn_text.proofs.KeyLemmas.{same_key_refl}
 use Rattle.dsn_text.specs.Key.{same_key}
 use Rattle.dsn_text.specs.declared.key.Key.{Key}
 use Rattle.dsn_book.proofs.BookLemmas.{held_count}
 use Rattle.dsn_book.proofs.ClosingLemmas.{closed-few, closed-is, closed_keys-IsDistinct, closed_keys-more, let_go-first, let_go-none}
 use Rattle.dsn_book.specs.Book.{Book, Represents}
-use Rattle.dsn_book.specs.Release.{closed_after, closed_keys, closed_with, needs_room, needs_room_for, release_of, room_made}
+use Rattle.dsn_book.specs.Release.{closed_after, closed_keys, closed_with, needs_room, release_of, room_made}
 
 pub closed-none : closed_keys [] ≡ []
 unfolding closed_after
@@ -155,19 +155,21 @@ open-some limits log (Discard key) is = absurd (false≢true (ap is_full_reply i
 open-some limits log (Forget key) is = absurd (false≢true (ap is_full_reply is))
 open-some limits log Bye is = absurd (false≢true (ap is_full_reply is))
 
-full-of : (limits : Limits) (history : List Exchange) (body : Body) (key : Key) (forget closed held full : Bool) → is_forget body ≡ forget → is_closed key history ≡ closed → is_held key history ≡ held → (length (held_keys history) == limits.logs) ≡ full → reply_about limits history body key ≡ TableFull → needs_room_for limits history body key ≡ true
+full-of : (limits : Limits) (history : List Exchange) (body : Body) (key : Key) (forget closed held expects full : Bool) → is_forget body ≡ forget → is_closed key history ≡ closed → is_held key history ≡ held → differs (expected_by body) 0 ≡ expects → (length (held_keys history) == limits.logs) ≡ full → reply_about limits history body key ≡ TableFull → needs_room_for limits history body key ≡ true
 unfolding reply_about
-full-of limits history body key true true held full f c h l is = absurd (false≢true (ap is_full_reply (rw (f, c) at is)))
-full-of limits history body key true false held full f c h l is = absurd (false≢true (ap is_full_reply (rw (f, c) at is)))
-full-of limits history body key false true held full f c h l is = absurd (false≢true (ap is_full_reply (rw (f, c) at is)))
-full-of limits history body key false false false true f c h l is = rw (f, h) l
-full-of limits history body key false false true full f c h l is = absurd (open-some limits (log_of key history) body (rw (f, c, h) at is))
-full-of limits history body key false false false false f c h l is = absurd (open-some limits (log_of key history) body (rw (f, c, h, l) at is))
+full-of limits history body key true true held expects full f c h e l is = absurd (false≢true (ap is_full_reply (rw (f, c) at is)))
+full-of limits history body key true false held expects full f c h e l is = absurd (false≢true (ap is_full_reply (rw (f, c) at is)))
+full-of limits history body key false true held expects full f c h e l is = absurd (false≢true (ap is_full_reply (rw (f, c) at is)))
+full-of limits history body key false false false false true f c h e l is = rw (f, h, e) l
+full-of limits history body key false false true expects full f c h e l is =
+    absurd (open-some limits (log_of key history) body (rw (f, c, h, and_false (not (differs (expected_by body) 0))) at is))
+full-of limits history body key false false false true full f c h e l is = absurd (open-some limits (log_of key history) body (rw (f, c, e) at is))
+full-of limits history body key false false false false false f c h e l is = absurd (open-some limits (log_of key history) body (rw (f, c, h, e, l) at is))
 
 full-by : (limits : Limits) (history : List Exchange) (body : Body) (own : Option Key) → key_of body ≡ own → option_map_or (reply_about limits history body) own Gone ≡ TableFull → needs_room limits history body ≡ true
 full-by limits history body None own is = absurd (false≢true (ap is_full_reply is))
 full-by limits history body (Some key) own is =
-    rw own (full-of limits history body key (is_forget body) (is_closed key history) (is_held key history) (length (held_keys history) == limits.logs) refl refl refl refl is)
+    rw own (full-of limits history body key (is_forget body) (is_closed key history) (is_held key history) (differs (expected_by body) 0) (length (held_keys history) == limits.logs) refl refl refl refl refl is)
 
 -- only a request that needs room is answered that the table is full
 pub full-needs_room : (limits : Limits) (history : List Exchange) (request : Request) → reply_to limits history request ≡ TableFull → needs_room limits history request.body ≡ true
@@ -210,7 +212,7 @@ count-of false b n m is = absurd (false≢true is)
 room-count : (limits : Limits) (history : List Exchange) (body : Body) (own : Option Key) → key_of body ≡ own → needs_room limits history body ≡ true → length (held_keys history) ≡ limits.logs
 room-count limits history body None own some = absurd (false≢true (rw own at some))
 room-count limits history body (Some key) own some =
-    count-of (not (is_forget body)) (not (is_held key history)) (length (held_keys history)) limits.logs (rw own at some)
+    count-of (not (holds_none body)) (not (is_held key history)) (length (held_keys history)) limits.logs (rw own at some)
 
 still-full : (limits : Limits) (history : List Exchange) (request : Request) (key : Key) (rest : List Key) (some : Bool) → length (held_keys history) ≤ limits.logs → closed_keys history ≡ key ∷ rest → needs_room limits history request.body ≡ some → reply_to limits (room_made true limits history request.body) request ≡ TableFull → ⊥
 still-full limits history request key rest false few is none full =

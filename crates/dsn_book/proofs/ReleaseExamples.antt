@@ -1,12 +1,15 @@
 -- Worked examples of releases, computed by the definitions: which key makes room, and which replies
 -- follow.
 use Rattle.std.proofs.Common.{◌≡◌, ℕ, suc, Bool, true, false, List, [], ◌∷◌, map, refl}
-use Rattle.std.specs.Prelude.{codes, None}
+use Rattle.std.specs.Prelude.{codes, None, Some}
 use Rattle.dsn_outcome.specs.History.{Limits, reply_to, reply_about, reply_when_open, exchange_of, history_after, since_after, held_after, is_forgotten, holds_key, closes_log, outcome_logged}
+use Rattle.dsn_outcome.specs.Draft.{Draft}
 use Rattle.dsn_outcome.specs.Outcome.{Outcome}
-use Rattle.dsn_outcome.specs.Request.{Request, Body, Append, Discard, Forget}
+use Rattle.dsn_outcome.specs.Request.{Request, Body, Append, Discard, Flush, Forget}
 use Rattle.dsn_outcome.specs.declared.answer.Reply.{Reply}
-use Rattle.dsn_outcome.specs.declared.answer.Reply.TheVariants.{Logged, Closed, TableFull, Discarded, Forgotten, NotClosed}
+use Rattle.dsn_outcome.specs.declared.answer.Reply.TheVariants.{Logged, Closed, TableFull, Nothing, Discarded, Forgotten, NotClosed, Differs}
+use Rattle.dsn_outcome.specs.declared.returned.Returned.TheVariants.{Header}
+use Rattle.dsn_outcome.specs.declared.wording.Wording.TheVariants.{ByService}
 use Rattle.dsn_text.specs.declared.action.Action.TheVariants.{Failed}
 use Rattle.dsn_text.specs.declared.key.Key.{Key}
 use Rattle.dsn_text.specs.declared.service.Service.TheVariants.{Bounce}
@@ -84,6 +87,39 @@ no_need :
     (0, Discarded 0) ∷ (0, Closed) ∷ (0, Logged 0) ∷ (0, Closed) ∷ (0, Logged 1) ∷ (0, NotClosed) ∷ []
 unfolding history_releasing history_after exchange_of reply_to reply_about reply_when_open since_after held_after is_forgotten holds_key closes_log outcome_logged closed_after
 no_need = refl
+
+-- a flush that expects outcomes of a new key holds none, so it releases none; a flush without a number does
+abbrev draft : Draft
+draft = record {
+  moment = 0;
+  arrival = 0;
+  return_path = None;
+  envelope_id = None;
+  header = codes "";
+  extensions = [];
+  expected = None;
+  returned = Header;
+  wording = ByService;
+}
+
+abbrev counted : List Body
+counted = discard (codes "A") ∷ append (codes "B") ∷ Flush (key (codes "C")) (record draft { expected = Some 1 }) ∷ []
+
+counting_flush_releases_none :
+    told true counted ≡ (0, Discarded 0) ∷ (0, Logged 0) ∷ (0, Differs 0) ∷ []
+unfolding history_releasing history_after exchange_of reply_to reply_about reply_when_open since_after held_after is_forgotten holds_key closes_log outcome_logged closed_after
+counting_flush_releases_none = refl
+
+counting_flush_in_full_table :
+    told false counted ≡ (0, Discarded 0) ∷ (0, Logged 0) ∷ (0, Differs 0) ∷ []
+unfolding history_after exchange_of reply_to reply_about reply_when_open since_after held_after is_forgotten holds_key closes_log outcome_logged
+counting_flush_in_full_table = refl
+
+plain_flush_releases_one :
+    told true (discard (codes "A") ∷ append (codes "B") ∷ Flush (key (codes "C")) draft ∷ []) ≡
+    (0, Discarded 0) ∷ (0, Logged 0) ∷ (collector, Forgotten) ∷ (0, Nothing) ∷ []
+unfolding history_releasing history_after exchange_of reply_to reply_about reply_when_open since_after held_after is_forgotten holds_key closes_log outcome_logged closed_after
+plain_flush_releases_one = refl
 
 -- a key that is closed again after it was forgotten is last
 closed_again :

@@ -7,7 +7,7 @@ use Rattle.std.proofs.lemmas.List.{get_or_default}
 use Rattle.std.proofs.lemmas.List.Sorted.{IsPermutation-trans}
 use Rattle.std.proofs.lemmas.Bool.{eq-eqb, ne_eqb, false≢true}
 use Rattle.dsn_outcome.proofs.HistoryLemmas.{and_false}
-use Rattle.dsn_outcome.specs.History.{Limits, Exchange, exchange_of, held_keys, history_after, is_forget, is_held, letter_of, letter_sealed}
+use Rattle.dsn_outcome.specs.History.{Limits, Exchange, exchange_of, held_keys, history_after, holds_none, is_held, letter_of, letter_sealed, needs_room_for}
 use Rattle.dsn_outcome.specs.Request.{Body, Forget, key_of}
 use Rattle.dsn_text.specs.declared.key.Key.{Key}
 use Rattle.dsn_book.proofs.BookLemmas.{entries-represented, held_count, held_log, sealed-represented}
@@ -15,7 +15,7 @@ use Rattle.dsn_book.proofs.EntryLemmas.{log_in-none, log_in-place}
 use Rattle.dsn_book.specs.Book.{Book, Represents, log_after}
 use Rattle.dsn_book.specs.Entry.{entry_with}
 use Rattle.dsn_book.specs.Held.{Entry, Closed}
-use Rattle.dsn_book.specs.Release.{needs_room, needs_room_for, release_of}
+use Rattle.dsn_book.specs.Release.{needs_room, release_of}
 use Rattle.dsn_book.specs.inner.Entry.{IsOther, IsPlaceOf}
 use Rattle.dsn_book.specs.inner.Step.{entries_next}
 
@@ -25,7 +25,7 @@ no_key limits history body is = ap (λ own. option_map_or (needs_room_for limits
 few-of : (limits : Limits) (history : List Exchange) (body : Body) (own : Option Key) → (length (held_keys history) == limits.logs) ≡ false → key_of body ≡ own → needs_room limits history body ≡ false
 few-of limits history body None few is = no_key limits history body is
 few-of limits history body (Some key) few is =
-    rw (is, few, and_false (not (is_held key history)), and_false (not (is_forget body))) refl
+    rw (is, few, and_false (not (is_held key history)), and_false (not (holds_none body))) refl
 
 -- nothing needs room if fewer keys are held than the limits allow
 pub few-no_room : (book : Book) (history : List Exchange) (body : Body) → Represents book history → length book.entries < book.limits.logs → needs_room book.limits history body ≡ false
@@ -48,18 +48,18 @@ held-no_room book history body key place stands is found =
     let entry : Entry = get_or book.entries place d in
     let here : entry ≡ get_or book.entries place entry = get_or_default book.entries place d entry found.inside in
     let held : is_held key history ≡ true = held-from_some (log_after history key) entry.log (is_held key history) (sym (held_log book history key stands) ∙ log_in-place key book.entries place entry found here) in
-    rw (is, held, and_false (not (is_forget body))) refl
+    rw (is, held, and_false (not (holds_none body))) refl
 
 -- a key that isn't held needs room if the table is full
-unheld-room : (book : Book) (history : List Exchange) (body : Body) (key : Key) → Represents book history → is_forget body ≡ false → key_of body ≡ Some key → All (IsOther key) book.entries → length book.entries ≡ book.limits.logs → needs_room book.limits history body ≡ true
-unheld-room book history body key stands forget is others full =
+unheld-room : (book : Book) (history : List Exchange) (body : Body) (key : Key) → Represents book history → holds_none body ≡ false → key_of body ≡ Some key → All (IsOther key) book.entries → length book.entries ≡ book.limits.logs → needs_room book.limits history body ≡ true
+unheld-room book history body key stands holds is others full =
     let unheld : is_held key history ≡ false = some≢none (log_after history key) (is_held key history) (sym (held_log book history key stands) ∙ log_in-none key book.entries others) in
-    rw (is, forget, unheld) (eq-eqb (length (held_keys history)) book.limits.logs (held_count book history stands ∙ full))
+    rw (is, holds, unheld) (eq-eqb (length (held_keys history)) book.limits.logs (held_count book history stands ∙ full))
 
 -- what a search for the key of a body finds in a full table
-pub room-search : (book : Book) (history : List Exchange) (body : Body) (key : Key) (found : Result ℕ ℕ) → Represents book history → is_forget body ≡ false → key_of body ≡ Some key → length book.entries ≡ book.limits.logs → IfOk found (IsPlaceOf key book.entries) → IfErr found (λ _. All (IsOther key) book.entries) → is_err found ≡ needs_room book.limits history body
-room-search book history body key (Ok place) stands forget is full held other = sym (held-no_room book history body key place stands is held)
-room-search book history body key (Err gap) stands forget is full held other = sym (unheld-room book history body key stands forget is other full)
+pub room-search : (book : Book) (history : List Exchange) (body : Body) (key : Key) (found : Result ℕ ℕ) → Represents book history → holds_none body ≡ false → key_of body ≡ Some key → length book.entries ≡ book.limits.logs → IfOk found (IsPlaceOf key book.entries) → IfErr found (λ _. All (IsOther key) book.entries) → is_err found ≡ needs_room book.limits history body
+room-search book history body key (Ok place) stands holds is full held other = sym (held-no_room book history body key place stands is held)
+room-search book history body key (Err gap) stands holds is full held other = sym (unheld-room book history body key stands holds is other full)
 
 -- ---- a release
 

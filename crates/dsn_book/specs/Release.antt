@@ -1,8 +1,8 @@
 -- Releases: how a closed key makes room for a new key if the table is full. Source: this project's
 -- profile.
-use Rattle.std.specs.Prelude.{ℕ, Bool, true, false, ◌&&◌, not, ◌==◌, List, [], ◌∷◌, ◌++◌, length, map, take, if◌then◌else◌}
+use Rattle.std.specs.Prelude.{ℕ, Bool, true, false, List, [], ◌∷◌, ◌++◌, map, take, if◌then◌else◌}
 use Rattle.std.specs.Option.{option_map_or}
-use Rattle.dsn_outcome.specs.History.{Limits, Exchange, closes_log, exchange_of, held_keys, history_after, is_forget, is_forgotten, is_held, let_go}
+use Rattle.dsn_outcome.specs.History.{Limits, Exchange, closes_log, exchange_of, history_after, is_forgotten, let_go, needs_room_for}
 use Rattle.dsn_outcome.specs.Request.{Request, Body, Forget, key_of}
 use Rattle.dsn_outcome.specs.declared.answer.Reply.{Reply}
 use Rattle.dsn_text.specs.declared.key.Key.{Key}
@@ -26,12 +26,7 @@ closed_after closed (exchange ∷ rest) = closed_after (closed_next closed excha
 abbrev pub closed_keys : List Exchange → List Key
 closed_keys history = closed_after [] history
 
--- whether a body about a key needs a new key in a full table; a Forget never does
-abbrev pub needs_room_for : Limits → List Exchange → Body → Key → Bool
-needs_room_for limits history body key =
-    not (is_forget body)
-    && (not (is_held key history) && (length (held_keys history) == limits.logs))
-
+-- whether a body needs a new key in a full table
 abbrev pub needs_room : Limits → List Exchange → Body → Bool
 needs_room limits history body =
     option_map_or (needs_room_for limits history body) (key_of body) false

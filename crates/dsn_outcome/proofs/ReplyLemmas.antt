@@ -8,7 +8,7 @@ use Rattle.dsn_outcome.specs.Draft.{differs}
 use Rattle.dsn_outcome.specs.History.{Limits, Exchange, is_closed, is_forgotten, is_forget, forgets, is_empty, is_held, held_keys, log_of, reply_when_open, reply_about, reply_to, exchange_of}
 use Rattle.dsn_text.specs.Key.{same_key}
 use Rattle.dsn_outcome.specs.Outcome.{Outcome}
-use Rattle.dsn_outcome.specs.Request.{Request, Body, Append, Flush, Discard, Forget, Bye, key_of}
+use Rattle.dsn_outcome.specs.Request.{Request, Body, Append, Flush, Discard, Forget, Bye, key_of, expected_by}
 use Rattle.dsn_outcome.specs.declared.answer.Reply.{Reply}
 use Rattle.dsn_outcome.specs.declared.answer.Reply.TheVariants.{Logged, Closed, TableFull, LogFull, Nothing, NoReturn, Sealed, Differs}
 use Rattle.dsn_text.specs.declared.key.Key.{Key}
@@ -35,8 +35,8 @@ pub about-keeps : (limits : Limits) (history : List Exchange) (body : Body) (key
 unfolding reply_about is_forgotten
 about-keeps limits history body key uses =
     rw uses
-    (either-keeps (is_closed key history) Closed (cond (not (is_held key history) && (length (held_keys history) == limits.logs)) TableFull (reply_when_open limits (log_of key history) body)) refl
-    (either-keeps (not (is_held key history) && (length (held_keys history) == limits.logs)) TableFull (reply_when_open limits (log_of key history) body) refl
+    (either-keeps (is_closed key history) Closed (cond (not (differs (expected_by body) 0) && (not (is_held key history) && (length (held_keys history) == limits.logs))) TableFull (reply_when_open limits (log_of key history) body)) refl
+    (either-keeps (not (differs (expected_by body) 0) && (not (is_held key history) && (length (held_keys history) == limits.logs))) TableFull (reply_when_open limits (log_of key history) body) refl
     (when_open-keeps limits (log_of key history) body)))
 
 pub uses-keeps : (limits : Limits) (history : List Exchange) (request : Request) (own : Option Key) → key_of request.body ≡ own → is_forget request.body ≡ false → is_forgotten (reply_to limits history request) ≡ false

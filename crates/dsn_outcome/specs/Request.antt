@@ -21,6 +21,14 @@ key_of (Discard key) = Some key
 key_of (Forget key) = Some key
 key_of Bye = None
 
+-- the number of outcomes that a body expects, if it expects one
+abbrev pub expected_by : Body → Option ℕ
+expected_by (Append id outcome) = None
+expected_by (Flush key draft) = draft.expected
+expected_by (Discard key) = None
+expected_by (Forget key) = None
+expected_by Bye = None
+
 -- a request of an agent; its number is how many requests of that agent came before it
 pub record Request : Type 0 where
   pub agent : ℕ

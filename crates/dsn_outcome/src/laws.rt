@@ -5,7 +5,7 @@ ghost use Rattle.dsn_outcome.specs.Agents.{from_agent};
 ghost use Rattle.dsn_outcome.specs.CloseRule.{StaysClosed, AnswersClosed, TakesNoOutcome, TakesNoOutcomeUntilForgotten, LeavesEveryLog, LeavesHeldKeys, LeavesSealedLetters};
 ghost use Rattle.dsn_outcome.specs.Expecting.{AnswersDiffers, AreAsExpected, DiffersChangesNothing};
 ghost use Rattle.dsn_outcome.specs.Forgetting.{AreNumbered, ForgetsIt, KeepsIt};
-ghost use Rattle.dsn_outcome.specs.History.{Limits, Exchange, IsClosed, is_closed, is_held, answers_after, answers_to, history_of, sealed_letters, serials_told};
+ghost use Rattle.dsn_outcome.specs.History.{Limits, Exchange, IsClosed, is_closed, answers_after, answers_to, history_of, sealed_letters, serials_told};
 ghost use Rattle.dsn_outcome.specs.Request.{Request};
 ghost use Rattle.dsn_text.specs.declared.key.Key.{Key};
 
@@ -39,12 +39,12 @@ pub fn closed_keys_alone_are_forgotten()
         → is_closed key history ≡ false → KeepsIt limits key history }
 {}
 
-/// If a flush of an open log expects another number of outcomes, it is answered with the actual
-/// number and changes nothing. So each letter has as many outcomes as its flush expects.
+/// If a flush expects another number of outcomes than the key's log has, and the log isn't closed,
+/// it is answered with the actual number and changes nothing, even if the table is full. So each
+/// letter has as many outcomes as its flush expects.
 pub fn flushes_seal_what_they_expect()
     ensures answered { (limits : Limits) (key : Key) (history : List Exchange)
-        → is_closed key history ≡ false → is_held key history ≡ true
-        → AnswersDiffers limits key history }
+        → is_closed key history ≡ false → AnswersDiffers limits key history }
     ensures unchanged { (limits : Limits) (history : List Exchange)
         → DiffersChangesNothing limits history }
     ensures sealed { (limits : Limits) (requests : List Request)

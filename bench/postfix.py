@@ -5,10 +5,11 @@ which they lay. The processor time is that of all of Postfix's processes, and th
 smtp-sink takes the place of the servers that refuse the messages and take the notices, so that these cost little. It
 needs root and Debian's postfix.
 
-    python3 -m bench.postfix [MESSAGES [RUNS [FOLDER]]]
+    python3 -m bench.postfix [MESSAGES [RUNS [FOLDER [MILLISECONDS]]]]
 
 MESSAGES is the number of messages of a run (default 2,000), RUNS the number of runs of each side (default 3). The queue
-is in FOLDER: with /dev/shm the disk isn't measured."""
+is in FOLDER: with /dev/shm the disk isn't measured. Each sync takes MILLISECONDS more, of Postfix and of the program
+(default 0); this needs gcc."""
 import os
 import re
 import signal
@@ -19,6 +20,7 @@ import tempfile
 import time
 from pathlib import Path
 
+from tests.support.preloading import built
 from tests.support.private_postfix import Postfix, comes_true, free_ports, is_open, lacks
 from tests.support.running import program, run
 
@@ -73,10 +75,18 @@ def of_front(postfix: Postfix) -> float:
     return sum(processor_time(postfix.front.running.pid)) if postfix.front else 0.0
 
 
-def one_run(serves, messages: int, place) -> tuple:
+def slow_syncs(room: str, milliseconds: str) -> dict:
+    """The settings of a Postfix whose syncs take longer. What this script starts has such syncs too."""
+    Path(room).chmod(0o755)
+    slow = {"LD_PRELOAD": str(built(room, "slow")), "MILLISECONDS": milliseconds}
+    os.environ.update(slow)
+    return {"import_environment": " ".join(["MAIL_CONFIG", *(f"{name}={value}" for name, value in slow.items())])}
+
+
+def one_run(serves, messages: int, place, settings: dict) -> tuple:
     """One run of a side: messages a second, and processor milliseconds a message of Postfix and of the program."""
     with Sink() as box, Sink(refuses=True) as refusing, Postfix(
-        box, serves, place=place, transport_maps=REFUSED_BY.format(refusing.port)
+        box, serves, place=place, transport_maps=REFUSED_BY.format(refusing.port), **settings
     ) as postfix:
         postfix.start()
         before, began = (of_postfix(postfix), of_front(postfix)), time.monotonic()
@@ -122,14 +132,16 @@ def main():
     if missing:
         sys.exit(f"it needs {missing}")
     signal.signal(signal.SIGTERM, lambda *_: sys.exit(1))
-    messages, runs, place = [*sys.argv[1:], *("2000", "3", None)[len(sys.argv) - 1 :]]
+    messages, runs, place, more = [*sys.argv[1:], *("2000", "3", None, "0")[len(sys.argv) - 1 :]]
     sides = {"bounce(8)": None}
     if b"postfix" in run(["postfix"]).notes:
         sides["noticed"] = program()
     figures = {name: [] for name in sides}
-    for _ in range(int(runs)):
-        for name, serves in sides.items():
-            figures[name].append(one_run(serves, int(messages), place))
+    with tempfile.TemporaryDirectory() as room:
+        settings = {} if more == "0" else slow_syncs(room, more)
+        for _ in range(int(runs)):
+            for name, serves in sides.items():
+                figures[name].append(one_run(serves, int(messages), place, settings))
     print(
         f"{messages} messages of one failing recipient each, {CLIENTS} clients, {runs} runs of each side: "
         "the median, and the bounds"

@@ -1,4 +1,5 @@
-/* Preloaded into a program (LD_PRELOAD), it makes each sync of the file that SLOW names wait first, for MILLISECONDS. */
+/* Preloaded into a program (LD_PRELOAD), it makes each sync of the file that SLOW names wait first, for MILLISECONDS; or
+   of each file, without SLOW. */
 #define _GNU_SOURCE
 #include <dlfcn.h>
 #include <stdlib.h>
@@ -9,9 +10,9 @@ static void wait_if_slow(int descriptor)
 {
     const char *path = getenv("SLOW"), *milliseconds = getenv("MILLISECONDS");
     struct stat named, synced;
-    if (!path || !milliseconds || stat(path, &named) || fstat(descriptor, &synced))
+    if (!milliseconds || fstat(descriptor, &synced) || (path && stat(path, &named)))
         return;
-    if (named.st_dev == synced.st_dev && named.st_ino == synced.st_ino)
+    if (path ? named.st_dev == synced.st_dev && named.st_ino == synced.st_ino : S_ISREG(synced.st_mode))
         usleep(1000 * (useconds_t)strtoul(milliseconds, NULL, 10));
 }
 

@@ -138,6 +138,21 @@ def check_always(checks: Checks, outbox: bytes):
     checks.true("it always hangs up at one: kept", ran.outbox.endswith(outbox.split(b"MAIL FROM:<>\r\n")[2]))
 
 
+def check_not_too_old(checks: Checks, outbox: bytes):
+    """One that is put off twice within the time after which it is given up is submitted, and not kept."""
+    server = StrictServer()
+    server.hangs_up_at = PATHS[1]
+    # The second attempt is after 1 second, the third 2 seconds later.
+    timer = threading.Timer(1.6, setattr, (server, "hangs_up_at", b""))
+    timer.start()
+    ran = run(["hand-in", "--give-up", "60", server.address], outbox)
+    timer.join()
+    wanted = wanted_of(outbox)
+    checks.equal("put off twice within a minute: status", ran.status, 0)
+    checks.equal("put off twice within a minute: messages", taken_by(server), [*wanted[::2], wanted[1]])
+    checks.equal("put off twice within a minute: kept", ran.outbox, b"")
+
+
 def check_paths(checks: Checks):
     """A recipient's path is that of the outbox, byte for byte."""
     server = MailServer()
@@ -274,6 +289,7 @@ def main():
     check_strict(checks, outbox)
     check_lost_reply(checks, outbox)
     check_always(checks, outbox)
+    check_not_too_old(checks, outbox)
     check_paths(checks)
     check_eight_bit(checks)
     check_new_session(checks)

@@ -1,4 +1,6 @@
 //! The command `hand-in`: submits the notices of an outbox to a mail server.
+ghost use Rattle.std.specs.Prelude.{◌≡◌, ◌*◌};
+
 use crate::arguments::{number_of, owned, text_of};
 use crate::hand_in_files::{DoneFile, RefusedPlace};
 use crate::outbox_text::{OutboxPart, greeting_of, part_of};
@@ -45,7 +47,9 @@ pub(crate) struct HandInTerms {
 
 impl HandInTerms {
     /// After how many milliseconds a notice is given up.
-    pub(crate) fn milliseconds(&self) -> u64 {
+    pub(crate) fn milliseconds(&self) -> u64
+        ensures { result ≡ self.now.give_up * 1000 }
+    {
         u64::from(self.give_up) * 1_000
     }
 }

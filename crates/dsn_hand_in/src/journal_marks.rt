@@ -2,12 +2,11 @@
 //! A journal's marks rise by one at a time, each with a sync of its own, so a crash while the mark
 //! rises by more leaves a mark between the old one and the new one. Letters behind that mark are
 //! submitted again, although they were settled.
-ghost use Rattle.std.specs.Prelude.{◌≡◌, is_ok};
+ghost use Rattle.std.specs.Prelude.{◌≡◌, is_ok, IfOk};
 ghost use Rattle.dsn_hand_in.specs.JournalMarks.{RaisesMark};
-ghost use Rattle.dsn_journal.specs.Marks.{LeavesTheMark};
 
 use dsn_device::Broken;
-use dsn_journal::{MarkCount, Marks, Replaceable, mark_in_turn};
+use dsn_journal::{MarkCount, MarkedLetters, Marks, Noted, Replaceable, mark_in_turn};
 use std::alloc::Global;
 use std::marker::Model;
 
@@ -29,8 +28,10 @@ impl<D: Replaceable, C> Model for JournalMarks<D, C> {
 }
 
 impl<D: Replaceable, C: Drop> JournalMarks<D, C> {
-    /// These marks, which notify this count.
-    pub fn new(alloc: Global, marks: Marks<D>, count: C) -> JournalMarks<D, C>
+    /// These marks, which notify this count. Requires that the count was notified of their mark:
+    /// else it would wait for letters that are marked already.
+    pub fn new(alloc: Global, marks: Marks<D>, count: C, _noted: Noted) -> JournalMarks<D, C>
+        requires { _noted ≡ marks.mark }
         ensures { result ≡ marks }
     {
         JournalMarks {
@@ -67,13 +68,11 @@ impl<D: Replaceable, C: MarkCount> dsn_submission::Marks for JournalMarks<D, C> 
 
     /// Raises the mark to this one, and notifies the count. Returns `Broken` if the marks aren't
     /// settled or are above it, if memory or room for a mark is refused, or if the disk fails. Then
-    /// the count is notified that no further letter will be marked.
+    /// the count is notified that no further letter will be marked. The marks tell which it was:
+    /// they are no longer settled only if the disk failed, which counts that.
     fn settled_to(&mut self, mark: u64) -> Result<(), Broken> {
-        match raise(self.alloc, &mut self.marks, mark) {
-            Ok(()) => {
-                note(&self.count, &self.marks);
-                Ok(())
-            }
+        match raise(self.alloc, &mut self.marks, &self.count, mark) {
+            Ok(_) => Ok(()),
             Err(broken) => {
                 self.count.stop();
                 Err(broken)
@@ -82,10 +81,16 @@ impl<D: Replaceable, C: MarkCount> dsn_submission::Marks for JournalMarks<D, C> 
     }
 }
 
-/// Raises marks to this one, one after another. Returns `Broken` if they aren't settled or are
-/// above it, or if one can't be kept.
-fn raise<D: Replaceable>(alloc: Global, marks: &mut Marks<D>, mark: u64) -> Result<(), Broken>
-    ensures { RaisesMark D.Disk marks.old mark (is_ok result) marks.new }
+/// Raises marks to this one, one after another, and notifies a count of it. Returns `Broken` if the
+/// marks aren't settled or are above it, or if one can't be kept.
+fn raise<D: Replaceable, C: MarkCount>(
+    alloc: Global,
+    marks: &mut Marks<D>,
+    count: &C,
+    mark: u64,
+) -> Result<Noted, Broken>
+    ensures raised { RaisesMark D.Disk marks.old mark (is_ok result) marks.new }
+    ensures noted { IfOk result (λ noted. noted ≡ mark) }
 {
     if !marks.is_settled() || marks.mark() > mark {
         return Err(Broken);
@@ -93,13 +98,5 @@ fn raise<D: Replaceable>(alloc: Global, marks: &mut Marks<D>, mark: u64) -> Resu
     for serial in marks.mark()..mark {
         mark_in_turn(alloc, marks, serial)?;
     }
-    Ok(())
-}
-
-/// Notifies a count of the mark. Requires that a crash leaves it, since whoever waits for a
-/// letter's mark answers that it won't be submitted again.
-fn note<D: Replaceable, C: MarkCount>(count: &C, marks: &Marks<D>)
-    requires { LeavesTheMark D.Disk marks.now }
-{
-    count.note(marks.mark());
+    Ok(count.note(MarkedLetters::of(marks)))
 }

@@ -19,7 +19,9 @@ use crate::daemon::watch::Watch;
 use dsn_book::Limits;
 use dsn_crew::{Gate, Port};
 use dsn_device::Drain;
-use dsn_journal::{CountedOutbox, MarkCount, MarkedOutbox, Replaceable, SharedMarkCount};
+use dsn_journal::{
+    CountedOutbox, MarkCount, MarkedLetters, MarkedOutbox, Replaceable, SharedMarkCount,
+};
 use dsn_ledger::{Opened, ledgers_have_one_history};
 use dsn_report::{Outgoing, Site};
 use dsn_text::fault_code;
@@ -163,7 +165,7 @@ fn start_over<
         }
     };
     ledgers_have_one_history();
-    count.note(marks.mark());
+    count.note(MarkedLetters::of(&marks));
     let Opened { ledger, letters } = opened;
     let outbox = CountedOutbox::new(MarkedOutbox::new(alloc, outbox, marks), count);
     let outgoing = hand_first(Outgoing::new(site, outbox), letters);

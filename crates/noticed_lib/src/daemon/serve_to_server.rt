@@ -20,7 +20,7 @@ use dsn_book::Limits;
 use dsn_crew::{Gate, Port};
 use dsn_device::{Drain, Stream};
 use dsn_hand_in::{JournalMarks, MailOutlet, MailParts, RunClock, SitedLetter, Submissions};
-use dsn_journal::{MarkCount, Marks, Replaceable, SharedMarkCount};
+use dsn_journal::{MarkCount, MarkedLetters, Marks, Noted, Replaceable, SharedMarkCount};
 use dsn_ledger::Opened;
 use dsn_outcome::Letter;
 use dsn_report::Site;
@@ -114,7 +114,7 @@ pub(crate) fn serve_ports_to_server<
         }
     };
     let count = SharedMarkCount::new(rt);
-    count.note(marks.mark());
+    let noted = count.note(MarkedLetters::of(&marks));
     let Opened { ledger, letters } = opened;
     let keeper = match begin_ledger(alloc, ledger, &letters, limits, releases, &count, watch) {
         Ok(keeper) => keeper,
@@ -128,7 +128,7 @@ pub(crate) fn serve_ports_to_server<
             return Err(write_not_started(alloc, not, notes));
         }
     };
-    let outlet = new_outlet(rt, alloc, site, terms, marks, &count, watch);
+    let outlet = new_outlet(rt, alloc, site, terms, marks, &count, noted, watch);
     let start = JournalStart { outlet, keeper };
     let (end, journal) = run_mail(rt, alloc, start, letters, ports, gate, watch, notes);
     Ok(Submitted::of(end, journal))
@@ -178,7 +178,7 @@ fn run_mail<
     run_over(rt, alloc, start, ports, gate, observer, notes)
 }
 
-/// An outlet to which no letter was passed.
+/// An outlet to which no letter was passed. Requires that the count was notified of the mark.
 fn new_outlet<
     's,
     'r,
@@ -196,8 +196,10 @@ fn new_outlet<
     terms: MailTerms<C, K>,
     marks: Marks<M>,
     count: N,
+    noted: Noted,
     watch: &'r H,
 ) -> MailOutlet<'s, 'r, S, C, K, JournalMarks<M, N>, WatchedSubmissions<'r, H>, R>
+    requires { noted ≡ marks.mark }
     ensures { result ≡ mail_start site.now terms.name terms.give_up marks.mark terms.server terms.refused
         marks }
 {
@@ -212,7 +214,7 @@ fn new_outlet<
         submitter: Submitter::new(alloc, name, marks.mark(), give_up),
         server,
         refused,
-        marks: JournalMarks::new(alloc, marks, count),
+        marks: JournalMarks::new(alloc, marks, count, noted),
     };
     MailOutlet::new(
         site,

@@ -12,5 +12,6 @@ invariant-loop-serial g l = record {
   above : l.fn.marks.mark ≤ l.serial;
   settled : l.marks.settled ≡ true;
   durable : LeavesTheMark g.D.Disk l.marks;
+  count : g.D.Disk.failures l.marks.journal.disk ≡ g.D.Disk.failures l.fn.marks.journal.disk;
   any_moment : LeavesOnly g.D.Disk l.fn.marks.journal.disk l.marks.journal.disk (SaysMarkWithin l.fn.marks.mark l.mark);
 }

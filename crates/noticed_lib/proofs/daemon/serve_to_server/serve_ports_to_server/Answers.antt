@@ -37,7 +37,7 @@ returns g c = record {
   rule = c.in-Ok-begin_ledger.ensures.rule;
   passed = rw c.new_outlet-outlet.ensures at c.run_mail-end.ensures.1.0;
   left = c.run_mail-end.result.0;
-  run = rw c.of.ensures.journal c.run_mail-end.ensures.1.1;
-  left_is = c.of.ensures.left;
-  status_is = c.of.ensures.status;
+  run = rw c.of-2.ensures.journal c.run_mail-end.ensures.1.1;
+  left_is = c.of-2.ensures.left;
+  status_is = c.of-2.ensures.status;
 }

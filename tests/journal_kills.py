@@ -4,8 +4,8 @@ by what is answered from then on; of what was sent and not answered it may be th
 notice, byte for byte as a plain reading of the manual pages has it; the last one of a run may come again. A small
 journal gets full again and again, and is put away for a shorter one: no run ends by it. So it does over an outbox
 whose syncs are slow, and with large headers: then letters wait to be marked as it gets full, and none of them is lost.
-And over a mail server in place of the outbox, where a letter may come again only as the first of a run. Then a clean
-end, and a last start.
+And over a mail server in place of the outbox, where a letter may come again only as the first of a run, also with a
+journal that gets full. Then a clean end, and a last start.
 
     python3 -m tests.journal_kills [KILLS [SEED]]
 
@@ -52,6 +52,7 @@ def main():
         ("a small journal", {"size": SMALL, "hostile": 0}, LONGEST_LOAD, kills - kills // 2),
         ("a slow outbox", {"size": 2 * SMALL, "hostile": 0, "lines": LARGE, "slow": SLOW}, LONGEST_SLOW, kills // 4),
         ("a mail server", {"submits": True}, LONGEST_LOAD, kills // 4),
+        ("both", {"size": 2 * SMALL, "hostile": 0, "lines": LARGE, "submits": True}, LONGEST_SLOW, kills // 8),
     )
     for what, how, longest, count in loads:
         with tempfile.TemporaryDirectory(prefix="noticed-kills-") as room:

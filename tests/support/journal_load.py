@@ -222,16 +222,22 @@ class Outbox:
 
 
 class Mailbox(MailServer):
-    """A mail server that takes all letters of all runs, and replies a moment later: a run may be killed before."""
+    """A mail server that takes all letters of all runs, also 8bit ones, and replies a moment later: a run may be killed
+    before."""
 
     def __init__(self, folder: Path, model: Model, dice: random.Random):
         self.folder, self.model, self.dice, self.first = folder, model, dice, True
         super().__init__()
         self.options = ("--hand-in", self.address)
 
+    def say(self, stream, reply: bytes):
+        """A reply; the one to EHLO offers 8BITMIME."""
+        is_hello = reply == b"250 ok" and self.commands[-1].upper().startswith(b"EHLO")
+        super().say(stream, b"250-test\r\n250 8BITMIME" if is_hello else reply)
+
     def message(self, stream) -> bytes:
         """A message in the form of an outbox."""
-        lines = [b"MAIL FROM:<>\r\n" + self.commands[-2] + b"\r\nDATA\r\n"]
+        lines = [b"".join(it + b"\r\n" for it in self.commands[-3:])]
         while lines[-1] != b".\r\n":
             lines.append(stream.readline())
             if not lines[-1].endswith(b"\r\n"):

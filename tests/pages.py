@@ -47,7 +47,6 @@ FAULT = re.compile(r"`(?:fault )?(\d+): ([^`]+)`")
 NOT_KEPT = re.compile(r"/(?:[A-Z]+|out)(?:/|\.py$|$)")  # any file, as examples/FILE, or one that is built
 VERDICTS = {"same": "same", "better": "better", "passed on": "passed on", "differs": "differ", "not there": "not there"}
 SETTING = re.compile(r"`([a-z0-9]+(?:_[a-z0-9]+)+)`")
-ITEM = re.compile(r"^- (.*)[;.]$", re.M)
 
 
 def text(name: str) -> str:
@@ -235,7 +234,7 @@ def check_faults(checks: Checks):
 
 
 def check_features(checks: Checks):
-    """The features of bounce(8): the counts of the rows, the settings, and what is passed on. A setting in a row that
+    """The features of bounce(8): the counts of the rows, and the settings. A setting in a row that
     says `same` is read by the script, unless another program of Postfix has it. The script warns of a setting in use
     only if its row says that it isn't honoured, and of each such setting."""
     page = text("docs/bounce-features.md")
@@ -253,9 +252,6 @@ def check_features(checks: Checks):
     checks.equal("settings that are said to be honoured, and aren't read", found["same"] - read, set())
     checks.equal("settings that are said to be honoured, and warned of", found["same"] & warned, set())
     checks.equal("settings that are warned of, and not named", warned - found["differs"] - found["not there"], set())
-    passed_on = [it[0] for it in rows if it[2] == "passed on"]
-    listed = ITEM.findall(between(text("docs/postfix.md"), "## What is passed on", "\n**"))
-    checks.equal("what is passed on, in docs/postfix.md", passed_on, listed)
 
 
 def main():

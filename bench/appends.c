@@ -1,7 +1,8 @@
 /* Clients that ask at once, each for one append after another, and wait for each answer: `appends frames SOCKET FILE..` over one
-   connection each, with the frames that a file has; `appends requests SOCKET FILE..` over a connection for each request to
-   bounce(8), as Postfix's programs do, with the requests that a file has, each behind its length in four bytes. It prints how
-   many were answered that they are kept, and the seconds from the first to the last. */
+   connection each, with the frames that a file has; `appends sessions SOCKET FILE..` over a connection for each frame;
+   `appends requests SOCKET FILE..` over a connection for each request to bounce(8), as Postfix's programs do, with the requests
+   that a file has, each behind its length in four bytes. It prints how many were answered that they are kept, and the seconds
+   from the first to the last. */
 #define _GNU_SOURCE
 #include <pthread.h>
 #include <stdint.h>
@@ -26,7 +27,7 @@ struct client {
 };
 
 static struct sockaddr_un place = {.sun_family = AF_UNIX};
-static int by_frames;
+static int keeps, by_frames; /* the connection; as the daemon takes them */
 
 static void fail(const char *what)
 {
@@ -80,32 +81,38 @@ static size_t length_at(const unsigned char *bytes)
     return (size_t)bytes[0] << 24 | (size_t)bytes[1] << 16 | (size_t)bytes[2] << 8 | bytes[3];
 }
 
-/* One request over a connection of its own: whether bounce(8) answered that it is kept. */
-static int asked(const unsigned char *bytes, size_t size)
+/* One frame over a connection: whether it was answered that it is kept. */
+static int asked_by_frame(int to, const unsigned char *frame, size_t size)
+{
+    unsigned char answer[ANSWER];
+    send_all(to, frame, size);
+    return heard(to, answer, ANSWER) == ANSWER && answer[5] == LOGGED;
+}
+
+/* One request of bounce(8) over a connection: whether it was answered that it is kept. */
+static int asked_by_request(int to, const unsigned char *request, size_t size)
 {
     unsigned char said[512];
-    int to = connected();
-    size_t length;
-    send_all(to, bytes, size);
-    length = heard(to, said, sizeof said);
-    close(to);
-    return memmem(said, length, DONE, sizeof DONE - 1) != NULL;
+    send_all(to, request, size);
+    return memmem(said, heard(to, said, sizeof said), DONE, sizeof DONE - 1) != NULL;
 }
 
 static void *ask_all(void *of)
 {
     struct client *client = of;
-    unsigned char answer[ANSWER];
-    int to = by_frames ? connected() : -1;
+    int to = -1;
     for (size_t at = 0, size; at < client->size; at += 4 + size) {
         size = length_at(client->bytes + at);
-        if (by_frames) {
-            send_all(to, client->bytes + at, 4 + size);
-            client->kept += heard(to, answer, ANSWER) == ANSWER && answer[5] == LOGGED;
-        } else
-            client->kept += asked(client->bytes + at + 4, size);
+        if (to < 0)
+            to = connected();
+        client->kept += by_frames ? asked_by_frame(to, client->bytes + at, 4 + size)
+                                  : asked_by_request(to, client->bytes + at + 4, size);
+        if (!keeps) {
+            close(to);
+            to = -1;
+        }
     }
-    if (by_frames)
+    if (to >= 0)
         close(to);
     return NULL;
 }
@@ -131,7 +138,8 @@ int main(int count, char **words)
     double began;
     if (many < 1 || many > MOST || strlen(words[2]) >= sizeof place.sun_path)
         return 2;
-    by_frames = !strcmp(words[1], "frames");
+    keeps = !strcmp(words[1], "frames");
+    by_frames = keeps || !strcmp(words[1], "sessions");
     strcpy(place.sun_path, words[2]);
     for (int it = 0; it < many; it++)
         take(&clients[it], words[3 + it]);

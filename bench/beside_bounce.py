@@ -1,13 +1,13 @@
 """Measures appends that are kept: `noticed serve --journal` beside Postfix's own bounce(8), on the same disk, with 1, 4
-and 16 clients at once (bench/appends.c), each of which waits for an answer before it asks again. A client of the daemon
-keeps its connection; one of bounce(8) makes a connection for each request, as Postfix's programs do. The two take
-turns, since a disk's rates swing: the median of the runs is shown, and between which bounds they lay. It needs gcc, and
-as root Debian's postfix, of which it runs an instance of its own, without mail.
+and 16 clients at once (bench/appends.c), each of which waits for an answer before it asks again. A client of bounce(8)
+makes a connection for each request, as Postfix's programs do; those of the daemon keep theirs, and in runs of their own
+make one for each request too. All take turns, since a disk's rates swing: the median of the runs is shown, and between
+which bounds they lay. It needs gcc, and as root Debian's postfix, of which it runs an instance of its own, without mail.
 
-    python3 -m bench.beside_bounce [REQUESTS [FOLDER]]
+    python3 -m bench.beside_bounce [REQUESTS [FOLDER [MILLISECONDS]]]
 
 REQUESTS is the number of requests of a run (default 8,000). FOLDER is on the disk to be measured (default /var/tmp);
-Postfix's account must be able to reach it.
+Postfix's account must be able to reach it. Each sync takes MILLISECONDS more (default 0).
 """
 import os
 import shutil
@@ -18,9 +18,9 @@ import tempfile
 import time
 from pathlib import Path
 
+from tests.support.preloading import slow_syncs
 from tests.support.running import ROOT, program
 from vectors import frames
-
 
 CLIENTS, RUNS, LOG = (1, 4, 16), 5, 100  # a log has so many outcomes
 HEARD = b"550 5.1.1 <no.bob>: no such user here"
@@ -38,6 +38,7 @@ inet_interfaces = loopback-only
 alias_maps =
 maillog_file = {room}/log
 maillog_file_prefixes = {room}
+import_environment = MAIL_CONFIG {slow}
 """
 MASTER = "bounce unix - - n - 0 bounce\npostlog unix-dgram n - n - 1 postlogd\n"
 
@@ -47,12 +48,26 @@ def queue_id(run: int, client: int, at: int) -> bytes:
     return b"4%03X%02X%06X" % (run, client, at // LOG)
 
 
-def frame(run: int, client: int, at: int) -> bytes:
-    """An append as the daemon takes it."""
+def frame(run: int, client: int, at: int, number: int | None = None) -> bytes:
+    """An append as the daemon takes it, with the number that it has in its session."""
     recipient = b"no.bob%d@example.org" % at
     return frames.append(
-        at, 1, queue_id(run, client, at), recipient, 1, b"5.1.1", b"rfc822;" + recipient, b"127.0.0.1", HEARD, b""
+        at if number is None else number,
+        1,
+        queue_id(run, client, at),
+        recipient,
+        1,
+        b"5.1.1",
+        b"rfc822;" + recipient,
+        b"127.0.0.1",
+        HEARD,
+        b"",
     )
+
+
+def first_frame(run: int, client: int, at: int) -> bytes:
+    """The same append as the first of its session."""
+    return frame(run, client, at, 0)
 
 
 def request(run: int, client: int, at: int) -> bytes:
@@ -91,41 +106,31 @@ def rate(room: Path, kind: str, socket: Path, made, run: int, clients: int, tota
     return int(kept) / float(seconds)
 
 
-def of_daemon(room: Path, run: int, clients: int, total: int) -> float:
-    """Those of a daemon over a new journal."""
+def of_daemon(room: Path, kind: str, made, run: int, clients: int, total: int) -> float:
+    """Those of a daemon over a new journal, once it has answered a first request."""
     folder, socket = Path(tempfile.mkdtemp(dir=room)), room / "socket"
-    words = [
-        program(),
-        "serve",
-        "--journal",
-        folder,
-        "--outbox",
-        folder / "outbox",
-        socket,
-        "mx.example.net",
-        clients,
-        1,
-    ]
+    words = [program(), "serve", "--journal", folder, "--outbox", folder / "outbox"]
+    words += [socket, "mx.example.net", clients, total + 1]
     with subprocess.Popen(list(map(str, words)), stdout=subprocess.DEVNULL, stderr=subprocess.DEVNULL) as daemon:
         while not socket.exists():
             time.sleep(0.01)
-        time.sleep(0.5)
-        found = rate(room, "frames", socket, frame, run, clients, total)
-        daemon.wait()
+        rate(room, "sessions", socket, first_frame, 0, 1, 1)
+        found = rate(room, kind, socket, made, 1 + run, clients, total)
+        daemon.kill()
     shutil.rmtree(folder)
-    socket.unlink(missing_ok=True)
+    socket.unlink()
     return found
 
 
 class Postfix:
     """An instance of Postfix that has no more than its bounce(8)."""
 
-    def __init__(self, room: Path):
+    def __init__(self, room: Path, slow: str):
         self.conf, self.queue = room / "conf", room / "queue"
         for it in (self.conf, self.queue, room / "data"):
             it.mkdir()
         shutil.chown(room / "data", "postfix")
-        (self.conf / "main.cf").write_text(MAIN.format(room=room))
+        (self.conf / "main.cf").write_text(MAIN.format(room=room, slow=slow))
         (self.conf / "master.cf").write_text(MASTER)
 
     def ask(self, word: str):
@@ -148,9 +153,20 @@ def shown(rates: list) -> str:
     return f"{statistics.median(rates):,.0f} ({min(rates):,.0f} to {max(rates):,.0f})"
 
 
+def compare(room: Path, bounce: Path, clients: int, total: int):
+    """Runs of all sides in turns with so many clients, and what they gave."""
+    found = {"noticed": [], "noticed, reconnecting": [], "bounce(8)": []}
+    for run in range(RUNS):
+        found["noticed"].append(of_daemon(room, "frames", frame, run, clients, total))
+        found["noticed, reconnecting"].append(of_daemon(room, "sessions", first_frame, run, clients, total))
+        found["bounce(8)"].append(rate(room, "requests", bounce, request, 16 * clients + run, clients, total))
+    rates = "; ".join(f"{name} {shown(rates)} a second" for name, rates in found.items())
+    print(f"{clients} clients: {rates}", flush=True)
+
+
 def main():
-    total = int(sys.argv[1]) if len(sys.argv) > 1 else 8_000
-    place = sys.argv[2] if len(sys.argv) > 2 else "/var/tmp"
+    given = dict(enumerate(sys.argv[1:]))
+    total, place, more = int(given.get(0, 8_000)), given.get(1, "/var/tmp"), given.get(2, "0")
     if os.geteuid() or not shutil.which("postfix") or not shutil.which("gcc"):
         sys.exit("this needs root, gcc and Debian's postfix: apt-get install postfix gcc")
     print(f"{len(os.sched_getaffinity(0))} processors, load {os.getloadavg()[0]:.1f}")
@@ -160,19 +176,9 @@ def main():
         subprocess.run(
             ["gcc", "-O2", "-Wall", "-Wextra", "-pthread", "-o", room / "appends", ROOT / "bench/appends.c"], check=True
         )
-        with Postfix(room) as bounce:
+        with Postfix(room, "" if more == "0" else slow_syncs(room, more)) as bounce:
             for clients in CLIENTS:
-                found = {"noticed": [], "bounce(8)": []}
-                for run in range(RUNS):
-                    found["noticed"].append(of_daemon(room, run, clients, total))
-                    found["bounce(8)"].append(
-                        rate(room, "requests", bounce, request, 16 * clients + run, clients, total)
-                    )
-                print(
-                    f"{clients} clients: "
-                    + "; ".join(f"{name} {shown(rates)} a second" for name, rates in found.items()),
-                    flush=True,
-                )
+                compare(room, bounce, clients, total)
 
 
 if __name__ == "__main__":

@@ -20,7 +20,7 @@ import tempfile
 import time
 from pathlib import Path
 
-from tests.support.preloading import built
+from tests.support.preloading import slow_syncs
 from tests.support.private_postfix import Postfix, comes_true, free_ports, is_open, lacks
 from tests.support.running import program, run
 
@@ -73,14 +73,6 @@ def of_postfix(postfix: Postfix) -> float:
 def of_front(postfix: Postfix) -> float:
     """The processor seconds of the program in front."""
     return sum(processor_time(postfix.front.running.pid)) if postfix.front else 0.0
-
-
-def slow_syncs(room: str, milliseconds: str) -> dict:
-    """The settings of a Postfix whose syncs take longer. What this script starts has such syncs too."""
-    Path(room).chmod(0o755)
-    slow = {"LD_PRELOAD": str(built(room, "slow")), "MILLISECONDS": milliseconds}
-    os.environ.update(slow)
-    return {"import_environment": " ".join(["MAIL_CONFIG", *(f"{name}={value}" for name, value in slow.items())])}
 
 
 def one_run(serves, messages: int, place, settings: dict) -> tuple:
@@ -138,7 +130,8 @@ def main():
         sides["noticed"] = program()
     figures = {name: [] for name in sides}
     with tempfile.TemporaryDirectory() as room:
-        settings = {} if more == "0" else slow_syncs(room, more)
+        Path(room).chmod(0o755)  # Postfix's account reads the library there
+        settings = {} if more == "0" else {"import_environment": f"MAIL_CONFIG {slow_syncs(room, more)}"}
         for _ in range(int(runs)):
             for name, serves in sides.items():
                 figures[name].append(one_run(serves, int(messages), place, settings))

@@ -20,6 +20,14 @@ def built(room, name: str) -> Path:
     return library
 
 
+def slow_syncs(room, milliseconds: str) -> str:
+    """Makes each sync of a file take so much more, in the processes that are started from here. Returns the variables
+    as Postfix imports them."""
+    slow = {"LD_PRELOAD": str(built(room, "slow")), "MILLISECONDS": milliseconds}
+    os.environ.update(slow)
+    return " ".join(f"{name}={value}" for name, value in slow.items())
+
+
 def preloading(library: Path, **variables) -> dict:
     """The environment of a run with this library, which reads what it is to do from variables."""
     return {**os.environ, "LD_PRELOAD": str(library), **{name: str(value) for name, value in variables.items()}}

@@ -1,3 +1,4 @@
 mod PathExamples
 pub mod OwnServiceLemmas
 pub mod PathLemmas
+mod ServicePathExamples

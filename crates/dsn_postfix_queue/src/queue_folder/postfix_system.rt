@@ -12,7 +12,9 @@ use crate::queue_folder::message_file::{LARGE, mark_done, open_shared, read_larg
 use crate::queue_folder::notice_words::{FAILURE_NOTICE, is_discarded, notice_kind};
 use crate::queue_folder::own_service::ask_own_service;
 use crate::queue_folder::postfix_setup::PostfixSetup;
-use crate::queue_folder::queue_files::{log_elsewhere, log_path, path_of, reported_change};
+use crate::queue_folder::queue_files::{
+    log_elsewhere, log_path, own_socket_path, path_of, reported_change,
+};
 use crate::queue_folder::service_name::service_name;
 use dsn_device::{Connection, Plain};
 use dsn_postfix::{PostfixRequest, QueueName};
@@ -107,8 +109,7 @@ fn own_service(
     place: &PostfixSetup<'_>,
     service: Service,
 ) -> io::Result<Connection<UnixStream>> {
-    let name = service_name(service);
-    let path = format!(in rt.alloc(); "{}/private/{name}", place.queues.root)?;
+    let path = own_socket_path(rt.alloc(), place.queues.root, service)?;
     let stream = UnixStream::connect(rt, path.as_str())?;
     let limit = Duration::from_secs(SECONDS_FOR_OWN_SERVICE);
     stream.set_read_timeout(Some(limit))?;

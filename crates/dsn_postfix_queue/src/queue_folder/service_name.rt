@@ -1,8 +1,13 @@
 //! The names of services and of their sockets.
+ghost use Rattle.std.specs.Prelude.{◌≡◌};
+ghost use Rattle.dsn_postfix_queue.specs.inner.ServicePaths.{service_name};
+
 use dsn_text::Service;
 
 /// The name of a service, of its folder of logs and of Postfix's own socket.
-pub(super) fn service_name(service: Service) -> &'static str {
+pub(super) fn service_name(service: Service) -> &'static str
+    ensures { result.now ≡ service_name service }
+{
     match service {
         Service::Bounce => "bounce",
         Service::Defer => "defer",

@@ -4,6 +4,7 @@
 
 mod event_log;
 mod queue_folder;
+mod system_time;
 
 pub use event_log::EventLog;
 pub use queue_folder::{
@@ -11,3 +12,4 @@ pub use queue_folder::{
     QueueFault, QueueFolder, ascii_text, ask_own_service, asked_text, check_queues, depth_against,
     path_in_queue, socket_name,
 };
+pub use system_time::stamp_of;

@@ -14,6 +14,7 @@ use dsn_postfix::{decode_postfix_request, encode_status};
 use dsn_postfix_notices::{
     MailSystem, NOT_CARRIED_OUT, PassReason, RequestTerms, ServiceSettings, answer_request, pass_on,
 };
+use dsn_postfix_queue::stamp_of;
 use dsn_smtp::say;
 use dsn_text::{NoMemory, Service, Stamp};
 use std::alloc::Global;
@@ -117,11 +118,8 @@ fn say_status<S: Stream>(alloc: Global, stream: &mut S, status: u32) -> Result<u
 
 /// The clock's time. Returns `None` if the clock fails, or if no date can have that time.
 fn moment_now<R: Clock>(rt: &R) -> Option<Stamp> {
-    let Ok(now) = SystemTime::now(rt) else {
-        return None;
-    };
-    match now.duration_since(SystemTime::UNIX_EPOCH) {
-        Ok(since) => Stamp::new(since.as_secs()),
+    match SystemTime::now(rt) {
+        Ok(now) => stamp_of(now),
         Err(_) => None,
     }
 }

@@ -40,6 +40,15 @@ def put_messages(it: Postfix, count: int) -> list:
     return ids
 
 
+def put_deferred(it: Postfix, messages: list):
+    """Gives messages a defer log in place of their bounce log."""
+    it.at("defer/A").mkdir()
+    for message in messages:
+        it.at(f"bounce/{message}").unlink()
+        for place, name in ((f"deferred/A/{message}", "queue"), (f"defer/A/{message}", "defer")):
+            it.at(place).write_bytes((FILES / "later" / name).read_bytes())
+
+
 def expect_appends(checks: Checks, it: Postfix, while_: str, services=("bounce", "defer", "trace")):
     """An append to each service is answered within a second."""
     for service in services:
@@ -77,14 +86,17 @@ def check_one_log(checks: Checks):
 
 
 def check_slow_server(checks: Checks):
-    """A server that takes its time: some notices are handed in side by side, and others wait; no append does."""
+    """A server that takes its time: some notices of two services are handed in side by side, and others wait; no append
+    does."""
     with Postfix() as it:
         go, waiting, statuses = threading.Event(), [], []
         it.server.waits["message"] = lambda: (waiting.append(1), go.wait(30))
         ids = put_messages(it, 60)
+        put_deferred(it, ids[:30])
+        asked = [*(("defer", message) for message in ids[:30]), *(("bounce", message) for message in ids[30:])]
         asking = threading.Thread(
             target=lambda: statuses.extend(
-                at_once(*(lambda message=message: it.ask("bounce", notice(1, message)) for message in ids))
+                at_once(*(lambda of=of, message=message: it.ask(of, notice(1, message)) for of, message in asked))
             )
         )
         asking.start()
@@ -115,11 +127,7 @@ class Hanging:
         self.postfix.server.waits["connect"] = self.end.wait
         ids = put_messages(self.postfix, TELLING + WAITING + FURTHER + OTHERS)
         self.ids, self.others = ids[:-OTHERS], ids[-OTHERS:]
-        self.postfix.at("defer/A").mkdir()
-        for message in self.others:
-            self.postfix.at(f"bounce/{message}").unlink()
-            for place, name in ((f"deferred/A/{message}", "queue"), (f"defer/A/{message}", "defer")):
-                self.postfix.at(place).write_bytes((FILES / "later" / name).read_bytes())
+        put_deferred(self.postfix, self.others)
         self.statuses = self.ask("bounce", self.ids)
 
     def ask(self, service: str, messages: list) -> list:

@@ -16,6 +16,9 @@ fn count_says_how_many_letters_are_marked(rt: HostRuntime) -> Result<(), Fail> {
     mark_in_turn(alloc, &mut marks, 2)?;
     count.note(MarkedLetters::of(&marks));
     same(&rt, (count.reaches(2), count.reaches(3)), (true, true));
+    // A count that is too high would be that of a letter which a crash loses. This one isn't marked
+    // in the five seconds that it is waited for.
+    same(&rt, count.reaches(4), false);
     // From now on no letter will be marked.
     count.stop();
     same(&rt, (count.reaches(0), count.reaches(3)), (false, false));

@@ -11,6 +11,7 @@ use dsn_book::Keeper;
 use dsn_outcome::Letter;
 use std::snapshot::Snapshot;
 use std::sync::Wait;
+use std::time::Clock;
 
 /// What is left of a collector whose run was broken off. Its halves are dropped, so that no agent
 /// waits for them.
@@ -49,8 +50,8 @@ impl<B: Keeper + Drop> BrokenOff<B> {
 
 /// Takes the agents' requests until all agents are gone. Returns the collector, or what is left of
 /// it if it fails.
-pub(crate) fn collect<B: Keeper + Drop>(
-    rt: &impl Wait,
+pub(crate) fn collect<R: Wait + Clock, B: Keeper + Drop>(
+    rt: &R,
     desk: Desk<B>,
     sink: &mut LetterSink,
 ) -> Result<Desk<B>, BrokenOff<B>>

@@ -26,6 +26,7 @@ use std::alloc::Global;
 use std::sync::Wait;
 use std::thread;
 use std::thread::{Scope, Threads};
+use std::time::Clock;
 
 /// The largest number of ports.
 const MOST_PORTS: usize = 16;
@@ -43,7 +44,7 @@ const MOST_PORTS: usize = 16;
 ///
 /// Requires that each port may be asked. None is asked again that was done or failed.
 pub fn run_crew<
-    R: Threads + Wait + Sync,
+    R: Threads + Wait + Clock + Sync,
     P: Port + Drop + Send,
     W: Drain + Drop + Send,
     G: Gate + Sync,
@@ -102,16 +103,17 @@ fn empty_book(alloc: Global, limits: Limits, ports: usize) -> Result<Book, Breac
 /// has these requests of the keeper's own, exactly where `history_under` says. They answer no agent
 /// and seal no letter; `taken` has the agents' requests alone.
 ///
-/// Requests that wait are kept together, up to 16. Beside the errors of [`run_crew`], it returns
-/// `Unkept` (45) if requests were not kept. Then none of them is carried out or answered, nor is
-/// any later request. A fault returns the keeper.
+/// Requests that wait are kept together, up to 16. If that took half a millisecond or more, the
+/// agents of the group are awaited for the next, for half that time and at most 10 ms. Beside the
+/// errors of [`run_crew`], it returns `Unkept` (45) if requests were not kept. Then none of them is
+/// carried out or answered, nor is any later request. A fault returns the keeper.
 ///
 /// After a crash at any moment of the run, a later run reopens to the history with a prefix of the
 /// requests that were taken, and to no other. Each request is in that prefix before its answer is
 /// sent. Requires that fewer than 2^63 letters were sealed before, that there is a history to begin
 /// with, after which no kept request waits, and that no letter is unsent.
 pub fn run_crew_over<
-    R: Threads + Wait + Sync,
+    R: Threads + Wait + Clock + Sync,
     B: Keeper + Drop,
     P: Port + Drop + Send,
     O: Outlet + Drop + Send,
@@ -152,7 +154,7 @@ pub fn run_crew_over<
 fn run_in<
     's,
     E: 's,
-    R: Threads + Wait + Sync,
+    R: Threads + Wait + Clock + Sync,
     B: Keeper + Drop,
     P: Port + Drop + Send + 's,
     O: Outlet + Drop + Send + 's,

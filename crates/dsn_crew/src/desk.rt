@@ -1,6 +1,7 @@
 //! The desk: the one collector that answers the agents' requests over lanes, how it is opened with
 //! its agents, and how it is closed with them.
 mod answer_lane;
+mod awaited;
 mod close;
 mod crew_open_fault;
 mod crew_shut;

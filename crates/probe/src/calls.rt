@@ -13,11 +13,12 @@ mod texts;
 
 use std::alloc::Global;
 use std::sync::Wait;
+use std::time::Clock;
 
 /// Makes the call of this name, and shows its result. Returns `None` if no such call is known, if a
 /// value before it could not be made, or if a line can't be written.
 pub(crate) fn show_call(
-    rt: &(impl Print + Wait),
+    rt: &(impl Print + Wait + Clock),
     alloc: Global,
     name: &str,
     text: Option<&str>,
@@ -34,7 +35,7 @@ pub(crate) fn show_call(
 
 /// The result of a call: 0, or the number of its refusal. Returns `None` if no such call is known,
 /// or if a value before it could not be made.
-fn come_to(rt: &(impl Print + Wait), alloc: Global, name: &str) -> Option<u32> {
+fn come_to(rt: &(impl Print + Wait + Clock), alloc: Global, name: &str) -> Option<u32> {
     match name {
         "address" => texts::address(rt, alloc),
         "mta-name" => texts::mta_name(rt, alloc),

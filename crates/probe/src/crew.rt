@@ -23,12 +23,13 @@ use show::{show_account, show_fault};
 use std::alloc::Global;
 use std::sync::Wait;
 use std::thread::Threads;
+use std::time::Clock;
 
 /// The room for the outbox, in bytes: the notice of a few outcomes takes no memory beyond it.
 const ROOM: usize = 65_536;
 
 /// Runs a crew of the given number of agents over connections that ask.
-pub(crate) fn run_peers<R: Threads + Wait + Print + Sync>(
+pub(crate) fn run_peers<R: Threads + Wait + Clock + Print + Sync>(
     rt: &R,
     alloc: Global,
     agents: u32,
@@ -43,7 +44,7 @@ pub(crate) fn run_peers<R: Threads + Wait + Print + Sync>(
 }
 
 /// Runs a crew of one agent over the connections whose bytes are given.
-pub(crate) fn run_given<R: Threads + Wait + Print + Sync>(
+pub(crate) fn run_given<R: Threads + Wait + Clock + Print + Sync>(
     rt: &R,
     alloc: Global,
     sent: &[u8],
@@ -62,7 +63,7 @@ pub(crate) fn run_given<R: Threads + Wait + Print + Sync>(
 
 /// Runs a crew over these ports, and shows the result. Returns `None` if the memory to begin was
 /// refused, or if a line can't be written.
-fn run<R: Threads + Wait + Print + Sync, P: Port + Drop + Send>(
+fn run<R: Threads + Wait + Clock + Print + Sync, P: Port + Drop + Send>(
     rt: &R,
     alloc: Global,
     ports: Vec<P>,

@@ -23,6 +23,7 @@ use dsn_outcome::{Answer, Letter, Request};
 use std::marker::Model;
 use std::snapshot::Snapshot;
 use std::sync::Wait;
+use std::time::Clock;
 
 /// The collector of a crew. It takes the agents' requests that wait and has its keeper keep them
 /// together. The keeper then carries them out by its rules, one after another, and the collector
@@ -142,7 +143,7 @@ impl<B: Keeper> Desk<B> {
     /// too if the requests weren't kept; none of them is then carried out. Returns `Answers` if the
     /// agent that asked is gone. After an error the collector has failed. If requests weren't kept,
     /// the keeper is as its `refuses` says.
-    pub fn take_one(&mut self, rt: &impl Wait) -> Result<Option<Letter>, DeskFault>
+    pub fn take_one<R: Wait + Clock>(&mut self, rt: &R) -> Result<Option<Letter>, DeskFault>
         requires some_left { all_gone self.old ≡ false }
         ensures taken { (before : List Exchange) → BeginsWith B.Keeper self.old.start before
             → IsRequestTaken B.Keeper before self.old self.new result }
@@ -173,7 +174,7 @@ impl<B: Keeper> Desk<B> {
     ///
     /// Returns `Requests` if no agent is left to ask, and if they weren't kept; then the collector has
     /// failed.
-    fn keep_more(&mut self, rt: &impl Wait) -> Result<(), DeskFault>
+    fn keep_more<R: Wait + Clock>(&mut self, rt: &R) -> Result<(), DeskFault>
         requires some_left { all_gone self.old ≡ false }
         requires going { self.old.failed ≡ false }
         requires idle { self.old.behind ≡ [] }
@@ -188,7 +189,7 @@ impl<B: Keeper> Desk<B> {
             self.stop = Some(Breach::AgentGone(gone));
             return Err(DeskFault::Requests);
         }
-        if let Err(why) = self.intake.keep_by(&mut self.book) {
+        if let Err(why) = self.intake.keep_by(rt, &mut self.book) {
             // It isn't known which of them are on the disk, so no answer about them would be true.
             self.stop = Some(Breach::Unkept(why));
             return Err(DeskFault::Requests);
@@ -238,7 +239,7 @@ impl<B: Keeper> Desk<B> {
     /// Returns what [`Desk::take_one`] does if it fails, and `Letters` if the sink is gone or takes no
     /// more. Then the collector has failed.
     #[tactic(auto, using(crate::proofs::desk::Rules::runs))]
-    pub fn run<K: Sink>(&mut self, rt: &impl Wait, sink: &mut K) -> Result<(), DeskFault>
+    pub fn run<R: Wait + Clock, K: Sink>(&mut self, rt: &R, sink: &mut K) -> Result<(), DeskFault>
         ensures run { (before : List Exchange) → BeginsWith B.Keeper self.old.start before
             → IsRun B.Keeper before K.takes self.old self.new sink.old sink.new result }
         ensures start { self.new.start ≡ self.old.start }
@@ -261,7 +262,7 @@ impl<B: Keeper> Desk<B> {
 
     /// Takes one request, answers it, and passes the letter that it sealed to `sink`.
     #[tactic(auto, using(crate::proofs::desk::Rules::takes))]
-    fn hand_one<K: Sink>(&mut self, rt: &impl Wait, sink: &mut K) -> Result<(), DeskFault>
+    fn hand_one<R: Wait + Clock, K: Sink>(&mut self, rt: &R, sink: &mut K) -> Result<(), DeskFault>
         requires some_left { all_gone self.old ≡ false }
         requires kept { IsDesk B.Keeper self.old }
         ensures run { (before : List Exchange) → BeginsWith B.Keeper self.old.start before

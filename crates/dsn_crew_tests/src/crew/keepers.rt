@@ -35,7 +35,7 @@ pub(super) type Ended<B> = (Option<CrewCause>, Option<B>);
 
 /// Runs a crew over these ports and this keeper, whose outbox is written here.
 // The outbox is of any type, since one of a given type isn't seen to be one for another thread.
-pub(super) fn run_ports<R: Threads + Wait + Sync, B: Keeper + Drop, W: Drain + Drop + Send>(
+pub(super) fn run_ports<R: Threads + Wait + Clock + Sync, B: Keeper + Drop, W: Drain + Drop + Send>(
     rt: &R,
     alloc: Global,
     keeper: B,
@@ -54,7 +54,7 @@ pub(super) fn run_ports<R: Threads + Wait + Sync, B: Keeper + Drop, W: Drain + D
 }
 
 /// Runs a crew of one agent, who appends twice to one log.
-fn run_keeper<R: Threads + Wait + Sync, B: Keeper + Drop>(
+fn run_keeper<R: Threads + Wait + Clock + Sync, B: Keeper + Drop>(
     rt: &R,
     alloc: Global,
     keeper: B,
@@ -70,7 +70,7 @@ fn run_keeper<R: Threads + Wait + Sync, B: Keeper + Drop>(
 }
 
 /// The result of a crew over a keeper that keeps one request and no more.
-fn run_refusing<R: Threads + Wait + Sync>(
+fn run_refusing<R: Threads + Wait + Clock + Sync>(
     rt: &R,
     alloc: Global,
 ) -> Result<(Option<CrewCause>, Refusing), Fail> {

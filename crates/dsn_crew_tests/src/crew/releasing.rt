@@ -16,6 +16,7 @@ use std::sync::Wait;
 use std::sync::atomic::AtomicU8;
 use std::test::Fail;
 use std::thread::Threads;
+use std::time::Clock;
 
 /// One client's requests, if two keys may be held. K2 is closed before K1. So K3 makes room by K2,
 /// and K1 is closed still; K4 makes room by K1; then both held keys are open, and nothing makes room
@@ -52,7 +53,7 @@ const TABLE_FULL: u8 = 3;
 const DISCARDED: u8 = 8;
 
 /// The result of a crew of one agent, whose client sends these requests.
-fn run_releasing<R: Threads + Wait + Sync>(
+fn run_releasing<R: Threads + Wait + Clock + Sync>(
     rt: &R,
     alloc: Global,
     heard: &[AtomicU8],

@@ -7,6 +7,7 @@ ghost use Rattle.dsn_crew.specs.desk.Desk.{all_gone};
 use dsn_crew::{Desk, Sink};
 use dsn_outcome::Letter;
 use std::sync::Wait;
+use std::time::Clock;
 
 /// A sink that takes no letter.
 #[derive(Drop)]
@@ -21,7 +22,7 @@ impl Sink for NoLetters {
 }
 
 /// The collector once all its agents said goodbye.
-pub(super) fn collect(rt: &impl Wait, desk: Desk) -> Option<Desk>
+pub(super) fn collect(rt: &(impl Wait + Clock), desk: Desk) -> Option<Desk>
     ensures gone { IfSome result (λ desk. all_gone desk ≡ true) }
     ensures crew { IfSome result (λ after. (crew : List LaneHalves) → AreCrew crew desk → AreCrew crew after) }
 {

@@ -7,6 +7,7 @@ use dsn_crew::{Agent, Desk, open_crew};
 use std::alloc::Global;
 use std::sync::Wait;
 use std::test::Fail;
+use std::time::Clock;
 
 /// A crew of two.
 fn opened(rt: &impl Wait, alloc: Global) -> Option<(Vec<Agent>, Desk)> {
@@ -41,7 +42,7 @@ fn agent_without_its_collector_is_lost(rt: HostRuntime) {
 
 /// Whether a collector takes a request whose agents are gone without a goodbye, twice, and whether it
 /// says then that all said goodbye.
-fn without_agents(rt: &impl Wait, alloc: Global) -> Option<[bool; 3]> {
+fn without_agents(rt: &(impl Wait + Clock), alloc: Global) -> Option<[bool; 3]> {
     let (agents, mut desk) = opened(rt, alloc)?;
     drop(agents);
     let first = takes_one(rt, &mut desk);

@@ -17,6 +17,7 @@ use std::sync::Wait;
 use std::test::Fail;
 use std::thread;
 use std::thread::Threads;
+use std::time::Clock;
 
 /// What two agents were answered, each of which may ask once.
 #[derive(Drop)]
@@ -52,7 +53,7 @@ fn ask_and_leave(rt: &impl Wait, alloc: Global, first: Agent, second: Agent) -> 
 type Ended = (Reply, u32, u32, Book);
 
 /// The result of a crew of two.
-fn two_agents<R: Threads + Wait + Sync>(
+fn two_agents<R: Threads + Wait + Clock + Sync>(
     rt: &R,
     alloc: Global,
     crew: Vec<Agent>,
@@ -79,7 +80,7 @@ fn two_agents<R: Threads + Wait + Sync>(
 }
 
 /// The same of a crew that was just opened.
-fn limit_of_one<R: Threads + Wait + Sync>(rt: &R, alloc: Global) -> Option<Ended> {
+fn limit_of_one<R: Threads + Wait + Clock + Sync>(rt: &R, alloc: Global) -> Option<Ended> {
     let limits = Limits::new(8, 8, 1)?;
     let Ok((crew, desk)) = open_crew(rt, alloc, limits, 2) else {
         return None;

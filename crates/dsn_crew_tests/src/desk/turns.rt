@@ -2,10 +2,11 @@
 use dsn_book::Keeper;
 use dsn_crew::Desk;
 use std::sync::Wait;
+use std::time::Clock;
 
 /// Whether a collector takes one request and answers it. (A fault is dropped by its letter: a fault as
 /// a whole takes long to prove.)
-pub(super) fn takes_one<B: Keeper>(rt: &impl Wait, desk: &mut Desk<B>) -> bool {
+pub(super) fn takes_one<B: Keeper>(rt: &(impl Wait + Clock), desk: &mut Desk<B>) -> bool {
     if desk.all_gone() {
         return false;
     }

@@ -18,6 +18,7 @@ use dsn_ledger::KeptBook;
 use std::alloc::Global;
 use std::sync::Wait;
 use std::thread::Threads;
+use std::time::Clock;
 
 /// Serves these ports over what was begun. Returns how the run ended, and the disk of the journal.
 /// Notes what `serve_ports` notes, and the number of a fault if a request was not kept (45), which
@@ -26,7 +27,7 @@ use std::thread::Threads;
 /// Requires that fewer than 2^63 letters were sealed, that there is a history to begin with, and that
 /// no letter of the outlet is unsent.
 pub(crate) fn run_over<
-    R: Threads + Wait + Sync,
+    R: Threads + Wait + Clock + Sync,
     P: Port + Drop + Send,
     O: Outlet + Drop + Send,
     D: Replaceable + Drop,

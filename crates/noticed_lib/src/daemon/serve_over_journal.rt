@@ -91,7 +91,7 @@ pub(crate) fn serve_ports_over<
 /// Serves these ports over what was begun, and writes the letters to this outbox.
 // A poster may be sent to a thread if its outbox may be, which is a bound here.
 fn run_outbox<
-    R: Threads + Wait + Sync,
+    R: Threads + Wait + Clock + Sync,
     P: Port + Drop + Send,
     W: Drain + Drop + Send,
     D: Replaceable + Drop,

@@ -17,6 +17,7 @@ use dsn_report::{Outgoing, Site};
 use std::alloc::Global;
 use std::sync::Wait;
 use std::thread::Threads;
+use std::time::Clock;
 
 /// The largest number of ports.
 const MOST_PORTS: usize = 16;
@@ -31,7 +32,7 @@ const MOST_PORTS: usize = 16;
 /// open, or that their list found no memory (9). If the crew ends with a fault (41, 42, 43) it
 /// writes the number and the letters alone. Nothing is written once a line could not be written.
 pub(crate) fn serve_ports<
-    R: Threads + Wait + Sync,
+    R: Threads + Wait + Clock + Sync,
     P: Port + Drop + Send,
     W: Drain + Drop + Send,
     G: Gate + Sync,

@@ -43,7 +43,7 @@ const MOST_AGENTS: u32 = 16;
 /// port fails if an accept fails. No closed key makes room for a new one. If there are not 1 to 16
 /// agents that is noted (43) before any memory is taken; refused memory for the ports is noted as the
 /// crew's is (42).
-pub fn serve<R: Threads + Wait + Sync, W: Drain + Drop + Send, N: Drain>(
+pub fn serve<R: Threads + Wait + Clock + Sync, W: Drain + Drop + Send, N: Drain>(
     rt: &R,
     alloc: Global,
     listener: &UnixListener,
@@ -70,7 +70,12 @@ pub fn serve<R: Threads + Wait + Sync, W: Drain + Drop + Send, N: Drain>(
 
 /// Serves under a watch: each agent is done also once the watch finds that the run is to end. Closed
 /// keys make room for new ones if `serving` has it so. Else it is as [`serve`].
-pub fn serve_watched<R: Threads + Wait + Sync, H: Watch + Sync, W: Drain + Drop + Send, N: Drain>(
+pub fn serve_watched<
+    R: Threads + Wait + Clock + Sync,
+    H: Watch + Sync,
+    W: Drain + Drop + Send,
+    N: Drain,
+>(
     rt: &R,
     alloc: Global,
     listener: &UnixListener,

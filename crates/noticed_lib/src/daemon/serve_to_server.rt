@@ -139,7 +139,7 @@ pub(crate) fn serve_ports_to_server<
 fn run_mail<
     's,
     'r,
-    R: Threads + Wait + Sync,
+    R: Threads + Wait + Clock + Sync,
     P: Port + Drop + Send,
     S: Stream + Drop + Send,
     C: Connect<S> + Drop + Send,

@@ -8,6 +8,7 @@ use dsn_outcome::{Answer, Body, Letter, Letters, Request};
 use dsn_report::{Poster, Site};
 use std::alloc::Global;
 use std::sync::Wait;
+use std::time::Clock;
 
 /// The room for the outbox, in bytes: two notices take no memory beyond it.
 const ROOM: usize = 65_536;
@@ -96,7 +97,7 @@ fn post_all(poster: Poster<Plain<Vec<u8>>>, letters: Letters) -> Option<u32> {
 
 /// Whether a collector runs to its end. A fault is dropped by its letter, since a proof about a
 /// whole fault takes long.
-fn runs(rt: &impl Wait, desk: &mut Desk, kept: &mut Kept) -> bool {
+fn runs(rt: &(impl Wait + Clock), desk: &mut Desk, kept: &mut Kept) -> bool {
     match desk.run(rt, kept) {
         Ok(()) => true,
         Err(fault) => {
@@ -108,7 +109,7 @@ fn runs(rt: &impl Wait, desk: &mut Desk, kept: &mut Kept) -> bool {
 
 /// A collector answers an append and a flush of two logs each, and its two letters are posted.
 /// Returns 0 if all of this succeeds.
-pub(crate) fn collect(rt: &(impl Print + Wait), alloc: Global) -> Option<u32> {
+pub(crate) fn collect(rt: &(impl Print + Wait + Clock), alloc: Global) -> Option<u32> {
     let (heard, mut desk) = asked(rt, alloc)?;
     let site = Site::new(alloc, b"mx.example.net").ok()?;
     let outbox = Vec::with_capacity(alloc, ROOM).ok()?;

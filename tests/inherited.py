@@ -243,10 +243,11 @@ def states(checks: Checks):
             manager.bind("\0" + name if abstract else name)
             manager.settimeout(PATIENCE)
             kept.start(NOTIFY_SOCKET="@" + name if abstract else name, WATCHDOG_USEC="2000000")
-            checks.equal("the first state", manager.recv(100), b"READY=1")
             began = time.monotonic()
-            heard_states = [manager.recv(100) for _ in range(4)]
-            checks.equal("it goes on", heard_states, [b"WATCHDOG=1"] * 4)
+            heard_states = [manager.recv(100) for _ in range(5)]
+            # A thread of its own says that the run goes on, and may be the first.
+            checks.true("it is ready", b"READY=1" in heard_states[:2])
+            checks.equal("it goes on", sorted(heard_states), [b"READY=1"] + [b"WATCHDOG=1"] * 4)
             checks.true("each second, about", 2 < time.monotonic() - began < 12)
             with kept.connect() as client:
                 checks.equal("a client", asked(client, append(0)), answer(1))

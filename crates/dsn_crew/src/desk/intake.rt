@@ -39,8 +39,8 @@ pub(crate) struct Intake {
     behind: VecDeque<Request>,
     /// How many requests it has given.
     count: u32,
-    /// The agents that it waits for. What it takes doesn't depend on them, so contracts don't see
-    /// them.
+    /// The agents that it waits for. They change how many requests it takes at once, which no
+    /// contract says, so contracts don't see them.
     awaited: Awaited,
 }
 

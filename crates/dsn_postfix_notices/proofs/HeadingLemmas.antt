@@ -1,15 +1,16 @@
 -- The receiver of a notice gets the fields in front, and then the notice.
 use Rattle.std.proofs.Common.{◌≡◌, ◌∙◌, ◌<◌, ℕ, Bool, true, false, ◌&&◌, inl, inr, List, [], ◌∷◌, ◌++◌, Option, Some, None, ap, append-nil, append_assoc, arith, codes, length, refl, subst, sym, if◌then◌else◌}
 use Rattle.std.specs.Prelude.{◌==◌, nat_le, nat_lt, not}
-use Rattle.std.specs.List.{list_all, onto_first}
+use Rattle.std.specs.List.{list_all}
 use Rattle.std.proofs.lemmas.Bool.{false≢true}
 use Rattle.std.proofs.lemmas.Bool.Decides.{eqb_tells}
 use Rattle.std.proofs.lemmas.List.Folds.{list_all-append}
 use Rattle.dsn_text.specs.Text.{is_printable}
 use Rattle.dsn_outcome.specs.Letter.{Letter}
 use Rattle.dsn_report.proofs.LineWriterLemmas.{text_of_lines-append}
+use Rattle.dsn_report.proofs.PieceLemmas.{pieces-line}
 use Rattle.dsn_report.specs.Data.{ReceivesData, ends_data, message_lines, without_dot}
-use Rattle.dsn_report.specs.Lines.{begins_with_dot, begins_with_line_feed, longest_line, pieces_more, pieces_of_text, text_of_lines, without_first_byte}
+use Rattle.dsn_report.specs.Lines.{begins_with_dot, longest_line, pieces_of_text, text_of_lines}
 use Rattle.dsn_report.specs.Outbox.{mail_data}
 use Rattle.dsn_postfix.specs.RequestFlags.{is_tls_optional}
 use Rattle.dsn_postfix_files.specs.QueueRecord.{PlacedBytes}
@@ -49,38 +50,6 @@ pub no_tls_pushed : (old : List ℕ) → old ≡ old ++ text_of_lines (tls_lines
 unfolding text_of_lines
 no_tls_pushed old = sym (append-nil old)
 
-pieces-some : (text : List ℕ) → pieces_of_text text ≡ [] → ⊥
-unfolding pieces_of_text pieces_more
-pieces-some [] none = cc
-pieces-some (byte ∷ rest) none = here ((byte == 13) && begins_with_line_feed rest) (pieces_of_text rest) none
-  where
-    here : (test : Bool) (pieces : List (List ℕ)) → (if test then [] ∷ without_first_byte pieces else onto_first byte pieces) ≡ [] → ⊥
-    here true pieces e = cc
-    here false [] e = cc
-    here false (piece ∷ pieces) e = cc
-
-first-back : (byte : ℕ) (pieces : List (List ℕ)) → (pieces ≡ [] → ⊥) → without_first_byte (onto_first byte pieces) ≡ pieces
-first-back byte [] some = absurd (some refl)
-first-back byte (piece ∷ pieces) some = refl
-
--- a CRLF ends a piece
-pieces-end : (rest : List ℕ) → pieces_of_text (13 ∷ 10 ∷ rest) ≡ [] ∷ pieces_of_text rest
-unfolding pieces_of_text pieces_more
-pieces-end rest = ap (λ pieces. [] ∷ pieces) (first-back 10 (pieces_of_text rest) (pieces-some rest))
-
-not-return : (byte : ℕ) → is_printable byte ≡ true → (byte == 13) ≡ false
-not-return byte printable = elim (eqb_tells byte 13) [
-  | inl same ↦ absurd (false≢true (subst (λ b. is_printable b ≡ true) same.1 printable))
-  | inr other ↦ other.0
-]
-
-pieces-line : (line rest : List ℕ) → list_all is_printable line ≡ true → pieces_of_text (line ++ (13 ∷ 10 ∷ rest)) ≡ line ∷ pieces_of_text rest
-unfolding pieces_of_text pieces_more
-pieces-line [] rest printable = pieces-end rest
-pieces-line (byte ∷ line) rest printable =
-    let parts = both (is_printable byte) (list_all is_printable line) printable in
-    rw (not-return byte parts.0, pieces-line line rest parts.1) refl
-
 -- a line without a dot in front is one of the message
 line-kept : (line : List ℕ) (more : List (List ℕ)) → begins_with_dot line ≡ false → (if ends_data line then [] else without_dot line ∷ more) ≡ line ∷ more
 line-kept [] more plain = refl
@@ -98,7 +67,7 @@ received-front (line ∷ lines) rest legal =
     let plain = both (list_all is_printable line) (not (begins_with_dot line)) (both (nat_le (length line) longest_line) _ parts.0).1 in
     let after : List ℕ = text_of_lines lines ++ rest in
     ap received (append_assoc line (13 ∷ 10 ∷ text_of_lines lines) rest)
-    ∙ ap (λ (pieces : List (List ℕ)). text_of_lines (message_lines pieces)) (pieces-line line after plain.0)
+    ∙ ap (λ (pieces : List (List ℕ)). text_of_lines (message_lines pieces)) (pieces-line is_printable refl line after plain.0)
     ∙ ap text_of_lines (line-kept line (message_lines (pieces_of_text after)) (not-so (begins_with_dot line) plain.1))
     ∙ ap (λ (more : List ℕ). line ++ (13 ∷ 10 ∷ more)) (received-front lines rest parts.1)
     ∙ sym (append_assoc line (13 ∷ 10 ∷ text_of_lines lines) (received rest))

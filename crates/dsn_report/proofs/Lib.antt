@@ -14,7 +14,7 @@ pub mod HeaderLemmas
 pub mod LineWriterLemmas
 mod LinesLemmas
 pub mod OutgoingLemmas
-mod PieceLemmas
+pub mod PieceLemmas
 mod PlainLemmas
 mod PlainWordsExamples
 pub mod NoticeTextLemmas

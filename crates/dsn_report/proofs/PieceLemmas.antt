@@ -1,5 +1,5 @@
 -- The pieces of the text of some lines are the lines.
-use Rattle.std.proofs.Common.{◌≡◌, ℕ, Bool, true, false, ◌&&◌, inl, inr, List, [], ◌∷◌, ◌++◌, map, refl, ap, subst, ◌∙◌, if◌then◌else◌}
+use Rattle.std.proofs.Common.{◌≡◌, ℕ, Bool, true, false, ◌&&◌, inl, inr, List, [], ◌∷◌, ◌++◌, map, refl, ap, subst, sym, ◌∙◌, if◌then◌else◌}
 use Rattle.std.specs.Prelude.{◌==◌}
 use Rattle.std.specs.List.{list_all, onto_first}
 use Rattle.std.proofs.lemmas.Bool.{false≢true}
@@ -28,19 +28,20 @@ pieces-end : (rest : List ℕ) → pieces_of_text (13 ∷ 10 ∷ rest) ≡ [] �
 unfolding pieces_of_text pieces_more
 pieces-end rest = ap (λ pieces. [] ∷ pieces) (first-back 10 (pieces_of_text rest) (pieces-some rest))
 
--- no byte of a line is a CR
-not-return : (byte : ℕ) → is_eight_bit_byte byte ≡ true → (byte == 13) ≡ false
-not-return byte legal = elim (eqb_tells byte 13) [
-  | inl same ↦ absurd (false≢true (subst (λ b. is_eight_bit_byte b ≡ true) same.1 legal))
+-- a byte that a test lets through is not a CR, which it refuses
+not-return : (legal : ℕ → Bool) → legal 13 ≡ false → (byte : ℕ) → legal byte ≡ true → (byte == 13) ≡ false
+not-return legal refused byte is = elim (eqb_tells byte 13) [
+  | inl same ↦ absurd (false≢true (sym refused ∙ subst (λ b. legal b ≡ true) same.1 is))
   | inr other ↦ other.0
 ]
 
-pieces-line : (line rest : List ℕ) → list_all is_eight_bit_byte line ≡ true → pieces_of_text (line ++ (13 ∷ 10 ∷ rest)) ≡ line ∷ pieces_of_text rest
+-- a line of such bytes, and the CRLF after it, are a piece
+pub pieces-line : (legal : ℕ → Bool) → legal 13 ≡ false → (line rest : List ℕ) → list_all legal line ≡ true → pieces_of_text (line ++ (13 ∷ 10 ∷ rest)) ≡ line ∷ pieces_of_text rest
 unfolding pieces_of_text pieces_more
-pieces-line [] rest legal = pieces-end rest
-pieces-line (byte ∷ line) rest legal =
-    let parts = and-parts (is_eight_bit_byte byte) (list_all is_eight_bit_byte line) legal in
-    rw (not-return byte parts.0, pieces-line line rest parts.1) refl
+pieces-line legal refused [] rest all = pieces-end rest
+pieces-line legal refused (byte ∷ line) rest all =
+    let parts = and-parts (legal byte) (list_all legal line) all in
+    rw (not-return legal refused byte parts.0, pieces-line legal refused line rest parts.1) refl
 
 -- whether lines have only bytes that a line may hold
 abbrev pub has_line_bytes : List (List ℕ) → Bool
@@ -51,7 +52,7 @@ unfolding pieces_of_text text_of_lines
 pieces-lines [] legal = refl
 pieces-lines (line ∷ lines) legal =
     let parts = and-parts (list_all is_eight_bit_byte line) (has_line_bytes lines) legal in
-    pieces-line line (text_of_lines lines) parts.0 ∙ ap (λ pieces. line ∷ pieces) (pieces-lines lines parts.1)
+    pieces-line is_eight_bit_byte refl line (text_of_lines lines) parts.0 ∙ ap (λ pieces. line ∷ pieces) (pieces-lines lines parts.1)
 
 -- lines that can be in a mail have only such bytes
 pub has_line_bytes-legal : (lines : List (List ℕ)) → list_all is_eight_bit_line lines ≡ true → has_line_bytes lines ≡ true

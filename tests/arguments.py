@@ -2,6 +2,8 @@
 unusual correct ones, the help and the version."""
 
 import re
+import tempfile
+from pathlib import Path
 
 from tests.support.faults import fault_line
 from tests.support.running import ROOT, VECTORS, Checks, Ran, empty_outbox, run
@@ -16,7 +18,7 @@ USAGE = (
     b" | hand-in [--done FILE] [--give-up SECONDS] HAND-IN"
     b" | postfix [--lifetime SECONDS] [--bounce-size-limit BYTES] [--double-bounce ADDRESS]"
     b" [--hash-queue-names NAMES]"
-    b" [--hash-queue-depth DEPTH] [--pass-on CLASSES] [--threaded] [--inherited] QUEUE-FOLDER HOST HAND-IN"
+    b" [--hash-queue-depth DEPTH] [--pass-on CLASSES] [--templates FOLDER] [--threaded] [--inherited] QUEUE-FOLDER HOST HAND-IN"
     b" | preview [OPTIONS] QUEUE-FOLDER HOST ID\n"
 )
 PATH = b"the path of the socket must have 1 to 107 bytes\n"
@@ -199,6 +201,7 @@ POSTFIX_OPTIONS = {
     "--hash-queue-names": "defer",
     "--hash-queue-depth": "1",
     "--pass-on": "2bounce",
+    "--templates": "/",  # it has none
 }
 NO_NAMES = ["defer;bounce", "../defer", "a_b", "defer\n", "d\u00e9fer", "x" * 101, "defer, " + "x" * 101]
 NO_CLASSES = ["resource", "Bounce", "bounce;delay", "2bounces", "delay\n"]
@@ -323,6 +326,21 @@ REASONS = {
 }
 HINT = b"\ntry 'noticed help'\n"
 
+# files that are no templates, and what is wrong with each
+HEAD = b"Charset: utf-8\nFrom: a\nSubject: b\n\n"
+NO_TEMPLATES = {
+    b"": "it does not begin with lines Charset, From and Subject and an empty line",
+    b"From: a\nCharset: utf-8\nSubject: b\n\ntext\n": "it does not begin with lines Charset, From and Subject and an empty line",
+    b"Charset: utf 8\nFrom: a\nSubject: b\n\ntext\n": "its Charset is not the name of a charset",
+    b"Charset: utf-8\nFrom: \xc3\xa4\nSubject: b\n\ntext\n": "its From is not 1 to 989 bytes of printable ASCII",
+    b"Charset: utf-8\nFrom: a\nSubject: " + b"b" * 990 + b"\n\ntext\n": "its Subject is not 1 to 989 bytes of printable ASCII",
+    HEAD: "it has no text",
+    HEAD + b"a\n" * 16385: "its text has more than 32,768 bytes",
+    HEAD + b"a" * 999: "a line of its text has more than 998 bytes, a NUL or a CR",
+    HEAD + b"a\n--T.b\n": "a line of its text begins with --B., --D. or --T.",
+    HEAD.replace(b"utf-8", b"US-ASCII") + b"\xff\n": "its text has bytes above 127, and its Charset is us-ascii",
+}
+
 # words that ask for something to read, and what it begins with and has
 READ = {
     "noticed --help": (["--help"], b"Logs outcomes of deliveries", b"\nUsage: noticed <COMMAND>\n"),
@@ -366,6 +384,20 @@ def wrong_of_postfix() -> dict:
     return wrong
 
 
+def check_templates(checks: Checks):
+    """A file that is no template is wrong, with its path and the reason; a folder that isn't there is wrong too."""
+    with tempfile.TemporaryDirectory() as folder:
+        words = ["postfix", "--templates", folder, QUEUE, HOST, HAND_IN]
+        for number, (text, why) in enumerate(NO_TEMPLATES.items()):
+            path = Path(folder, ("failure", "delay", "success", "verify")[number % 4])
+            path.write_bytes(text)
+            wanted = Ran(b"", f"error: {path}: {why}".encode() + HINT + USAGE, 2)
+            checks.equal(f"a template {text[:30]}..: {why}", run(words, b""), wanted)
+            path.unlink()
+    why = f"error: {folder}: No such file or directory (os error 2)"
+    checks.equal("templates of a folder that isn't there", run(words, b""), Ran(b"", why.encode() + HINT + USAGE, 2))
+
+
 def main():
     checks = Checks(
         "arguments: status 2, the reason and the usage line for wrong ones; odd ones that are right run; help"
@@ -382,6 +414,7 @@ def main():
         checks.equal(what, (ran.outbox, reason[:7], hint, usage, ran.status), (b"", b"error: ", HINT, USAGE, 2))
     for reason, words in REASONS.items():
         checks.equal(reason.decode(), run(words, given), Ran(b"", reason + HINT + USAGE, 2))
+    check_templates(checks)
     for what, (words, begins, has) in READ.items():
         ran = run(words, given)
         checks.equal(

@@ -6,6 +6,7 @@ internal_mail_filter_classes says so. bounce(8) makes those of which notify_clas
 and Debian's package postfix, and is skipped without them."""
 import os
 import pwd
+import re
 import shutil
 import signal
 import subprocess
@@ -286,6 +287,69 @@ def check_named(checks: Checks, it: Stock):
     it.restart()
 
 
+TEMPLATES = """failure_template = <<EOF
+Charset: utf-8
+Subject: Unzustellbar
+
+Zur\u00fcck von $myhostname, f\u00fcr $$5.
+EOF
+
+delay_template = <<EOF
+Subject: Versp\u00e4tet
+
+text
+EOF
+
+success_template = <<EOF
+Subject: Angekommen
+
+--B.1
+EOF
+
+verify_template = <<EOF
+Subject: CR
+
+a\rb
+EOF
+"""
+IGNORED = 'non-ASCII "Subject" header value in delay template -- ignoring this template'
+
+
+def check_templates(checks: Checks, it: Stock):
+    """A template is that of the notices from the next start on, with bounce(8)'s From of header_from_format. One that
+    noticed can't take is named, as is one that bounce(8) ignores, and a file that Postfix's account can't read."""
+    before, path = it.texts(), it.room / "etc/bounce.cf"
+    path.write_text(TEMPLATES, newline="")
+    it.set(bounce_template_file=str(path), header_from_format="obsolete")
+    named = [f"bounce_template_file = {path}: {IGNORED}"]
+    named += ["success_template: a line of its text begins with --B., --D. or --T."]
+    named += ["verify_template: a line of its text has more than 998 bytes, a NUL or a CR"]
+    later = f"bounce_template_file = {path}: restart the service: it has others"
+    status, lines = it.script("check")
+    found = [it for it in beginning(lines, "not honoured") if "_template" in it]
+    checks.equal("check: the service has no templates", (status, found), (0, [*named, later]))
+    it.restart()
+    status, lines = it.script("check")
+    found = [it for it in beginning(lines, "not honoured") if "_template" in it]
+    checks.equal("check: all but three", (status, found), (0, named))
+    text = "\n".join(notice_comes(checks, it, "with a template"))
+    for line in ("Subject: Unzustellbar", f"Zur\u00fcck von {HOST}, f\u00fcr $5.", "Content-Transfer-Encoding: 8bit"):
+        checks.true(f"the notice has {line}", f"\n{line}\n" in text)
+    sender = re.search(r"^From: MAILER-DAEMON@\S+ \(Mail Delivery System\)$", text, re.M)
+    checks.true("its From has the form of header_from_format", sender)
+    path.write_text(TEMPLATES.replace("Unzustellbar", "Fehler"), newline="")
+    checks.true("check: a template was changed", f"not honoured: {later}" in it.script("check")[1])
+    for what, change in ("a file for root alone", path.chmod), ("a file that isn't there", lambda _: path.unlink()):
+        change(0o600)
+        it.restart()
+        status, lines = it.script("check")
+        checks.equal(what, (status, "bounce_template_file" in names_of(lines)), (0, True))
+        text = "\n".join(notice_comes(checks, it, what))
+        checks.true(f"{what}: its notice is in noticed's words", "\nSubject: Undelivered Mail Returned to Sender\n" in text)
+    it.restore(before)
+    it.restart()
+
+
 def check_wrong(checks: Checks, it: Stock):
     """Values that noticed can't take are wrong, and nothing is enabled with them."""
     before = it.texts()
@@ -420,7 +484,7 @@ def main():
         it.start()
         before = it.texts()
         parts = (check_before, check_account, check_enabled, check_hashing, check_named, check_wrong, check_against)
-        for check in (*parts, check_filtered, check_origin, check_copies):
+        for check in (*parts, check_templates, check_filtered, check_origin, check_copies):
             check(checks, it)
         checks.equal("complaints of Postfix", it.complaints(), [])
         check_disabled(checks, it, before)

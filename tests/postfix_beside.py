@@ -20,7 +20,7 @@ from tests.postfix.capture.submit import by_sendmail, by_smtp
 from tests.support import sandbox_cases
 from tests.support.private_postfix import Delivery, Mailbox, Postfix, comes_true, lacks, mail_filter
 from tests.support.readers import compare_readers
-from tests.support.running import Checks, program, run
+from tests.support.running import ROOT, Checks, program, run
 from tests.support.sandbox import Sandbox
 from tests.support.told import Told, differences, name_in, retry_seconds, taken_apart
 
@@ -121,11 +121,17 @@ THREADED = [
     Case("id-of-client", "bounce", ["no.bob@example.org"]),
     *(Case(name, "bounce", ["no.bob@example.org"], whole=NO_FIELDS % field) for name, field in IDS.items()),
 ]
+TEMPLATED = [
+    Case("templates-failure", "bounce", ["no.bob@example.org"]),
+    Case("templates-late", "defer", ["later.bob@example.org"]),
+    Case("templates-success", "trace", [TOLD]),
+]
 RUNS = [
     Run("at once", {}, cases.BOUNCED + AT_ONCE + cases.TRACED),
     Run("size limit", {"bounce_size_limit": "2000"}, SMALL),
     Run("threads", {"enable_threaded_bounces": "yes"}, THREADED),
     Run("put off", HURRIED, cases.DEFERRED + EXPIRING, expires=True),
+    Run("templates", HURRIED | {"bounce_template_file": str(ROOT / "tests/support/bounce.cf")}, TEMPLATED, expires=True),
     Run("long ids", LONG_IDS | HURRIED, cases.RUNS[1][1] + cases.RUNS[2][1], expires=True),
     Run("sandbox", {}, sandbox_cases.AT_ONCE, sandbox=True),
     Run("sandbox, put off", HURRIED | CONFIRMED, sandbox_cases.DELAYED, expires=True, sandbox=True),
@@ -217,6 +223,11 @@ def header_in_place(change):
     )
 
 
+def templated(words: list) -> list:
+    """The lines of tests/support/bounce.cf."""
+    return [it for it in words if it.startswith(b"T: ")]
+
+
 STATUS, DIAGNOSTIC = b"Status", b"Diagnostic-Code"
 DESCRIPTION, TYPE = "description of what is given back", "type of what is given back"
 ALLOWED = [
@@ -238,7 +249,12 @@ ALLOWED = [
         "as above, in the Return-Path",
         lambda there, *_: re.sub(rb"\AReturn-Path: <MAILER-DAEMON@[^\n]*>\n", b"Return-Path: <>\n", there),
     ),
-    Difference("words for people", "words", "noticed has its own, and no templates", lambda _, met, __: met),
+    Difference(
+        "words for people",
+        "words",
+        "noticed has its own but for the lines of a template, which begin with T",
+        lambda there, met, _: met if templated(met) == templated(there) else there,
+    ),
     Difference(
         "subject of a success",
         "Subject",

@@ -946,6 +946,59 @@ def check_threads(checks: Checks):
         checks.equal("without the option", fields_in_front(it.server.taken[-1][2]), [])
 
 
+GERMAN = (
+    b"Charset: utf-8\nFrom: Postmeister <postmaster@example.net>\nSubject: Unzustellbar\n\n"
+    b"Ihre Nachricht kam zur\xc3\xbcck.\n\n.Hilfe\n-- \nPostmeister\n"
+)
+
+
+def check_templates(checks: Checks):
+    """With --templates a notice of failure has the template's From, subject, charset and text before the recipients, as
+    an 8bit mail; one of delay, for which there is no template, is as ever. A server without 8BITMIME gets no 8bit one."""
+    with tempfile.TemporaryDirectory() as folder:
+        Path(folder, "failure").write_bytes(GERMAN)
+        with Postfix("--templates", folder) as it:
+            it.server.replies["EHLO"] = b"250-mx.example.net\r\n250 8BITMIME"
+            it.put("one", "bounce")
+            checks.equal("a flush with a template", it.ask("bounce", notice(1, ONE)), 0)
+            found = email.message_from_bytes(it.server.taken[-1][2])
+            first = found.get_payload(0)
+            fields = [found["From"], found["Subject"], found["Content-Transfer-Encoding"]]
+            wanted = ["Postmeister <postmaster@example.net>", "Unzustellbar", "8bit"]
+            checks.equal("its From, subject and encoding", fields, wanted)
+            checks.equal("its charset", first.get_content_charset(), "utf-8")
+            lines = first.get_payload(decode=True).decode().splitlines()
+            wanted = ["Ihre Nachricht kam zur\u00fcck.", "", ".Hilfe", "-- ", "Postmeister", ""]
+            checks.equal("its text", lines[: len(wanted)], wanted)
+            checks.true("then the recipients", lines[len(wanted)].startswith("<"))
+            checks.true("not in English", not any(it.startswith("For help") for it in lines))
+            it.put("later", "defer")
+            checks.equal("a delay without a template", it.ask("defer", asked_in("later", "delay")), 0)
+            found = email.message_from_bytes(it.server.taken[-1][2])
+            checks.equal("its subject", found["Subject"], "Delayed Mail (still being retried)")
+        with Postfix("--templates", folder) as it:
+            it.put("one", "bounce")
+            checks.equal("a server without 8BITMIME", it.ask("bounce", notice(1, ONE)), FAILED)
+            line = f"{ONE}: bounce: passed on: the mail server refused its notice for good"
+            checks.true("then it is bounce(8)'s", until(lambda: line in it.lines()))
+        for name in ("failure", "delay", "success", "verify"):
+            Path(folder, name).write_text(f"Charset: us-ascii\nFrom: a\nSubject: {name}\n\ntext\n")
+        with Postfix("--templates", folder) as it:
+            it.put("one", "bounce")
+            it.put("later", "defer")
+            message = it.put("relayed", "trace")
+            asked = [("bounce", notice(1, ONE)), ("defer", asked_in("later", "delay"))]
+            checks.equal("all four", [it.ask(*each) for each in asked], [0, 0])
+            log = it.at(f"trace/{message}")
+            text = log.read_text()
+            for action, status in ("relayed", 2), ("failed", 5):
+                log.write_text(text.replace("action=relayed", f"action={action}").replace("status=2", f"status={status}"))
+                log.chmod(0o600)
+                checks.equal(f"a report, {action}", it.ask("trace", asked_in("relayed", "success")), 0)
+            found = [email.message_from_bytes(text)["Subject"] for *_, text in it.server.taken]
+            checks.equal("a template each", found, ["failure", "delay", "success", "verify"])
+
+
 def check_outcomes(checks: Checks):
     """Two commands of one alias have its address and its place: each outcome is told, and one that was logged twice in
     the same words is told once."""
@@ -1328,6 +1381,7 @@ def main():
         check_copies,
         check_send_options,
         check_threads,
+        check_templates,
         check_outcomes,
         check_broken_clients,
         check_locked_log,

@@ -17,9 +17,10 @@ import tempfile
 import time
 from dataclasses import dataclass
 from pathlib import Path
+from unittest import mock
 
 from tests.postfix.capture import milter, upstream
-from tests.support.running import DIST
+from tests.support.running import DIST, program
 
 HOST = "mx.example.net"
 SBIN = Path("/usr/lib/postfix/sbin")
@@ -95,7 +96,8 @@ noticed-cleanup unix n - n - 0 cleanup
     -o in_flow_delay=0
     {of_origin}
 """
-OF_ORIGIN = runpy.run_path(str(DIST / "noticed-postfix"))["of_origin"]  # the options of its cleanup(8) for From
+SCRIPT = runpy.run_path(str(DIST / "noticed-postfix"))
+OF_ORIGIN = SCRIPT["of_origin"]  # the options of its cleanup(8) for From
 NO_TABLES = {"sender_canonical_maps": "", "sender_canonical_classes": ""}
 # The queue manager is woken often. It puts a message whose file is locked back to those that came in, for a minute. It
 # looks at these only if it is woken or mail comes.
@@ -361,7 +363,19 @@ class Postfix:
                 option,
                 value.replace(" ", "").removesuffix("s") if option == "--lifetime" else value.replace(" ", ""),
             )
-        ] + ["--threaded"] * (self.settings.get("enable_threaded_bounces") == "yes")
+        ] + ["--threaded"] * (self.settings.get("enable_threaded_bounces") == "yes") + self.templates()
+
+    def templates(self) -> list:
+        """The option with the templates that noticed-postfix makes of bounce_template_file, if there is one."""
+        if "bounce_template_file" not in self.settings:
+            return []
+        OF_ORIGIN.__globals__["program"] = program
+        with mock.patch.dict(os.environ, MAIL_CONFIG=str(self.room / "etc")):
+            files, wrong = SCRIPT["templates"](self.settings["bounce_template_file"], "postfix")
+        (self.room / "templates").mkdir(exist_ok=True)
+        for name, file in files.items():
+            (self.room / "templates" / name).write_bytes(file)
+        return ["--templates", str(self.room / "templates"), *wrong]
 
     def write(self):
         """Writes the configuration."""

@@ -16,10 +16,11 @@ use Rattle.dsn_text.specs.declared.key.Key.{Key}
 use Rattle.dsn_text.specs.declared.service.Service.TheVariants.{Bounce}
 use Rattle.dsn_crew.specs.Crew.{Account, IsAccount}
 use Rattle.dsn_crew.specs.declared.agents.port.Port.{Ghosts as Port}
+use Rattle.dsn_report.specs.Site.{Site}
 
 -- a run posts, and names as unsent, no more letters than it took requests
-no_more_than_asked : {P S W : Type 0} (port : Port P S) (drain : Drain W) (host : List ℕ) (limits : Limits) (ports : List P) (start : W) (account : Account W Book) → IsAccount port drain host limits ports start account → account.letters + length account.unsent ≤ length account.taken
-no_more_than_asked port drain host limits ports start account is = omega (arith, is.count, letters_few limits account.taken)
+no_more_than_asked : {P S W : Type 0} (port : Port P S) (drain : Drain W) (site : Site) (limits : Limits) (ports : List P) (start : W) (account : Account W Book) → IsAccount port drain site limits ports start account → account.letters + length account.unsent ≤ length account.taken
+no_more_than_asked port drain site limits ports start account is = omega (arith, is.count, letters_few limits account.taken)
 
 -- ---- closed keys make room
 

@@ -32,6 +32,7 @@ use Rattle.dsn_crew.specs.declared.post.posted.Posted.{Posted}
 use Rattle.dsn_crew.proofs.post.LetterSinkLemmas.{handed_letters}
 use Rattle.dsn_crew.proofs.post.ParcelLemmas.{option_few}
 use Rattle.dsn_report.specs.Outgoing.{Outgoing, begun as begun_outbox}
+use Rattle.dsn_report.specs.Site.{Site}
 use Rattle.dsn_crew.specs.agents.Agent.{Agent, LaneHalves, after_reply}
 use Rattle.dsn_crew.specs.desk.Close.{IsHeard}
 use Rattle.dsn_crew.specs.inner.Breach.{cause_of}
@@ -301,19 +302,19 @@ all_of_none : (history : List Exchange) (letters : List Letter) → AreSealedAft
 unfolding letters_after
 all_of_none history letters sealed = sym sealed.are
 
-pub book_account : {P S W : Type 0} (port : Port P S) (drain : Drain W) (host : List ℕ) (limits of_book : Limits) (ports : List P) (start : W) (result : Result (Account W Book) (CrewFault W Book)) → of_book ≡ limits → IfOk result (HasAccount book_keeper port (outbox_outlet drain) (begun_outbox host start) [] (releasing_none of_book) [] ports) → IfOk result (IsAccount port drain host limits ports start)
-book_account port drain host limits of_book ports start (Err fault) same has = tt
-book_account port drain host limits of_book ports start (Ok account) same has =
-    subst (λ (l : Limits). IsAccount port drain host l ports start account) same
-    (subst (λ (letters : List Letter). IsAccountAfter book_keeper port (outbox_outlet drain) (begun_outbox host start) [] (releasing_none of_book) [] letters ports account) (all_of_none _ _ has.sealed) has.is)
+pub book_account : {P S W : Type 0} (port : Port P S) (drain : Drain W) (site : Site) (limits of_book : Limits) (ports : List P) (start : W) (result : Result (Account W Book) (CrewFault W Book)) → of_book ≡ limits → IfOk result (HasAccount book_keeper port (outbox_outlet drain) (begun_outbox site start) [] (releasing_none of_book) [] ports) → IfOk result (IsAccount port drain site limits ports start)
+book_account port drain site limits of_book ports start (Err fault) same has = tt
+book_account port drain site limits of_book ports start (Ok account) same has =
+    subst (λ (l : Limits). IsAccount port drain site l ports start account) same
+    (subst (λ (letters : List Letter). IsAccountAfter book_keeper port (outbox_outlet drain) (begun_outbox site start) [] (releasing_none of_book) [] letters ports account) (all_of_none _ _ has.sealed) has.is)
 
-pub book_fault : {W : Type 0} (drain : Drain W) (host : List ℕ) (limits of_book : Limits) (agents : ℕ) (start : W) (given : Outgoing W) (result : Result (Account W Book) (CrewFault W Book)) → given ≡ begun_outbox host start → of_book ≡ limits → IfErr result (HasFault book_keeper (outbox_outlet drain) (begun_outbox host start) [] given (releasing_none of_book) [] agents)
-    → IfErr result (λ fault. IsCrewFault drain host limits agents start fault fault.cause)
-book_fault drain host limits of_book agents start given (Ok account) new same has = tt
-book_fault drain host limits of_book agents start given (Err fault) new same has =
-    let is = subst (λ (it : Outgoing _). IsFaultWith (outbox_outlet drain) (begun_outbox host start) [] it has.sealed agents fault fault.cause) new has.is in
-    subst (λ (l : Limits). IsCrewFault drain host l agents start fault fault.cause) same
-    (subst (λ (letters : List Letter). IsFaultWith (outbox_outlet drain) (begun_outbox host start) [] (begun_outbox host start) letters agents fault fault.cause) (all_of_none _ _ has.are) is)
+pub book_fault : {W : Type 0} (drain : Drain W) (site : Site) (limits of_book : Limits) (agents : ℕ) (start : W) (given : Outgoing W) (result : Result (Account W Book) (CrewFault W Book)) → given ≡ begun_outbox site start → of_book ≡ limits → IfErr result (HasFault book_keeper (outbox_outlet drain) (begun_outbox site start) [] given (releasing_none of_book) [] agents)
+    → IfErr result (λ fault. IsCrewFault drain site limits agents start fault fault.cause)
+book_fault drain site limits of_book agents start given (Ok account) new same has = tt
+book_fault drain site limits of_book agents start given (Err fault) new same has =
+    let is = subst (λ (it : Outgoing _). IsFaultWith (outbox_outlet drain) (begun_outbox site start) [] it has.sealed agents fault fault.cause) new has.is in
+    subst (λ (l : Limits). IsCrewFault drain site l agents start fault fault.cause) same
+    (subst (λ (letters : List Letter). IsFaultWith (outbox_outlet drain) (begun_outbox site start) [] (begun_outbox site start) letters agents fault fault.cause) (all_of_none _ _ has.are) is)
 
 -- a keeper that refuses nothing, as a book does
 module _ {B : Type 0} (keeper : Keeper B) (refuses_none : (was : B) (requests : List Request) (why : NotKept) (left : B) → keeper.refuses was requests why left → ⊥) where
@@ -339,10 +340,10 @@ left_book : (limits : Limits) (behind : List Request) (exchanges : List Exchange
 left_book limits behind exchanges cause None handed = tt
 left_book limits behind exchanges cause (Some book) handed = (ap (λ (rules : Rules). rules.limits) handed.rules_are, stood_book (releasing_none limits) behind exchanges cause book handed)
 
-pub book_left : {W : Type 0} (drain : Drain W) (host : List ℕ) (limits of_book : Limits) (agents : ℕ) (start : W) (given : Outgoing W) (result : Result (Account W Book) (CrewFault W Book)) → of_book ≡ limits → IfErr result (HasFault book_keeper (outbox_outlet drain) (begun_outbox host start) [] given (releasing_none of_book) [] agents)
+pub book_left : {W : Type 0} (drain : Drain W) (site : Site) (limits of_book : Limits) (agents : ℕ) (start : W) (given : Outgoing W) (result : Result (Account W Book) (CrewFault W Book)) → of_book ≡ limits → IfErr result (HasFault book_keeper (outbox_outlet drain) (begun_outbox site start) [] given (releasing_none of_book) [] agents)
     → IfErr result (λ fault. IfSome fault.book (λ book. (book.limits ≡ limits) × Represents book (history_of limits fault.taken)))
-book_left drain host limits of_book agents start given (Ok account) same has = tt
-book_left drain host limits of_book agents start given (Err fault) same has =
+book_left drain site limits of_book agents start given (Ok account) same has = tt
+book_left drain site limits of_book agents start given (Err fault) same has =
     subst (λ (l : Limits). IfSome fault.book (λ book. (book.limits ≡ l) × Represents book (history_of l fault.taken))) same
     (left_book of_book fault.behind (history_under (releasing_none of_book) [] fault.taken) fault.cause fault.book has.book)
 

@@ -17,6 +17,7 @@ use Rattle.dsn_outcome.specs.Request.{Request, Bye}
 use Rattle.dsn_outcome.specs.declared.answer.Reply.TheVariants.{Gone}
 use Rattle.dsn_crew.specs.post.Outlet.{outbox_outlet}
 use Rattle.dsn_report.specs.Outgoing.{begun}
+use Rattle.dsn_report.specs.Site.{Site}
 use Rattle.dsn_crew.specs.agents.Agent.{LaneHalves}
 use Rattle.dsn_crew.specs.agents.Port.{AreOverPort, AreSessions, Conn, Given, HasGiven, Session, answers_of, bodies_of, faults_of, most_connections}
 use Rattle.dsn_crew.specs.agents.Serve.{answers_from, numbered_answer, numbered_request, requests_from}
@@ -115,9 +116,9 @@ pub record IsAccountAfter {B P S O L : Type 0} (keeper : Keeper B) (port : Port 
 -- the account of a run over a book that begins empty, and over an outbox. No key is released. Its
 -- letters are those that the history of what was taken sealed
 abbrev pub IsAccount :
-    {P S W : Type 0} → Port P S → Drain W → List ℕ → Limits → List P → W → Account W Book → Type 0
-IsAccount port drain host limits ports start account =
-    IsAccountAfter book_keeper port (outbox_outlet drain) (begun host start) []
+    {P S W : Type 0} → Port P S → Drain W → Site → Limits → List P → W → Account W Book → Type 0
+IsAccount port drain site limits ports start account =
+    IsAccountAfter book_keeper port (outbox_outlet drain) (begun site start) []
     (releasing_none limits) []
     (sealed_letters (history_of limits account.taken)) ports account
 
@@ -202,9 +203,9 @@ IsFaultWith outlet start first given sealed agents fault (Unkept why) =
 
 -- the fault of a run over a book that begins empty, and over an outbox
 abbrev pub IsCrewFault :
-    {B W : Type 0} → Drain W → List ℕ → Limits → ℕ → W → CrewFault W B → CrewCause → Type 0
-IsCrewFault drain host limits agents start fault cause =
-    IsFaultWith (outbox_outlet drain) (begun host start) [] (begun host start)
+    {B W : Type 0} → Drain W → Site → Limits → ℕ → W → CrewFault W B → CrewCause → Type 0
+IsCrewFault drain site limits agents start fault cause =
+    IsFaultWith (outbox_outlet drain) (begun site start) [] (begun site start)
     (sealed_letters (history_of limits fault.taken)) agents fault cause
 
 -- the keeper models this history at a fault of this cause, and has kept those behind. If the cause

@@ -14,6 +14,7 @@ use Rattle.dsn_submission.specs.declared.waiting.Waits.{Waits}
 use Rattle.dsn_hand_in.specs.MailOutlet.{MailDeed, IsLeftOf, MailOutlet, Passes, AddsToWaiting, Course, begins, comes, is_dropped, is_submitted, it_is_dropped, it_waits, ends_session, with_letter, without_memory, without_session}
 use Rattle.dsn_hand_in.specs.SitedLetter.{SitedLetter, sited_message, sited_path}
 use Rattle.dsn_hand_in.specs.declared.mail_parts.MailParts.{MailParts}
+use Rattle.dsn_report.specs.Site.{Site}
 
 module _ {S C K M : Type 0} where
   dropped_is : (old new : MailOutlet S C K M) (letter : Letter) → new ≡ without_memory old → AddsToWaiting old letter new
@@ -25,25 +26,25 @@ module _ {S C K M : Type 0} where
       let stays : without_memory old ≡ old = ap (λ (b : Bool). record old { short = b }) (sym short) in
       dropped_is old new letter (cc (same, stays))
 
-  -- a letter came to an outlet with these parts, and waits
-  pub come_to : (old : MailOutlet S C K M) (host : List ℕ) (parts : MailParts S C K M) (short : Bool) (submitter : Submitter SitedLetter S) (letter : Letter) (item : SitedLetter) (now : ℕ)
-      → record { host = host; parts = parts; short = short } ≡ old → short ≡ false → item ≡ record { host = host; letter = letter }
+  -- an outlet with these parts got a letter, which waits
+  pub come_to : (old : MailOutlet S C K M) (site : Site) (parts : MailParts S C K M) (short : Bool) (submitter : Submitter SitedLetter S) (letter : Letter) (item : SitedLetter) (now : ℕ)
+      → record { site = site; parts = parts; short = short } ≡ old → short ≡ false → item ≡ record { site = site; letter = letter }
       → submitter ≡ record parts.submitter { waiting = pushed parts.submitter.waiting item now }
-      → AddsToWaiting old letter (record { host = host; parts = record parts { submitter = submitter }; short = short })
-  come_to old host parts short submitter letter item now is enough sited pushes =
+      → AddsToWaiting old letter (record { site = site; parts = record parts { submitter = submitter }; short = short })
+  come_to old site parts short submitter letter item now is enough sited pushes =
       subst (λ outlet. AddsToWaiting old letter outlet)
-      (sym (ap (λ (s : Submitter SitedLetter S). record { host = host; parts = record parts { submitter = s }; short = short })
+      (sym (ap (λ (s : Submitter SitedLetter S). record { site = site; parts = record parts { submitter = s }; short = short })
       (pushes ∙ ap (λ (l : SitedLetter). record parts.submitter { waiting = pushed parts.submitter.waiting l now }) sited)
       ∙ ap (λ (o : MailOutlet S C K M). with_letter o letter now) is))
       (it_waits now (sym (ap (λ (o : MailOutlet S C K M). o.short) is) ∙ enough))
 
   -- memory was refused for a letter, of an outlet with these parts
-  pub refused_by : (old : MailOutlet S C K M) (host : List ℕ) (parts : MailParts S C K M) (short : Bool) (submitter : Submitter SitedLetter S) (letter : Letter)
-      → record { host = host; parts = parts; short = short } ≡ old → submitter ≡ parts.submitter
-      → AddsToWaiting old letter (record { host = host; parts = record parts { submitter = submitter }; short = true })
-  refused_by old host parts short submitter letter is same =
+  pub refused_by : (old : MailOutlet S C K M) (site : Site) (parts : MailParts S C K M) (short : Bool) (submitter : Submitter SitedLetter S) (letter : Letter)
+      → record { site = site; parts = parts; short = short } ≡ old → submitter ≡ parts.submitter
+      → AddsToWaiting old letter (record { site = site; parts = record parts { submitter = submitter }; short = true })
+  refused_by old site parts short submitter letter is same =
       dropped_is old _ letter
-      (ap (λ (s : Submitter SitedLetter S). record { host = host; parts = record parts { submitter = s }; short = true }) same
+      (ap (λ (s : Submitter SitedLetter S). record { site = site; parts = record parts { submitter = s }; short = true }) same
       ∙ ap without_memory is)
 
 module _ {S C K M : Type 0} (source : Source.Ghosts S) (drain : Drain.Ghosts S)
@@ -109,36 +110,36 @@ module _ {S C K M : Type 0} (source : Source.Ghosts S) (drain : Drain.Ghosts S)
   left_still old new left passed is = record { last = is.last; passed = joined old new is.last [] [] passed is.passed; parts = is.parts }
 
   -- the session was ended, of an outlet with these parts
-  pub ended_by : (old : MailOutlet S C K M) (host : List ℕ) (parts : MailParts S C K M) (short : Bool) (submitter : Submitter SitedLetter S)
-      → record { host = host; parts = parts; short = short } ≡ old → submitter ≡ record parts.submitter { session = None }
-      → Passed old [] (record { host = host; parts = record parts { submitter = submitter }; short = short })
-  ended_by old host parts short submitter is ends =
-      one_ended old _ (ap (λ (s : Submitter SitedLetter S). record { host = host; parts = record parts { submitter = s }; short = short }) ends ∙ ap without_session is)
+  pub ended_by : (old : MailOutlet S C K M) (site : Site) (parts : MailParts S C K M) (short : Bool) (submitter : Submitter SitedLetter S)
+      → record { site = site; parts = parts; short = short } ≡ old → submitter ≡ record parts.submitter { session = None }
+      → Passed old [] (record { site = site; parts = record parts { submitter = submitter }; short = short })
+  ended_by old site parts short submitter is ends =
+      one_ended old _ (ap (λ (s : Submitter SitedLetter S). record { site = site; parts = record parts { submitter = s }; short = short }) ends ∙ ap without_session is)
 
   -- nothing changed, of an outlet with these parts
-  pub unchanged_by : (old : MailOutlet S C K M) (host : List ℕ) (parts : MailParts S C K M) (short : Bool)
+  pub unchanged_by : (old : MailOutlet S C K M) (site : Site) (parts : MailParts S C K M) (short : Bool)
       (submitter : Submitter SitedLetter S) (server : C) (refused : K) (marks : M)
-      → record { host = host; parts = parts; short = short } ≡ old
+      → record { site = site; parts = parts; short = short } ≡ old
       → submitter ≡ parts.submitter → server ≡ parts.server → refused ≡ parts.refused → marks ≡ parts.marks
-      → Passed old [] (record { host = host; parts = record { submitter = submitter; server = server; refused = refused; marks = marks }; short = short })
-  unchanged_by old host parts short submitter server refused marks is first second third fourth =
+      → Passed old [] (record { site = site; parts = record { submitter = submitter; server = server; refused = refused; marks = marks }; short = short })
+  unchanged_by old site parts short submitter server refused marks is first second third fourth =
       still_is old _
-      (ap (λ (s : Submitter SitedLetter S). record { host = host; parts = record { submitter = s; server = server; refused = refused; marks = marks }; short = short }) first
-      ∙ (ap (λ (s : C). record { host = host; parts = record { submitter = parts.submitter; server = s; refused = refused; marks = marks }; short = short }) second
-      ∙ (ap (λ (s : K). record { host = host; parts = record { submitter = parts.submitter; server = parts.server; refused = s; marks = marks }; short = short }) third
-      ∙ (ap (λ (s : M). record { host = host; parts = record { submitter = parts.submitter; server = parts.server; refused = parts.refused; marks = s }; short = short }) fourth
+      (ap (λ (s : Submitter SitedLetter S). record { site = site; parts = record { submitter = s; server = server; refused = refused; marks = marks }; short = short }) first
+      ∙ (ap (λ (s : C). record { site = site; parts = record { submitter = parts.submitter; server = s; refused = refused; marks = marks }; short = short }) second
+      ∙ (ap (λ (s : K). record { site = site; parts = record { submitter = parts.submitter; server = parts.server; refused = s; marks = marks }; short = short }) third
+      ∙ (ap (λ (s : M). record { site = site; parts = record { submitter = parts.submitter; server = parts.server; refused = parts.refused; marks = s }; short = short }) fourth
       ∙ is))))
 
   -- a letter was submitted, of an outlet with these parts
-  module _ (old : MailOutlet S C K M) (host : List ℕ) (parts after : MailParts S C K M) (short : Bool) (now serial : ℕ) (fault : Option HandInFault) (verdict : Verdict)
-      (is : record { host = host; parts = parts; short = short } ≡ old)
+  module _ (old : MailOutlet S C K M) (site : Site) (parts after : MailParts S C K M) (short : Bool) (now serial : ℕ) (fault : Option HandInFault) (verdict : Verdict)
+      (is : record { site = site; parts = parts; short = short } ≡ old)
       (handled : (letter : Waits SitedLetter) → letter_at parts.submitter.waiting.letters (next_place parts.submitter now) ≡ Some letter
       → Handles source drain gives keeps tells (with_next_taken parts.submitter (next_place parts.submitter now)) after.submitter
       parts.server after.server parts.refused after.refused parts.marks after.marks
       (sited_path letter.item) (sited_message letter.item) now fault verdict)
       (its_serial : Some serial ≡ serial_in_hand (taken parts.submitter.waiting (next_place parts.submitter now))) where
     submitted_at : (next : Option (Waits SitedLetter)) (item : SitedLetter) → letter_at parts.submitter.waiting.letters (next_place parts.submitter now) ≡ next
-        → option_map item_of next ≡ Some item → Passed old [] (record { host = host; parts = after; short = short })
+        → option_map item_of next ≡ Some item → Passed old [] (record { site = site; parts = after; short = short })
     submitted_at None item at found = cc
     submitted_at (Some letter) item at found =
         one_submitted old _
@@ -158,6 +159,6 @@ module _ {S C K M : Type 0} (source : Source.Ghosts S) (drain : Drain.Ghosts S)
         (ap (λ (o : MailOutlet S C K M). record o { parts = after }) is)
 
     pub submitted_by : (item : SitedLetter) (new : MailOutlet S C K M) → Some item ≡ option_map item_of (letter_at parts.submitter.waiting.letters (next_place parts.submitter now))
-        → new ≡ record { host = host; parts = after; short = short } → Passed old [] new
+        → new ≡ record { site = site; parts = after; short = short } → Passed old [] new
     submitted_by item new found becomes =
         subst (λ outlet. Passed old [] outlet) (sym becomes) (submitted_at (letter_at parts.submitter.waiting.letters (next_place parts.submitter now)) item refl (sym found))

@@ -15,6 +15,7 @@ use Rattle.dsn_submission.specs.declared.waiting.Waits.{Waits}
 use Rattle.dsn_hand_in.specs.MailLaws.{HavePlaces, BeginsEmpty}
 use Rattle.dsn_hand_in.specs.MailOutlet.{MailDeed, MailOutlet, Course, begins, comes, is_dropped, is_submitted, ends_session}
 use Rattle.dsn_hand_in.specs.SitedLetter.{SitedLetter}
+use Rattle.dsn_report.specs.Site.{Site}
 
 -- ---- events of letters that wait
 
@@ -75,14 +76,14 @@ module _ {S C K M : Type 0} (source : Source.Ghosts S) (drain : Drain.Ghosts S)
     pub all_kept : now.short ≡ false → dropped ≡ []
     pub events : List (Event SitedLetter)
     pub waiting : now.parts.submitter.waiting ≡ after_events (empty_queue mark) events
-    pub came : come events ≡ map (λ letter. record { host = start.host; letter = letter }) kept
-    pub same_host : now.host ≡ start.host
+    pub came : come events ≡ map (λ letter. record { site = start.site; letter = letter }) kept
+    pub same_site : now.site ≡ start.site
 
   module _ (mark : ℕ) (start : MailOutlet S C K M) (unused : BeginsEmpty mark start) where
     keeps_more : (old now : MailOutlet S C K M) (letters : List Letter) (event : List (Event SitedLetter)) → Keeps mark start old letters
-        → come event ≡ [] → now.short ≡ old.short → now.host ≡ old.host
+        → come event ≡ [] → now.short ≡ old.short → now.site ≡ old.site
         → now.parts.submitter.waiting ≡ after_events old.parts.submitter.waiting event → Keeps mark start now letters
-    keeps_more old now letters event so_far none short host goes = record {
+    keeps_more old now letters event so_far none short site goes = record {
       kept = so_far.kept;
       dropped = so_far.dropped;
       split = so_far.split;
@@ -90,7 +91,7 @@ module _ {S C K M : Type 0} (source : Source.Ghosts S) (drain : Drain.Ghosts S)
       events = so_far.events ++ event;
       waiting = goes ∙ (ap (λ (q : Queue SitedLetter). after_events q event) so_far.waiting ∙ sym (after_more (empty_queue mark) so_far.events event));
       came = come_more so_far.events event ∙ (ap (λ (all : List SitedLetter). come so_far.events ++ all) none ∙ (append-nil (come so_far.events) ∙ so_far.came));
-      same_host = host ∙ so_far.same_host;
+      same_site = site ∙ so_far.same_site;
     }
 
     pub trail_keeps : (letters : List Letter) (deeds : List (MailDeed source drain gives keeps tells)) (now : MailOutlet S C K M)
@@ -103,12 +104,12 @@ module _ {S C K M : Type 0} (source : Source.Ghosts S) (drain : Drain.Ghosts S)
       events = [];
       waiting = unused.none_waits;
       came = refl;
-      same_host = refl;
+      same_site = refl;
     }
     trail_keeps letters deeds now (comes ls ds old letter moment course enough) =
         let so_far = trail_keeps ls ds old course in
         let none = so_far.all_kept enough in
-        let item : SitedLetter = record { host = old.host; letter = letter } in
+        let item : SitedLetter = record { site = old.site; letter = letter } in
         let event : List (Event SitedLetter) = Comes item moment ∷ [] in record {
           kept = so_far.kept ++ letter ∷ [];
           dropped = [];
@@ -119,9 +120,9 @@ module _ {S C K M : Type 0} (source : Source.Ghosts S) (drain : Drain.Ghosts S)
           came =
               come_more so_far.events event
               ∙ (ap (λ (all : List SitedLetter). all ++ item ∷ []) so_far.came
-              ∙ (ap (λ (h : List ℕ). map (λ l. record { host = start.host; letter = l }) so_far.kept ++ record { host = h; letter = letter } ∷ []) so_far.same_host
-              ∙ sym (map-append (λ (l : Letter). record { host = start.host; letter = l }) so_far.kept (letter ∷ []))));
-          same_host = so_far.same_host;
+              ∙ (ap (λ (h : Site). map (λ l. record { site = start.site; letter = l }) so_far.kept ++ record { site = h; letter = letter } ∷ []) so_far.same_site
+              ∙ sym (map-append (λ (l : Letter). record { site = start.site; letter = l }) so_far.kept (letter ∷ []))));
+          same_site = so_far.same_site;
         }
     trail_keeps letters deeds now (is_dropped ls ds old letter course) =
         let so_far = trail_keeps ls ds old course in record {
@@ -132,7 +133,7 @@ module _ {S C K M : Type 0} (source : Source.Ghosts S) (drain : Drain.Ghosts S)
           events = so_far.events;
           waiting = so_far.waiting;
           came = so_far.came;
-          same_host = so_far.same_host;
+          same_site = so_far.same_site;
         }
     trail_keeps letters deeds now (is_submitted ls ds old deed course same) =
         let event : List (Event SitedLetter) = IsTaken deed.now ∷ verdict_event deed.now deed.verdict ∷ [] in

@@ -339,7 +339,7 @@ module _ {S C K M : Type 0} (source : Source.Ghosts S) (drain : Drain.Ghosts S)
             split = ap (λ (all : List Letter). all ++ letter ∷ []) stand.split ∙ append_assoc stand.gone stand.held (letter ∷ []);
             mark_is = stand.mark_is;
             settled = stand.settled;
-            from_mark = states_push ds old.parts.submitter.waiting.mark last moment stand.held old.parts.submitter.waiting.letters (record { host = old.host; letter = letter }) its unsettled stand.from_mark;
+            from_mark = states_push ds old.parts.submitter.waiting.mark last moment stand.held old.parts.submitter.waiting.letters (record { site = old.site; letter = letter }) its unsettled stand.from_mark;
           };
           earlier = all_weaker (λ one. one.serial < mark + length so_far.kept) (λ one. one.serial < mark + length (so_far.kept ++ letter ∷ [])) (λ one less. omega arith) ds so_far.earlier;
         }

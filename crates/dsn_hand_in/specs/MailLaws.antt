@@ -39,7 +39,7 @@ module _ {S C K M : Type 0} where
     pub dropped : List Letter
     pub split : letters ≡ kept ++ dropped
     pub all_kept : now.short ≡ false → dropped ≡ []
-    pub places : HasEach mark now.parts.submitter.waiting (map (λ letter. record { host = start.host; letter = letter }) kept)
+    pub places : HasEach mark now.parts.submitter.waiting (map (λ letter. record { site = start.site; letter = letter }) kept)
 
   module _ (source : Source.Ghosts S) (drain : Drain.Ghosts S)
       (gives : C → C → Result S HandInFault → Type 0) (keeps : K → List ℕ → List ℕ → List ℕ → Bool → K → Type 0)

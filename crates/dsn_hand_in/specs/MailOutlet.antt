@@ -6,6 +6,7 @@ use Rattle.dsn_device.specs.declared.drain.Drain
 use Rattle.dsn_device.specs.declared.source.Source
 use Rattle.dsn_outcome.specs.Letter.{Letter}
 use Rattle.dsn_report.specs.declared.outbox_end.OutboxEnd.{OutboxEnd}
+use Rattle.dsn_report.specs.Site.{Site}
 use Rattle.dsn_smtp.specs.declared.hand_in_fault.HandInFault.{HandInFault}
 use Rattle.dsn_submission.specs.Submitter.{Handles, next_place, with_next_taken}
 use Rattle.dsn_submission.specs.Waiting.{empty_queue, letter_at, pushed, serial_in_hand}
@@ -14,10 +15,10 @@ use Rattle.dsn_submission.specs.declared.waiting.Waits.{Waits}
 use Rattle.dsn_hand_in.specs.SitedLetter.{SitedLetter, sited_message, sited_path}
 use Rattle.dsn_hand_in.specs.declared.mail_parts.MailParts.{MailParts}
 
--- The host name of the mail system that the notices are from; the letters that wait, the server, and what is kept; and
+-- The mail system that the notices are from; the letters that wait, the server, and what is kept; and
 -- whether memory for a letter was refused.
 pub record MailOutlet (S C K M : Type 0) : Type 0 where
-  pub host : List ℕ
+  pub site : Site
   pub parts : MailParts S C K M
   pub short : Bool
 
@@ -27,7 +28,7 @@ module _ {S C K M : Type 0} where
   with_letter outlet letter now = record outlet {
     parts = record outlet.parts {
       submitter = record outlet.parts.submitter {
-        waiting = pushed outlet.parts.submitter.waiting (record { host = outlet.host; letter = letter }) now;
+        waiting = pushed outlet.parts.submitter.waiting (record { site = outlet.site; letter = letter }) now;
       };
     };
   }
@@ -121,9 +122,9 @@ mail_outlet source drain gives keeps tells = record {
 
 -- an outlet to which no letter was passed: the client's name, after how many milliseconds a letter is given up, and the
 -- mark of the letters that are settled
-abbrev pub mail_start : {S C K M : Type 0} → List ℕ → List ℕ → ℕ → ℕ → C → K → M → MailOutlet S C K M
-mail_start host name give_up mark server refused marks = record {
-  host = host;
+abbrev pub mail_start : {S C K M : Type 0} → Site → List ℕ → ℕ → ℕ → C → K → M → MailOutlet S C K M
+mail_start site name give_up mark server refused marks = record {
+  site = site;
   parts = record {
     submitter = record {
       waiting = empty_queue mark;

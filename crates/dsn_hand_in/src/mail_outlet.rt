@@ -58,7 +58,7 @@ impl<'s, 'r, S: Stream, C, K, M, W, R> Model for MailOutlet<'s, 'r, S, C, K, M, 
 
     ghost Value = { MailOutlet S C K M };
 
-    ghost view = { λ o. record { host = o.site.now; parts = o.parts; short = o.is_short } };
+    ghost view = { λ o. record { site = o.site.now; parts = o.parts; short = o.is_short } };
 }
 
 impl<
@@ -79,7 +79,7 @@ impl<
         watcher: W,
         clock: RunClock<'r, R>,
     ) -> Self
-        ensures { result ≡ record { host = site.now; parts = parts.entry; short = false } }
+        ensures { result ≡ record { site = site.now; parts = parts.entry; short = false } }
     {
         MailOutlet {
             site,

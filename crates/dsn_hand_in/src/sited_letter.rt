@@ -21,13 +21,13 @@ impl<'s> Model for SitedLetter<'s> {
 
     ghost Value = { SitedLetter };
 
-    ghost view = { λ s. record { host = s.site.now; letter = s.letter } };
+    ghost view = { λ s. record { site = s.site.now; letter = s.letter } };
 }
 
 impl<'s> SitedLetter<'s> {
     /// The letter with this mail system.
     pub fn new(site: &'s Site, letter: Letter) -> SitedLetter<'s>
-        ensures { result ≡ record { host = site.now; letter = letter } }
+        ensures { result ≡ record { site = site.now; letter = letter } }
     {
         SitedLetter { site, letter }
     }

@@ -7,6 +7,7 @@ use Rattle.dsn_postfix_files.specs.QueueRecord.{PlacedBytes}
 use Rattle.dsn_postfix_notices.specs.requests.Heading.{front_lines}
 use Rattle.dsn_postfix_notices.specs.requests.Task.{Task}
 use Rattle.dsn_postfix_notices.specs.requests.ThreadId.{thread_id}
+use Rattle.dsn_report.specs.Site.{plain_site}
 
 abbrev asked : ℕ → NoticeRequest
 asked options = record {
@@ -25,7 +26,7 @@ abbrev task_with : Bool → ℕ → Task
 task_with threaded options = record {
   terms = record {
     settings = record {
-      host = codes "mx.example.net";
+      site = plain_site (codes "mx.example.net");
       double_bounce = codes "double-bounce@mx.example.net";
       lifetime = 432000;
       size_limit = 50000;

@@ -12,6 +12,7 @@ use Rattle.dsn_report.proofs.PieceLemmas.{pieces-line}
 use Rattle.dsn_report.specs.Data.{ReceivesData, ends_data, message_lines, without_dot}
 use Rattle.dsn_report.specs.Lines.{begins_with_dot, longest_line, pieces_of_text, text_of_lines}
 use Rattle.dsn_report.specs.Outbox.{mail_data}
+use Rattle.dsn_report.specs.Site.{Site}
 use Rattle.dsn_postfix.specs.RequestFlags.{is_tls_optional}
 use Rattle.dsn_postfix_files.specs.QueueRecord.{PlacedBytes}
 use Rattle.dsn_postfix_notices.specs.requests.Heading.{ReceivesFront, front_lines, front_of, is_front_line, received, thread_lines, tls_lines}
@@ -112,7 +113,7 @@ front_legal task records =
     list_all-append is_front_line (thread_lines (thread_id task.terms.settings.threaded records)) (tls_lines (is_tls_optional task.notice))
     ∙ rw (thread-legal task.terms.settings.threaded records, tls-legal (is_tls_optional task.notice)) refl
 
-pub front_received : (host : List ℕ) (letter : Letter) → ReceivesData host letter → ReceivesFront host letter
-front_received host letter receives task records =
-    received-front (front_lines task records) (mail_data host letter) (front_legal task records)
+pub front_received : (site : Site) (letter : Letter) → ReceivesData site letter → ReceivesFront site letter
+front_received site letter receives task records =
+    received-front (front_lines task records) (mail_data site letter) (front_legal task records)
     ∙ ap (λ (text : List ℕ). front_of task records ++ text) receives

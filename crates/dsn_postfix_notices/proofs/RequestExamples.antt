@@ -37,6 +37,7 @@ use Rattle.dsn_postfix_notices.specs.requests.RequestLaws.{hand_ins}
 use Rattle.dsn_postfix_notices.specs.requests.RequestLetters.{first_serial, message_said, next_serial, places_done}
 use Rattle.dsn_postfix_notices.specs.requests.RequestStatus.{RequestAnswer, not_carried_out}
 use Rattle.dsn_postfix_notices.specs.requests.Task.{SettingsSaid, Task, Terms}
+use Rattle.dsn_report.specs.Site.{plain_site}
 
 abbrev id : List ℕ
 id = codes "6BB87A7E6A1"
@@ -86,7 +87,7 @@ append_with flags = record {
 
 abbrev settings_with : PostmasterCopies → SettingsSaid
 settings_with copies = record {
-  host = codes "mx.example.net";
+  site = plain_site (codes "mx.example.net");
   double_bounce = codes "double-bounce@mx.example.net";
   lifetime = 432000;
   size_limit = 50000;

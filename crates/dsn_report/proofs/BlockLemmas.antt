@@ -100,3 +100,8 @@ pub parts-after : (header first second third last : List (List ℕ))
     → header ++ (([] ∷ first) ++ (([] ∷ second) ++ (([] ∷ third) ++ last)))
     ≡ header ++ [] ∷ [] ++ (first ++ [] ∷ []) ++ (second ++ [] ∷ []) ++ third ++ last
 parts-after header first second third last = simp append_assoc refl
+
+-- a line of a name and a value in three pieces
+pub line-of-three : (name a b c value : List ℕ) → a ++ b ++ c ≡ value → name ++ a ++ b ++ c ≡ name ++ value
+line-of-three name a b c value is =
+    ap (λ front. front ++ c) (append_assoc name a b) ∙ append_assoc name (a ++ b) c ∙ ap (λ text. name ++ text) is

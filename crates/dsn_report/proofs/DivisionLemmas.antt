@@ -1,6 +1,6 @@
 -- A notice divides into its parts.
-use Rattle.std.proofs.Common.{◌≡◌, ℕ, suc, ◌≤◌, map, Bool, true, false, List, [], ◌∷◌, ◌++◌, Option, Some, None, length, take, codes, refl, sym, ap, ◌∙◌, arith, append_assoc, append-nil, length-append, nat_eq}
-use Rattle.std.specs.Prelude.{All, option_map}
+use Rattle.std.proofs.Common.{◌≡◌, ℕ, suc, map, Bool, true, false, List, [], ◌∷◌, ◌++◌, Option, Some, None, length, take, codes, refl, sym, ap, ◌∙◌, arith, append_assoc, append-nil, length-append, nat_eq}
+use Rattle.std.specs.Prelude.{All, IfSome, option_map}
 use Rattle.std.specs.List.{list_any, flat_map}
 use Rattle.std.specs.Cmp.Lexicographic.{unequal}
 use Rattle.std.proofs.lemmas.Bool.{or_from, or_parts}
@@ -17,15 +17,18 @@ use Rattle.dsn_outcome.specs.declared.wording.Wording.TheVariants.{ByService, By
 use Rattle.dsn_text.specs.declared.service.Service.{Service}
 use Rattle.dsn_text.specs.declared.service.Service.TheVariants.{Bounce, Defer, Trace}
 use Rattle.dsn_report.proofs.BoundaryLaw.{boundary_number-is}
-use Rattle.dsn_report.specs.Boundary.{boundary_of, is_delimiter, is_eight_bit, is_ruled_out, returned_lines, returns_message}
+use Rattle.dsn_report.specs.Boundary.{boundary_of, boundary_text, is_delimiter, is_ruled_out, returned_lines, returns_eight_bit, returns_message}
 use Rattle.dsn_report.specs.DeliveryStatus.{line_if_any, per_message_fields, per_recipient_fields, recipient_group, delivery_status, typed, usual_address_type, usual_diagnostic_type}
 use Rattle.dsn_report.specs.Multipart.{DividesIntoParts, divide, divide_more, message_body, multipart_of, multipart_of_pieces, part_lines, returned_parts, notice_parts, is_last_delimiter}
 use Rattle.dsn_report.specs.PlainWords.{meaning_of}
-use Rattle.dsn_report.specs.Notice.{encoding_lines, explanation, guidance, reply_beside, reply_lines, notice_header, part_header, part_of, outcome_lines, notification, origin_told, recipient_told, returned_description, returned_part, returned_type, words_by, words_of, lines_with_boundary, notice_lines, notice_of}
+use Rattle.dsn_report.specs.Notice.{encoding_lines, explanation, guidance, is_eight_bit, notification_type, own_preface, preface_by, preface_of, reply_beside, reply_lines, notice_header, template_of, part_header, part_of, outcome_lines, notification, origin_told, recipient_told, returned_description, returned_part, returned_type, words_by, words_of, lines_with_boundary, notice_lines, notice_of}
 use Rattle.dsn_report.specs.Lines.{text_of_pieces}
+use Rattle.dsn_report.specs.Site.{Site}
+use Rattle.dsn_report.specs.Template.{IsTemplate, Template, template_lines}
 use Rattle.dsn_report.specs.WellFormed.{IsWellFormed}
 use Rattle.dsn_report.proofs.ExtensionLemmas.{extension_lines-pass, none-delimits}
 use Rattle.dsn_report.proofs.LinesLemmas.{notice_lines-eight_bit}
+use Rattle.dsn_report.proofs.TemplateLemmas.{none-like, template-keeps, template-legal}
 use Rattle.dsn_report.proofs.PieceLemmas.{has_line_bytes-legal, map-text_of_pieces, pieces-lines}
 
 -- ---- lines that are not delimiters
@@ -88,27 +91,43 @@ none-guidance boundary host ByOutcome Defer arrived = refl
 none-guidance boundary host ByOutcome Trace true = refl
 none-guidance boundary host ByOutcome Trace false = refl
 
-none-outcome : (boundary : List ℕ) (wording : Wording) (outcome : Outcome) → NoneDelimits boundary (outcome_lines wording outcome)
+none-outcome : (boundary : List ℕ) (wording explained : Wording) (outcome : Outcome) → NoneDelimits boundary (outcome_lines wording explained outcome)
 unfolding outcome_lines
-none-outcome boundary wording outcome =
+none-outcome boundary wording explained outcome =
     let told = recipient_told outcome.recipient (origin_told wording outcome) in
     let line = told ++ codes ": " ++ action_word outcome.action ++ codes " (" ++ outcome.status ++ codes ")" in
     let rest = codes ": " ++ (action_word outcome.action ++ (codes " (" ++ (outcome.status ++ codes ")"))) in
     let regrouped : line ≡ told ++ rest = simp append_assoc refl in
-    or_from (is_delimiter boundary line) (list_any (is_delimiter boundary) (explanation wording outcome))
+    or_from (is_delimiter boundary line) (list_any (is_delimiter boundary) (explanation explained outcome))
     (ap (is_delimiter boundary) regrouped ∙ none-told boundary outcome.recipient rest (origin_told wording outcome))
-    (none-explanation boundary wording outcome)
+    (none-explanation boundary explained outcome)
 
-none-notification : (boundary host : List ℕ) (letter : Letter) → NoneDelimits boundary (notification host letter)
+-- this project's own text
+none-own : (boundary host : List ℕ) (letter : Letter) → NoneDelimits boundary (own_preface host (words_of letter) letter.draft.wording).text
+none-own boundary host letter =
+    or_from (is_delimiter boundary (words_of letter).opening) (list_any (is_delimiter boundary) (guidance letter.draft.wording host (words_of letter).consequence))
+    (none-opening boundary letter.draft.wording letter.key.service _) (none-guidance boundary host letter.draft.wording letter.key.service _)
+
+none-template : (letter : Letter) (template : Template) → IsTemplate template → NoneDelimits (boundary_of letter) (template_lines template)
+unfolding boundary_text
+none-template letter template legal = none-like letter.key.service _ (template_lines template) (template-keeps template legal).apart
+
+none-preface : (site : Site) (letter : Letter) → IsWellFormed site letter → NoneDelimits (boundary_of letter) (preface_of site letter).text
+unfolding preface_of
+none-preface site letter formed = here (template_of site.templates letter) (template-legal site.templates formed.site_legal.templates_legal letter)
+  where
+    here : (template : Option Template) → IfSome template IsTemplate → NoneDelimits (boundary_of letter) (preface_by site.host (words_of letter) letter.draft.wording template).text
+    here None legal = none-own (boundary_of letter) site.host letter
+    here (Some template) legal = none-template letter template legal
+
+none-notification : (site : Site) (letter : Letter) → IsWellFormed site letter → NoneDelimits (boundary_of letter) (notification site letter)
 unfolding notification
-none-notification boundary host letter =
-    let outcomes = flat_map (outcome_lines letter.draft.wording) letter.outcomes in
-    let guided = guidance letter.draft.wording host (words_of letter).consequence in
-    let front = (codes "This is the mail system at host " ++ host ++ codes ".") ∷ [] ∷ (words_of letter).opening ∷ guided in
-    none-append boundary front ([] ∷ outcomes)
-    (or_from (is_delimiter boundary (words_of letter).opening) (list_any (is_delimiter boundary) guided)
-    (none-opening boundary letter.draft.wording letter.key.service _) (none-guidance boundary host letter.draft.wording letter.key.service _))
-    (none-flat_map boundary (outcome_lines letter.draft.wording) letter.outcomes (none-outcome boundary letter.draft.wording))
+none-notification site letter formed =
+    let boundary = boundary_of letter in
+    let explained = (preface_of site letter).explained in
+    let outcomes = flat_map (outcome_lines letter.draft.wording explained) letter.outcomes in
+    none-append boundary (preface_of site letter).text ([] ∷ outcomes) (none-preface site letter formed)
+    (none-flat_map boundary (outcome_lines letter.draft.wording explained) letter.outcomes (none-outcome boundary letter.draft.wording explained))
 
 none-message : (boundary host : List ℕ) (letter : Letter) → is_extension_text letter.draft.extensions ≡ true → NoneDelimits boundary (per_message_fields host letter)
 unfolding per_message_fields
@@ -221,7 +240,7 @@ divide-returned boundary description content_type eight (line ∷ ls) tail none 
 -- the returned part of a letter's notice
 abbrev own_returned : Letter → List ℕ → List (List ℕ)
 own_returned letter boundary =
-    returned_part boundary (returned_description (words_of letter) (returns_message letter.draft)) (returned_type (returns_message letter.draft)) (is_eight_bit letter.draft) (returned_lines letter.draft)
+    returned_part boundary (returned_description (words_of letter) (returns_message letter.draft)) (returned_type (returns_message letter.draft)) (returns_eight_bit letter.draft) (returned_lines letter.draft)
 
 -- the body of a notice begins after the last line of its header and an empty line
 after-header : (eight : Bool) (first second third fourth tail : List (List ℕ))
@@ -231,36 +250,36 @@ after-header true first second third fourth tail = refl
 after-header false first second third fourth tail = refl
 
 -- the body of a notice is its parts and the last delimiter
-body-is : (host : List ℕ) (letter : Letter) (boundary : List ℕ) (tail : List (List ℕ)) → message_body (lines_with_boundary host letter boundary ++ tail) ≡
-    part_of boundary (codes "Notification") (codes "text/plain; charset=us-ascii") false (notification host letter)
-    ++ (part_of boundary (codes "Delivery report") (codes "message/delivery-status") false (delivery_status host letter)
+body-is : (site : Site) (letter : Letter) (boundary : List ℕ) (tail : List (List ℕ)) → message_body (lines_with_boundary site letter boundary ++ tail) ≡
+    part_of boundary (codes "Notification") (notification_type site letter) (preface_of site letter).eight_bit (notification site letter)
+    ++ (part_of boundary (codes "Delivery report") (codes "message/delivery-status") false (delivery_status site.host letter)
     ++ (own_returned letter boundary ++ ((codes "--" ++ boundary ++ codes "--") ∷ tail)))
 unfolding message_body lines_with_boundary notice_header
-body-is host letter boundary tail =
-    let person = part_of boundary (codes "Notification") (codes "text/plain; charset=us-ascii") false (notification host letter) in
-    let program = part_of boundary (codes "Delivery report") (codes "message/delivery-status") false (delivery_status host letter) in
+body-is site letter boundary tail =
+    let person = part_of boundary (codes "Notification") (notification_type site letter) (preface_of site letter).eight_bit (notification site letter) in
+    let program = part_of boundary (codes "Delivery report") (codes "message/delivery-status") false (delivery_status site.host letter) in
     let returned = own_returned letter boundary in
     let end = (codes "--" ++ boundary ++ codes "--") ∷ [] in
-    after-header (is_eight_bit letter.draft) person program returned end tail
+    after-header (is_eight_bit site letter) person program returned end tail
     ∙ append_assoc (person ++ program ++ returned) end tail
     ∙ append_assoc (person ++ program) returned (end ++ tail)
     ∙ append_assoc person program (returned ++ (end ++ tail))
 
-notice-divides : (host : List ℕ) (letter : Letter) → length letter.draft.header ≤ 32768 → is_extension_text letter.draft.extensions ≡ true → All IsLegalOutcome letter.outcomes → (tail : List (List ℕ))
-    → divide (boundary_of letter) (message_body (notice_lines host letter ++ tail))
-    ≡ record { before = []; parts = map (λ part. part ++ [] ∷ []) (notice_parts host letter); after = Some tail }
+notice-divides : (site : Site) (letter : Letter) → IsWellFormed site letter → (tail : List (List ℕ))
+    → divide (boundary_of letter) (message_body (notice_lines site letter ++ tail))
+    ≡ record { before = []; parts = map (λ part. part ++ [] ∷ []) (notice_parts site letter); after = Some tail }
 unfolding notice_lines notice_parts is_ruled_out
-notice-divides host letter short fields legal tail =
+notice-divides site letter formed tail =
     let boundary = boundary_of letter in
-    let free = (boundary_number-is letter short).free in
-    ap (divide boundary) (body-is host letter boundary tail)
-    ∙ divide-part boundary (codes "Notification") (codes "text/plain; charset=us-ascii") false (notification host letter) _ _ tail (none-notification boundary host letter)
-    (divide-part boundary (codes "Delivery report") (codes "message/delivery-status") false (delivery_status host letter) _ _ tail (none-status boundary host letter fields legal)
-    (divide-returned boundary _ _ (is_eight_bit letter.draft) (returned_lines letter.draft) tail free))
+    let free = (boundary_number-is letter formed.header_short).free in
+    ap (divide boundary) (body-is site letter boundary tail)
+    ∙ divide-part boundary (codes "Notification") (notification_type site letter) (preface_of site letter).eight_bit (notification site letter) _ _ tail (none-notification site letter formed)
+    (divide-part boundary (codes "Delivery report") (codes "message/delivery-status") false (delivery_status site.host letter) _ _ tail (none-status boundary site.host letter formed.extensions_legal formed.outcomes_legal)
+    (divide-returned boundary _ _ (returns_eight_bit letter.draft) (returned_lines letter.draft) tail free))
 
-pub division_law : (host : List ℕ) (letter : Letter) → IsWellFormed host letter → DividesIntoParts host letter
+pub division_law : (site : Site) (letter : Letter) → IsWellFormed site letter → DividesIntoParts site letter
 unfolding multipart_of notice_of text_of_pieces
-division_law host letter formed =
-    ap (λ pieces. multipart_of_pieces (divide (boundary_of letter) (message_body pieces))) (pieces-lines (notice_lines host letter) (has_line_bytes-legal (notice_lines host letter) (notice_lines-eight_bit host letter formed)))
-    ∙ ap multipart_of_pieces (notice-divides host letter formed.header_short formed.extensions_legal formed.outcomes_legal ([] ∷ []))
-    ∙ ap (λ parts. record { preamble = None; parts = parts; epilogue = Some [] }) (map-text_of_pieces (notice_parts host letter))
+division_law site letter formed =
+    ap (λ pieces. multipart_of_pieces (divide (boundary_of letter) (message_body pieces))) (pieces-lines (notice_lines site letter) (has_line_bytes-legal (notice_lines site letter) (notice_lines-eight_bit site letter formed)))
+    ∙ ap multipart_of_pieces (notice-divides site letter formed ([] ∷ []))
+    ∙ ap (λ parts. record { preamble = None; parts = parts; epilogue = Some [] }) (map-text_of_pieces (notice_parts site letter))

@@ -10,13 +10,12 @@ use Rattle.dsn_report.proofs.LineWriterLemmas.{text_of_lines-append}
 use Rattle.dsn_report.proofs.LinesLemmas.{fit-append, fit-eight_bit, fit-known, fit-path, fit-plain, notice_lines-eight_bit}
 use Rattle.dsn_report.proofs.PieceLemmas.{has_line_bytes, has_line_bytes-legal, pieces-lines}
 use Rattle.dsn_report.proofs.PlainLemmas.{and-parts, host-plain}
-use Rattle.dsn_report.specs.Boundary.{is_eight_bit}
 use Rattle.dsn_report.specs.Data.{ReceivesData, ReceivesNotice, ReceivesNotices, data_after, ends_data, message_lines, message_of, messages_in, messages_of, without_dot}
 use Rattle.dsn_report.specs.LegalLines.{is_eight_bit_byte}
 use Rattle.dsn_report.specs.Lines.{begins_with_dot, dot_stuffed, pieces_of_text, text_of_lines}
-use Rattle.dsn_report.specs.Notice.{notice_lines, notice_of}
+use Rattle.dsn_report.specs.Notice.{is_eight_bit, notice_lines, notice_of}
 use Rattle.dsn_report.specs.Outbox.{data_lines, greeting, goodbye, mail_data, mail_parameter, mail_transaction, outbox_of, transaction_lines}
-use Rattle.dsn_report.specs.Site.{IsHost}
+use Rattle.dsn_report.specs.Site.{Site, IsSite}
 use Rattle.dsn_report.specs.WellFormed.{IsWellFormed}
 
 -- the receiver gets each line before the one that ends the data
@@ -42,40 +41,40 @@ line-bytes-dot_stuffed (line ∷ lines) legal =
     here true = (and-parts (list_all is_eight_bit_byte line) (has_line_bytes lines) legal).0
     here false = (and-parts (list_all is_eight_bit_byte line) (has_line_bytes lines) legal).0
 
-data-bytes : (host : List ℕ) (letter : Letter) → IsWellFormed host letter → has_line_bytes (data_lines host letter) ≡ true
-data-bytes host letter formed =
-    let notice = line-bytes-dot_stuffed (notice_lines host letter) (has_line_bytes-legal (notice_lines host letter) (notice_lines-eight_bit host letter formed)) in
-    rw (list_all-append (list_all is_eight_bit_byte) (map dot_stuffed (notice_lines host letter)) (codes "." ∷ []), notice) refl
+data-bytes : (site : Site) (letter : Letter) → IsWellFormed site letter → has_line_bytes (data_lines site letter) ≡ true
+data-bytes site letter formed =
+    let notice = line-bytes-dot_stuffed (notice_lines site letter) (has_line_bytes-legal (notice_lines site letter) (notice_lines-eight_bit site letter formed)) in
+    rw (list_all-append (list_all is_eight_bit_byte) (map dot_stuffed (notice_lines site letter)) (codes "." ∷ []), notice) refl
 
 -- the bytes of the command MAIL
 mail-bytes : (eight : Bool) → list_all is_eight_bit_byte (codes "MAIL FROM:<>" ++ mail_parameter eight) ≡ true
 mail-bytes true = refl
 mail-bytes false = refl
 
-transaction-bytes : (host : List ℕ) (letter : Letter) → IsWellFormed host letter → has_line_bytes (transaction_lines host letter) ≡ true
+transaction-bytes : (site : Site) (letter : Letter) → IsWellFormed site letter → has_line_bytes (transaction_lines site letter) ≡ true
 unfolding transaction_lines
-transaction-bytes host letter formed =
+transaction-bytes site letter formed =
     let path = fit-append (fit-append (fit-known 9 (codes "RCPT TO:<") refl refl) (fit-path letter.draft.return_path formed.path_legal)) (fit-known 1 (codes ">") refl refl) in
-    rw (mail-bytes (is_eight_bit letter.draft), fit-eight_bit path, data-bytes host letter formed) refl
+    rw (mail-bytes (is_eight_bit site letter), fit-eight_bit path, data-bytes site letter formed) refl
 
 -- the receiver gets the lines of the message from those of its data
-message_lines-data : (host : List ℕ) (letter : Letter) → text_of_lines (message_lines (data_lines host letter ++ [] ∷ [])) ≡ notice_of host letter
+message_lines-data : (site : Site) (letter : Letter) → text_of_lines (message_lines (data_lines site letter ++ [] ∷ [])) ≡ notice_of site letter
 unfolding notice_of
-message_lines-data host letter =
-    ap (λ lines. text_of_lines (message_lines lines)) (append_assoc (map dot_stuffed (notice_lines host letter)) (codes "." ∷ []) ([] ∷ []))
-    ∙ ap text_of_lines (message_lines-dot_stuffed (notice_lines host letter) ([] ∷ []))
+message_lines-data site letter =
+    ap (λ lines. text_of_lines (message_lines lines)) (append_assoc (map dot_stuffed (notice_lines site letter)) (codes "." ∷ []) ([] ∷ []))
+    ∙ ap text_of_lines (message_lines-dot_stuffed (notice_lines site letter) ([] ∷ []))
 
-pub data_law : (host : List ℕ) (letter : Letter) → IsWellFormed host letter → ReceivesData host letter
+pub data_law : (site : Site) (letter : Letter) → IsWellFormed site letter → ReceivesData site letter
 unfolding mail_data
-data_law host letter formed =
-    ap (λ pieces. text_of_lines (message_lines pieces)) (pieces-lines (data_lines host letter) (data-bytes host letter formed))
-    ∙ message_lines-data host letter
+data_law site letter formed =
+    ap (λ pieces. text_of_lines (message_lines pieces)) (pieces-lines (data_lines site letter) (data-bytes site letter formed))
+    ∙ message_lines-data site letter
 
-pub dots_law : (host : List ℕ) (letter : Letter) → IsWellFormed host letter → ReceivesNotice host letter
+pub dots_law : (site : Site) (letter : Letter) → IsWellFormed site letter → ReceivesNotice site letter
 unfolding message_of mail_transaction data_after transaction_lines
-dots_law host letter formed =
-    ap (λ pieces. text_of_lines (message_lines (data_after pieces))) (pieces-lines (transaction_lines host letter) (transaction-bytes host letter formed))
-    ∙ message_lines-data host letter
+dots_law site letter formed =
+    ap (λ pieces. text_of_lines (message_lines (data_after pieces))) (pieces-lines (transaction_lines site letter) (transaction-bytes site letter formed))
+    ∙ message_lines-data site letter
 
 -- ---- a whole session
 
@@ -101,68 +100,68 @@ messages_in-dot_stuffed message (line ∷ rest) after =
           ap (λ sent. messages_in (Some message) (sent ∷ more)) plain ∙ rw (other.0, messages_in) (rw other.0 refl)
     ]
 
-messages_in-transaction : (host : List ℕ) (letter : Letter) (after : List (List ℕ))
-    → messages_in None (transaction_lines host letter ++ after) ≡ notice_lines host letter ∷ messages_in None after
+messages_in-transaction : (site : Site) (letter : Letter) (after : List (List ℕ))
+    → messages_in None (transaction_lines site letter ++ after) ≡ notice_lines site letter ∷ messages_in None after
 unfolding messages_in transaction_lines
-messages_in-transaction host letter after =
-    ap (messages_in (Some [])) (append_assoc (map dot_stuffed (notice_lines host letter)) (codes "." ∷ []) after)
-    ∙ messages_in-dot_stuffed [] (notice_lines host letter) after
+messages_in-transaction site letter after =
+    ap (messages_in (Some [])) (append_assoc (map dot_stuffed (notice_lines site letter)) (codes "." ∷ []) after)
+    ∙ messages_in-dot_stuffed [] (notice_lines site letter) after
 
-messages_in-transactions : (host : List ℕ) (letters : List Letter) (after : List (List ℕ))
-    → messages_in None (flat_map (transaction_lines host) letters ++ after) ≡ map (notice_lines host) letters ++ messages_in None after
-messages_in-transactions host [] after = refl
-messages_in-transactions host (letter ∷ letters) after =
-    ap (messages_in None) (append_assoc (transaction_lines host letter) (flat_map (transaction_lines host) letters) after)
-    ∙ messages_in-transaction host letter (flat_map (transaction_lines host) letters ++ after)
-    ∙ ap (λ more. notice_lines host letter ∷ more) (messages_in-transactions host letters after)
+messages_in-transactions : (site : Site) (letters : List Letter) (after : List (List ℕ))
+    → messages_in None (flat_map (transaction_lines site) letters ++ after) ≡ map (notice_lines site) letters ++ messages_in None after
+messages_in-transactions site [] after = refl
+messages_in-transactions site (letter ∷ letters) after =
+    ap (messages_in None) (append_assoc (transaction_lines site letter) (flat_map (transaction_lines site) letters) after)
+    ∙ messages_in-transaction site letter (flat_map (transaction_lines site) letters ++ after)
+    ∙ ap (λ more. notice_lines site letter ∷ more) (messages_in-transactions site letters after)
 
 -- the lines of the session
-abbrev outbox_lines : List ℕ → List Letter → List (List ℕ)
-outbox_lines host letters = (codes "EHLO " ++ host) ∷ flat_map (transaction_lines host) letters ++ codes "QUIT" ∷ []
+abbrev outbox_lines : Site → List Letter → List (List ℕ)
+outbox_lines site letters = (codes "EHLO " ++ site.host) ∷ flat_map (transaction_lines site) letters ++ codes "QUIT" ∷ []
 
-transactions-text : (host : List ℕ) (letters : List Letter) → flat_map (mail_transaction host) letters ≡ text_of_lines (flat_map (transaction_lines host) letters)
+transactions-text : (site : Site) (letters : List Letter) → flat_map (mail_transaction site) letters ≡ text_of_lines (flat_map (transaction_lines site) letters)
 unfolding mail_transaction text_of_lines
-transactions-text host [] = refl
-transactions-text host (letter ∷ letters) =
-    ap (λ more. text_of_lines (transaction_lines host letter) ++ more) (transactions-text host letters)
-    ∙ sym (text_of_lines-append (transaction_lines host letter) (flat_map (transaction_lines host) letters))
+transactions-text site [] = refl
+transactions-text site (letter ∷ letters) =
+    ap (λ more. text_of_lines (transaction_lines site letter) ++ more) (transactions-text site letters)
+    ∙ sym (text_of_lines-append (transaction_lines site letter) (flat_map (transaction_lines site) letters))
 
-outbox-text : (host : List ℕ) (letters : List Letter) → outbox_of host letters ≡ text_of_lines (outbox_lines host letters)
+outbox-text : (site : Site) (letters : List Letter) → outbox_of site letters ≡ text_of_lines (outbox_lines site letters)
 unfolding outbox_of greeting goodbye
-outbox-text host letters =
-    let hello = (codes "EHLO " ++ host) ∷ [] in
+outbox-text site letters =
+    let hello = (codes "EHLO " ++ site.host) ∷ [] in
     let bye = codes "QUIT" ∷ [] in
-    let session = flat_map (transaction_lines host) letters in
-    ap (λ more. text_of_lines hello ++ more ++ text_of_lines bye) (transactions-text host letters)
+    let session = flat_map (transaction_lines site) letters in
+    ap (λ more. text_of_lines hello ++ more ++ text_of_lines bye) (transactions-text site letters)
     ∙ ap (λ more. more ++ text_of_lines bye) (sym (text_of_lines-append hello session))
     ∙ sym (text_of_lines-append (hello ++ session) bye)
 
-transactions-bytes : (host : List ℕ) (letters : List Letter) → All (IsWellFormed host) letters → has_line_bytes (flat_map (transaction_lines host) letters) ≡ true
-transactions-bytes host [] formed = refl
-transactions-bytes host (letter ∷ letters) formed =
-    list_all-append (list_all is_eight_bit_byte) (transaction_lines host letter) (flat_map (transaction_lines host) letters)
+transactions-bytes : (site : Site) (letters : List Letter) → All (IsWellFormed site) letters → has_line_bytes (flat_map (transaction_lines site) letters) ≡ true
+transactions-bytes site [] formed = refl
+transactions-bytes site (letter ∷ letters) formed =
+    list_all-append (list_all is_eight_bit_byte) (transaction_lines site letter) (flat_map (transaction_lines site) letters)
     ∙ rw (
-      transaction-bytes host letter (All-head (IsWellFormed host) letter letters formed),
-      transactions-bytes host letters (All-tail (IsWellFormed host) letter letters formed),
+      transaction-bytes site letter (All-head (IsWellFormed site) letter letters formed),
+      transactions-bytes site letters (All-tail (IsWellFormed site) letter letters formed),
     ) refl
 
-outbox-bytes : (host : List ℕ) (letters : List Letter) → IsHost host → All (IsWellFormed host) letters → has_line_bytes (outbox_lines host letters) ≡ true
-outbox-bytes host letters legal formed =
-    let hello = fit-append (fit-known 5 (codes "EHLO ") refl refl) (fit-plain (host-plain host legal)) in
-    let session = flat_map (transaction_lines host) letters in
-    rw (fit-eight_bit hello, list_all-append (list_all is_eight_bit_byte) session (codes "QUIT" ∷ []), transactions-bytes host letters formed) refl
+outbox-bytes : (site : Site) (letters : List Letter) → IsSite site → All (IsWellFormed site) letters → has_line_bytes (outbox_lines site letters) ≡ true
+outbox-bytes site letters legal formed =
+    let hello = fit-append (fit-known 5 (codes "EHLO ") refl refl) (fit-plain (host-plain site.host legal.host_legal)) in
+    let session = flat_map (transaction_lines site) letters in
+    rw (fit-eight_bit hello, list_all-append (list_all is_eight_bit_byte) session (codes "QUIT" ∷ []), transactions-bytes site letters formed) refl
 
-notices-text : (host : List ℕ) (letters : List Letter) → map text_of_lines (map (notice_lines host) letters) ≡ map (notice_of host) letters
+notices-text : (site : Site) (letters : List Letter) → map text_of_lines (map (notice_lines site) letters) ≡ map (notice_of site) letters
 unfolding notice_of
-notices-text host [] = refl
-notices-text host (letter ∷ letters) = ap (λ more. text_of_lines (notice_lines host letter) ∷ more) (notices-text host letters)
+notices-text site [] = refl
+notices-text site (letter ∷ letters) = ap (λ more. text_of_lines (notice_lines site letter) ∷ more) (notices-text site letters)
 
-pub outbox_law : (host : List ℕ) (letters : List Letter) → IsHost host → All (IsWellFormed host) letters → ReceivesNotices host letters
+pub outbox_law : (site : Site) (letters : List Letter) → IsSite site → All (IsWellFormed site) letters → ReceivesNotices site letters
 unfolding messages_of messages_in
-outbox_law host letters legal formed =
-    let session = flat_map (transaction_lines host) letters in
-    ap (λ text. map text_of_lines (messages_in None (pieces_of_text text))) (outbox-text host letters)
-    ∙ ap (λ pieces. map text_of_lines (messages_in None pieces)) (pieces-lines (outbox_lines host letters) (outbox-bytes host letters legal formed))
+outbox_law site letters legal formed =
+    let session = flat_map (transaction_lines site) letters in
+    ap (λ text. map text_of_lines (messages_in None (pieces_of_text text))) (outbox-text site letters)
+    ∙ ap (λ pieces. map text_of_lines (messages_in None pieces)) (pieces-lines (outbox_lines site letters) (outbox-bytes site letters legal formed))
     ∙ ap (λ lines. map text_of_lines (messages_in None lines)) (append_assoc session (codes "QUIT" ∷ []) ([] ∷ []))
-    ∙ ap (map text_of_lines) (messages_in-transactions host letters (codes "QUIT" ∷ [] ∷ []) ∙ append-nil (map (notice_lines host) letters))
-    ∙ notices-text host letters
+    ∙ ap (map text_of_lines) (messages_in-transactions site letters (codes "QUIT" ∷ [] ∷ []) ∙ append-nil (map (notice_lines site) letters))
+    ∙ notices-text site letters

@@ -11,24 +11,28 @@ use Rattle.dsn_text.specs.declared.action.Action.TheVariants.{Failed, Delayed}
 use Rattle.dsn_outcome.specs.declared.returned.Returned.TheVariants.{Header, Message, EightBitMessage}
 use Rattle.dsn_outcome.specs.declared.wording.Wording.TheVariants.{ByService, ByOutcome}
 use Rattle.dsn_text.specs.declared.service.Service.TheVariants.{Bounce, Defer, Trace}
-use Rattle.dsn_report.specs.Boundary.{is_eight_bit, returned_lines, returns_message, stands_whole, header_lines, boundary_text, boundary_number, is_ruled_out, first_failing}
+use Rattle.dsn_report.specs.Boundary.{returns_eight_bit, returned_lines, returns_message, stands_whole, header_lines, boundary_text, boundary_number, is_ruled_out, first_failing}
 use Rattle.dsn_report.specs.DeliveryStatus.{line_if_any, per_message_fields, per_recipient_fields, delivery_status}
 use Rattle.dsn_report.specs.Lines.{text_of_lines, dot_stuffed}
-use Rattle.dsn_report.specs.Notice.{notice_header, part_header, part_of, outcome_lines, recipient_told, explanation, guidance, notification, words_by, reply_lines, returned_part, lines_with_boundary, notice_lines, notice_of}
+use Rattle.dsn_report.specs.Notice.{notice_header, part_header, part_of, outcome_lines, preface_of, recipient_told, explanation, guidance, notification, template_of, words_by, reply_lines, returned_part, lines_with_boundary, notice_lines, notice_of}
 use Rattle.dsn_report.specs.PlainWords.{status_words}
+use Rattle.dsn_report.specs.Site.{Site, plain_site}
 use Rattle.dsn_report.specs.Outbox.{greeting, goodbye, transaction_lines, mail_transaction, outbox_of}
 
 abbrev host : List ℕ
 host = codes "mx.example.net"
 
+abbrev site : Site
+site = plain_site host
+
 -- line feed, and the CRLF of a line
 abbrev lf : List ℕ
 lf = 10 ∷ []
 
-abbrev crlf : List ℕ
+abbrev pub crlf : List ℕ
 crlf = 13 ∷ 10 ∷ []
 
-abbrev bob_fails : Outcome
+abbrev pub bob_fails : Outcome
 bob_fails = record {
   service = Bounce;
   recipient = codes "bob@example.org";
@@ -46,7 +50,7 @@ bob_fails = record {
   extensions = [];
 }
 
-abbrev to_ann : Option (List ℕ) → List ℕ → Draft
+abbrev pub to_ann : Option (List ℕ) → List ℕ → Draft
 to_ann envelope_id header = record {
   moment = 1700000000;
   arrival = 1699996400;
@@ -68,15 +72,15 @@ letter_with draft outcome = record {
 }
 
 -- the two dates of the examples
-flushed_at : date_text 1700000000 ≡ codes "Tue, 14 Nov 2023 22:13:20 +0000"
+pub flushed_at : date_text 1700000000 ≡ codes "Tue, 14 Nov 2023 22:13:20 +0000"
 unfolding date_text civil_after
 flushed_at = refl
 
-arrived_at : date_text 1699996400 ≡ codes "Tue, 14 Nov 2023 21:13:20 +0000"
+pub arrived_at : date_text 1699996400 ≡ codes "Tue, 14 Nov 2023 21:13:20 +0000"
 unfolding date_text civil_after
 arrived_at = refl
 
-retried_until : date_text 1700432000 ≡ codes "Sun, 19 Nov 2023 22:13:20 +0000"
+pub retried_until : date_text 1700432000 ≡ codes "Sun, 19 Nov 2023 22:13:20 +0000"
 unfolding date_text civil_after
 retried_until = refl
 
@@ -156,7 +160,7 @@ unfolding delivery_status per_message_fields per_recipient_fields line_if_any li
 extended_message_and_recipient = rw arrived_at refl
 
 -- one append and one flush: the whole outbox
-one_append_one_flush : outbox_of host (letter_with (to_ann None []) bob_fails ∷ []) ≡
+one_append_one_flush : outbox_of site (letter_with (to_ann None []) bob_fails ∷ []) ≡
     codes "EHLO mx.example.net" ++ crlf
     ++ codes "MAIL FROM:<>" ++ crlf
     ++ codes "RCPT TO:<ann@example.com>" ++ crlf
@@ -195,7 +199,7 @@ one_append_one_flush : outbox_of host (letter_with (to_ann None []) bob_fails �
     ++ codes "--B.A1B2C3.1700000000.0000--" ++ crlf
     ++ codes "." ++ crlf
     ++ codes "QUIT" ++ crlf
-unfolding outbox_of greeting goodbye mail_transaction transaction_lines notice_lines lines_with_boundary notice_header part_header part_of notification recipient_told guidance explanation outcome_lines returned_part delivery_status per_message_fields per_recipient_fields line_if_any lines_ended_by_lf text_of_lines dot_stuffed boundary_text boundary_number is_ruled_out first_failing is_eight_bit returned_lines returns_message header_lines digits
+unfolding outbox_of greeting goodbye mail_transaction transaction_lines notice_lines lines_with_boundary notice_header part_header part_of notification recipient_told guidance explanation outcome_lines returned_part delivery_status per_message_fields per_recipient_fields line_if_any lines_ended_by_lf text_of_lines dot_stuffed boundary_text boundary_number is_ruled_out first_failing returns_eight_bit returned_lines returns_message header_lines digits preface_of template_of
 one_append_one_flush = rw (flushed_at, arrived_at) refl
 
 abbrev bob_fails_with_all : Outcome
@@ -210,7 +214,7 @@ abbrev two_line_header : List ℕ
 two_line_header = codes "Subject: hi" ++ lf ++ codes "X: y" ++ crlf ++ crlf ++ codes "body"
 
 -- all optional fields: the whole notice
-all_optional_fields : notice_of host (letter_with (to_ann (Some (codes "QQ314159")) two_line_header) bob_fails_with_all) ≡
+all_optional_fields : notice_of site (letter_with (to_ann (Some (codes "QQ314159")) two_line_header) bob_fails_with_all) ≡
     codes "From: Mail Delivery System <MAILER-DAEMON@mx.example.net>" ++ crlf
     ++ codes "To: <ann@example.com>" ++ crlf
     ++ codes "Subject: Undelivered Mail Returned to Sender" ++ crlf
@@ -255,7 +259,7 @@ all_optional_fields : notice_of host (letter_with (to_ann (Some (codes "QQ314159
     ++ codes "X: y" ++ crlf
     ++ crlf
     ++ codes "--B.A1B2C3.1700000000.0000--" ++ crlf
-unfolding notice_of notice_lines lines_with_boundary notice_header part_header part_of notification recipient_told guidance explanation outcome_lines returned_part delivery_status per_message_fields per_recipient_fields line_if_any lines_ended_by_lf text_of_lines boundary_text boundary_number is_ruled_out first_failing is_eight_bit returned_lines returns_message header_lines digits
+unfolding notice_of notice_lines lines_with_boundary notice_header part_header part_of notification recipient_told guidance explanation outcome_lines returned_part delivery_status per_message_fields per_recipient_fields line_if_any lines_ended_by_lf text_of_lines boundary_text boundary_number is_ruled_out first_failing returns_eight_bit returned_lines returns_message header_lines digits preface_of template_of
 all_optional_fields = rw (flushed_at, arrived_at) refl
 
 -- a returned line begins with the delimiter of number 0: the boundary has number 1, and the body isn't returned
@@ -287,7 +291,7 @@ unfolding returned_lines returns_message header_lines
 empty_first_line = refl
 
 -- an empty outbox
-empty_outbox : outbox_of host [] ≡ codes "EHLO mx.example.net" ++ crlf ++ codes "QUIT" ++ crlf
+empty_outbox : outbox_of site [] ≡ codes "EHLO mx.example.net" ++ crlf ++ codes "QUIT" ++ crlf
 unfolding outbox_of greeting goodbye text_of_lines
 empty_outbox = refl
 
@@ -346,7 +350,7 @@ unfolding boundary_number first_failing is_ruled_out returned_lines returns_mess
 body_of_header_rules_nothing_out = refl
 
 -- the part of the notice with this message
-message_part : returned_part (codes "B") (words_by ByService Bounce true).message (codes "message/rfc822") (is_eight_bit (message_of_ann colliding_message)) (returned_lines (message_of_ann colliding_message)) ≡
+message_part : returned_part (codes "B") (words_by ByService Bounce true).message (codes "message/rfc822") (returns_eight_bit (message_of_ann colliding_message)) (returned_lines (message_of_ann colliding_message)) ≡
     codes "--B"
     ∷ codes "Content-Description: Undelivered Message"
     ∷ codes "Content-Type: message/rfc822"
@@ -356,7 +360,7 @@ message_part : returned_part (codes "B") (words_by ByService Bounce true).messag
     ∷ codes "--B.A1B2C3.1700000000.0000--"
     ∷ []
     ∷ []
-unfolding returned_part part_of part_header is_eight_bit returned_lines returns_message stands_whole
+unfolding returned_part part_of part_header returns_eight_bit returned_lines returns_message stands_whole
 message_part = refl
 
 -- ---- messages in 8bit mails
@@ -373,7 +377,7 @@ unfolding returned_lines returns_message stands_whole
 french_whole = refl
 
 -- its notice is an 8bit mail, which its header, the part and the command MAIL say
-french_header : notice_header host (letter_with (eight_bit_message_of_ann french) bob_fails) (codes "B") ≡
+french_header : notice_header site (letter_with (eight_bit_message_of_ann french) bob_fails) (codes "B") ≡
     codes "From: Mail Delivery System <MAILER-DAEMON@mx.example.net>"
     ∷ codes "To: <ann@example.com>"
     ∷ codes "Subject: Undelivered Mail Returned to Sender"
@@ -385,10 +389,10 @@ french_header : notice_header host (letter_with (eight_bit_message_of_ann french
     ∷ codes " boundary=\"B\""
     ∷ codes "Content-Transfer-Encoding: 8bit"
     ∷ []
-unfolding notice_header is_eight_bit returned_lines returns_message stands_whole digits
+unfolding notice_header returns_eight_bit returned_lines returns_message stands_whole digits preface_of template_of
 french_header = rw flushed_at refl
 
-french_part : returned_part (codes "B") (words_by ByService Bounce true).message (codes "message/rfc822") (is_eight_bit (eight_bit_message_of_ann french)) (returned_lines (eight_bit_message_of_ann french)) ≡
+french_part : returned_part (codes "B") (words_by ByService Bounce true).message (codes "message/rfc822") (returns_eight_bit (eight_bit_message_of_ann french)) (returned_lines (eight_bit_message_of_ann french)) ≡
     codes "--B"
     ∷ codes "Content-Description: Undelivered Message"
     ∷ codes "Content-Type: message/rfc822"
@@ -399,11 +403,11 @@ french_part : returned_part (codes "B") (words_by ByService Bounce true).message
     ∷ (233 ∷ 27 ∷ 255 ∷ [])
     ∷ []
     ∷ []
-unfolding returned_part part_of part_header is_eight_bit returned_lines returns_message stands_whole
+unfolding returned_part part_of part_header returns_eight_bit returned_lines returns_message stands_whole
 french_part = refl
 
-french_mail : take 2 (transaction_lines host (letter_with (eight_bit_message_of_ann french) bob_fails)) ≡ codes "MAIL FROM:<> BODY=8BITMIME" ∷ codes "RCPT TO:<ann@example.com>" ∷ []
-unfolding transaction_lines is_eight_bit returned_lines returns_message stands_whole
+french_mail : take 2 (transaction_lines site (letter_with (eight_bit_message_of_ann french) bob_fails)) ≡ codes "MAIL FROM:<> BODY=8BITMIME" ∷ codes "RCPT TO:<ann@example.com>" ∷ []
+unfolding transaction_lines returns_eight_bit returned_lines returns_message stands_whole preface_of template_of
 french_mail = refl
 
 -- a message that is 7bit is returned in a 7bit mail
@@ -411,8 +415,8 @@ seven_bit_whole : returned_lines (eight_bit_message_of_ann colliding_message) �
 unfolding returned_lines returns_message stands_whole
 seven_bit_whole = refl
 
-seven_bit_mail : take 1 (transaction_lines host (letter_with (eight_bit_message_of_ann colliding_message) bob_fails)) ≡ codes "MAIL FROM:<>" ∷ []
-unfolding transaction_lines is_eight_bit returned_lines returns_message stands_whole
+seven_bit_mail : take 1 (transaction_lines site (letter_with (eight_bit_message_of_ann colliding_message) bob_fails)) ≡ codes "MAIL FROM:<>" ∷ []
+unfolding transaction_lines returns_eight_bit returned_lines returns_message stands_whole preface_of template_of
 seven_bit_mail = refl
 
 -- if a line is too long, or has a NUL or a CR of its own, the header is returned, and cleaned
@@ -433,8 +437,8 @@ unfolding returned_lines returns_message stands_whole header_lines
 carriage_return_in_eight_bits = refl
 
 -- the notice of a header is a 7bit mail
-nul_mail : take 1 (transaction_lines host (letter_with (eight_bit_message_of_ann (codes "Subject: " ++ 233 ∷ lf ++ lf ++ 0 ∷ lf)) bob_fails)) ≡ codes "MAIL FROM:<>" ∷ []
-unfolding transaction_lines is_eight_bit returned_lines returns_message stands_whole header_lines
+nul_mail : take 1 (transaction_lines site (letter_with (eight_bit_message_of_ann (codes "Subject: " ++ 233 ∷ lf ++ lf ++ 0 ∷ lf)) bob_fails)) ≡ codes "MAIL FROM:<>" ∷ []
+unfolding transaction_lines returns_eight_bit returned_lines returns_message stands_whole header_lines preface_of template_of
 nul_mail = refl
 
 -- ---- words
@@ -452,20 +456,20 @@ success_by_service : (words_by ByService Trace true).subject ≡ codes "Mail Del
 success_by_service = refl
 
 -- the original recipient is named if it isn't the final one and the wording is by outcome
-origin_by_outcome : outcome_lines ByOutcome (record bob_fails { original = Some (codes "list@example.org") }) ≡
+origin_by_outcome : outcome_lines ByOutcome ByOutcome (record bob_fails { original = Some (codes "list@example.org") }) ≡
     codes "<bob@example.org> (expanded from <list@example.org>): failed (5.1.1)"
     ∷ codes "    The address does not exist. Check how it is spelled."
     ∷ []
 unfolding outcome_lines explanation recipient_told line_if_any reply_lines status_words
 origin_by_outcome = refl
 
-same_origin_by_outcome : outcome_lines ByOutcome (record bob_fails { original = Some (codes "bob@example.org") }) ≡
+same_origin_by_outcome : outcome_lines ByOutcome ByOutcome (record bob_fails { original = Some (codes "bob@example.org") }) ≡
     codes "<bob@example.org>: failed (5.1.1)"
     ∷ codes "    The address does not exist. Check how it is spelled."
     ∷ []
 unfolding outcome_lines explanation recipient_told line_if_any reply_lines status_words
 same_origin_by_outcome = refl
 
-origin_by_service : outcome_lines ByService (record bob_fails { original = Some (codes "list@example.org") }) ≡ codes "<bob@example.org>: failed (5.1.1)" ∷ []
+origin_by_service : outcome_lines ByService ByService (record bob_fails { original = Some (codes "list@example.org") }) ≡ codes "<bob@example.org>: failed (5.1.1)" ∷ []
 unfolding outcome_lines explanation recipient_told line_if_any
 origin_by_service = refl

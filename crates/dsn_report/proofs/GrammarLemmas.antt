@@ -27,6 +27,7 @@ use Rattle.dsn_report.specs.Grammar.{Field, HasType, field_line, same_text, valu
 use Rattle.dsn_report.specs.Boundary.{boundary_of}
 use Rattle.dsn_report.specs.Multipart.{message_body, multipart_of, notice_parts, part_lines}
 use Rattle.dsn_report.specs.Notice.{notice_of}
+use Rattle.dsn_report.specs.Site.{Site}
 use Rattle.dsn_report.specs.WellFormed.{IsWellFormed}
 
 -- a field of this name and value
@@ -386,17 +387,17 @@ gives-message host letter pass = record {
     of_extensions None = of_lines
     of_extensions (Some id) = of_lines
 
-message-group : (host : List ℕ) (letter : Letter) → IsWellFormed host letter → IsMessageGroup (message_fields host letter)
-message-group host letter formed =
+message-group : (site : Site) (letter : Letter) → IsWellFormed site letter → IsMessageGroup (message_fields site.host letter)
+message-group site letter formed =
     let pass = extension_lines-pass letter.draft.extensions formed.extensions_legal in
     record {
-      in_order = message-in-order letter.draft.envelope_id host (date_text letter.draft.arrival) (lines_ended_by_lf letter.draft.extensions) pass;
+      in_order = message-in-order letter.draft.envelope_id site.host (date_text letter.draft.arrival) (lines_ended_by_lf letter.draft.extensions) pass;
       plain =
           plain-append (field_if_any (codes "Original-Envelope-Id") [] letter.draft.envelope_id) _
           (plain-if-any (codes "Original-Envelope-Id") [] letter.draft.envelope_id refl
           (optional-printable is_envelope_id (λ text e. (envelope_id-plain text e).printable) letter.draft.envelope_id formed.envelope_id_legal))
-          (rw ((host-plain host formed.host_legal).printable, shown-date letter.draft.arrival formed.arrival_dated, plain-extensions (lines_ended_by_lf letter.draft.extensions) pass) refl);
-      reporter = ap is_some (gives-message host letter pass).reporter;
+          (rw ((host-plain site.host formed.site_legal.host_legal).printable, shown-date letter.draft.arrival formed.arrival_dated, plain-extensions (lines_ended_by_lf letter.draft.extensions) pass) refl);
+      reporter = ap is_some (gives-message site.host letter pass).reporter;
     }
 
 some-group : (outcomes : List Outcome) → outcomes ≢ [] → map recipient_fields outcomes ≢ []
@@ -411,29 +412,29 @@ each-gives (outcome ∷ outcomes) legal = (
 )
 
 -- a mail program finds the delivery status in the notice's bytes
-status-found : (host : List ℕ) (letter : Letter) → IsWellFormed host letter
-    → delivery_status_in (multipart_of (boundary_of letter) (notice_of host letter)) ≡ Some (delivery_status host letter ++ [] ∷ [])
+status-found : (site : Site) (letter : Letter) → IsWellFormed site letter
+    → delivery_status_in (multipart_of (boundary_of letter) (notice_of site letter)) ≡ Some (delivery_status site.host letter ++ [] ∷ [])
 unfolding notice_parts part_lines message_body
-status-found host letter formed =
-    let lines = part_lines (codes "Delivery report") (codes "message/delivery-status") false (delivery_status host letter) in
-    let legal = has_line_bytes-legal (delivery_status host letter) (delivery_status-eight_bit host letter formed) in
-    ap delivery_status_in (division_law host letter formed)
+status-found site letter formed =
+    let lines = part_lines (codes "Delivery report") (codes "message/delivery-status") false (delivery_status site.host letter) in
+    let legal = has_line_bytes-legal (delivery_status site.host letter) (delivery_status-eight_bit site letter formed) in
+    ap delivery_status_in (division_law site letter formed)
     ∙ ap (λ pieces. Some (message_body pieces)) (pieces-lines lines legal)
 
-pub grammar_law : (host : List ℕ) (letter : Letter) → IsWellFormed host letter → ReportsOutcomes host letter
-grammar_law host letter formed =
+pub grammar_law : (site : Site) (letter : Letter) → IsWellFormed site letter → ReportsOutcomes site letter
+grammar_law site letter formed =
     let pass = extension_lines-pass letter.draft.extensions formed.extensions_legal in
     record {
-      found = status-found host letter formed;
-      message = message_fields host letter;
+      found = status-found site letter formed;
+      message = message_fields site.host letter;
       recipients = map recipient_fields letter.outcomes;
       grammar = record {
-        laid_out = status-laid-out host letter pass formed.outcomes_legal;
-        message_group = message-group host letter formed;
+        laid_out = status-laid-out site.host letter pass formed.outcomes_legal;
+        message_group = message-group site letter formed;
         some_recipient = some-group letter.outcomes formed.sealed.reports;
         recipient_groups = All-map IsRecipientGroup recipient_fields letter.outcomes (λ k d below. legal-group _ (formed.outcomes_legal k d below));
       };
-      gives_message = gives-message host letter pass;
+      gives_message = gives-message site.host letter pass;
       gives_outcomes = each-gives letter.outcomes formed.outcomes_legal;
     }
 

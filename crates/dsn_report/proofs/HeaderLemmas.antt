@@ -27,7 +27,7 @@ lines_of_parts-cons p x [] = refl
 lines_of_parts-cons p x (b ∷ rest) = part-before (p b) x b (slice_split p rest)
 
 -- no byte before the first line feed is a line feed
-none-before : (text : List ℕ) (end : ℕ) → end ≤ length text → Nowhere (Passes (is_byte 10) text) 0 end → All (λ b. is_byte 10 b ≡ false) (take end text)
+pub none-before : (text : List ℕ) (end : ℕ) → end ≤ length text → Nowhere (Passes (is_byte 10) text) 0 end → All (λ b. is_byte 10 b ≡ false) (take end text)
 none-before text end within before = λ k d short.
     let low : k < end = omega (arith, length-take end text) in
     let same : get_or (take end text) k d ≡ get_or text k 0 = get_or-take end text k d low ∙ get_or_default text k d 0 (omega arith) in
@@ -108,7 +108,7 @@ line-kept eight line legal = ap (take 998) (bytes-kept line) ∙ take_all 998 li
     short true legal = (and_parts (nat_le (length line) 998) (list_all is_eight_bit_byte line) legal).0
     short false legal = (and_parts (nat_le (length line) 998) (list_all is_mail_byte line) legal).0
 
-lines-kept : (eight : Bool) (ls : List (List ℕ)) → list_all (is_line_of eight) ls ≡ true → map (line_shown true) ls ≡ ls
+pub lines-kept : (eight : Bool) (ls : List (List ℕ)) → list_all (is_line_of eight) ls ≡ true → map (line_shown true) ls ≡ ls
 lines-kept eight [] legal = refl
 lines-kept eight (line ∷ ls) legal =
     let parts = and_parts (is_line_of eight line) (list_all (is_line_of eight) ls) legal in

@@ -19,7 +19,11 @@ mod PlainLemmas
 mod PlainWordsExamples
 pub mod NoticeTextLemmas
 pub mod PosterLemmas
+pub mod PrefaceLemmas
 mod ReaderExamples
 mod RoomLemmas
 pub mod Rules
 pub mod SendLemmas
+mod TemplateExamples
+pub mod TemplateFileLemmas
+pub mod TemplateLemmas

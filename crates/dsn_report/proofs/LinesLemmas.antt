@@ -1,6 +1,6 @@
 -- Each line of a notice is legal.
-use Rattle.std.proofs.Common.{◌≡◌, ℕ, zero, suc, ◌+◌, ◌-◌, ◌/◌, ◌%◌, ◌^◌, ◌<◌, ◌≤◌, Bool, true, false, ◌||◌, ◌&&◌, List, [], ◌∷◌, ◌++◌, Option, Some, None, length, take, drop, map, get_or, codes, refl, sym, subst, ◌∙◌, arith, inl, inr, if◌then◌else◌, length-append}
-use Rattle.std.specs.Prelude.{nat_eq, nat_le, nat_lt, not, ◌==◌, All, decimal, unwrap_or, option_map}
+use Rattle.std.proofs.Common.{◌≡◌, ℕ, zero, suc, ◌+◌, ◌-◌, ◌/◌, ◌%◌, ◌^◌, ◌<◌, ◌≤◌, Bool, true, false, ◌||◌, ◌&&◌, List, [], ◌∷◌, ◌++◌, Option, Some, None, length, take, drop, map, get_or, codes, refl, sym, ap, subst, ◌∙◌, arith, inl, inr, if◌then◌else◌, length-append}
+use Rattle.std.specs.Prelude.{nat_eq, nat_le, nat_lt, not, ◌==◌, All, IfSome, decimal, unwrap_or, option_map}
 use Rattle.std.specs.List.{list_all, list_any, flat_map}
 use Rattle.std.specs.Str.Lines.{lines}
 use lib.Pointwise.{pointwise}
@@ -29,14 +29,17 @@ use Rattle.dsn_text.specs.Service.{service_letter}
 use Rattle.dsn_text.specs.Stamp.{date_text, civil_after, weekday_after, day_names, month_names, last_moment, is_moment}
 use Rattle.dsn_text.specs.Text.{is_printable, is_address, is_queue_id, is_mta_name, is_remark, is_type_name, is_envelope_id}
 use Rattle.dsn_report.proofs.DateText.{printable-between, shown-date}
+use Rattle.dsn_report.proofs.TemplateLemmas.{charset-plain, template-keeps, template-legal, value-plain}
+use Rattle.dsn_report.specs.Site.{Site}
+use Rattle.dsn_report.specs.Template.{IsTemplate, Template}
 use Rattle.dsn_report.specs.WellFormed.{IsWellFormed}
 use Rattle.dsn_report.specs.PlainWords.{is_for, meaning_of, other_words, status_table, status_words, words_for}
-use Rattle.dsn_report.specs.Notice.{encoding_lines, explanation, guidance, has_text, reply_beside, reply_lines, speaker, notice_header, origin_if_other, origin_told, recipient_told, returned_description, returned_type, words_by, part_header, part_of, outcome_lines, notification, returned_part, lines_with_boundary, notice_lines, notice_of}
+use Rattle.dsn_report.specs.Notice.{encoding_lines, explanation, foreign_lines, guidance, is_eight_bit, lines_of_any, notification_type, own_preface, preface_by, preface_of, template_of, words_of, has_text, reply_beside, reply_lines, speaker, notice_header, origin_if_other, origin_told, recipient_told, returned_description, returned_type, words_by, part_header, part_of, outcome_lines, notification, returned_part, lines_with_boundary, notice_lines, notice_of}
 use Rattle.dsn_report.specs.DeliveryStatus.{line_if_any, per_message_fields, per_recipient_fields, recipient_group, delivery_status, typed, usual_address_type, usual_diagnostic_type}
 use Rattle.dsn_report.proofs.ExtensionLemmas.{extension-laid, extension-name_plain, extension-value_plain, extension_lines-pass}
 use Rattle.dsn_report.proofs.BoundaryLaw.{boundary_number-few}
 use Rattle.dsn_report.proofs.PlainLemmas.{IsPlain, and-parts, or-parts, address-plain, mta-plain, envelope_id-plain, remark-plain, type_name-plain, id-plain, host-plain, status-plain}
-use Rattle.dsn_report.specs.Boundary.{letter_name, boundary_of, boundary_number, boundary_text, four_digits, shown_byte, shown_line, is_eight_bit, may_be_eight_bit, returned_lines, returns_message, stands_whole, header_lines, is_message}
+use Rattle.dsn_report.specs.Boundary.{letter_name, boundary_of, boundary_number, boundary_text, four_digits, shown_byte, shown_line, may_be_eight_bit, returned_lines, returns_eight_bit, returns_message, stands_whole, header_lines, is_message}
 use Rattle.dsn_report.specs.LegalLines.{HasLegalLines, has_high_byte, is_among, is_eight_bit_byte, is_eight_bit_line, is_line_byte, is_legal_line, is_line_of, is_mail_byte, is_mail_line}
 
 -- a text has at most the given number of bytes, and a line may hold each of them
@@ -198,31 +201,30 @@ returned-eight_bit draft = here (may_be_eight_bit draft.returned) (returned-mail
     here true legal = legal
     here false legal = eight_bit-lines (returned_lines draft) legal
 
--- the returned lines can be in the mail that the notice is
-returned-own : (draft : Draft) → list_all (is_line_of (is_eight_bit draft)) (returned_lines draft) ≡ true
-unfolding is_eight_bit
-returned-own draft = here (list_any has_high_byte (returned_lines draft)) refl
+-- lines of an 8bit mail can be in the mail that they make
+own-lines : (ls : List (List ℕ)) → list_all is_eight_bit_line ls ≡ true → list_all (is_line_of (list_any has_high_byte ls)) ls ≡ true
+own-lines ls legal = here (list_any has_high_byte ls) refl
   where
-    here : (high : Bool) → list_any has_high_byte (returned_lines draft) ≡ high → list_all (is_line_of high) (returned_lines draft) ≡ true
-    here true is = returned-eight_bit draft
-    here false is = mail-lines-or-high (returned_lines draft) ∙ rw (is, returned-eight_bit draft) refl
+    here : (high : Bool) → list_any has_high_byte ls ≡ high → list_all (is_line_of high) ls ≡ true
+    here true is = legal
+    here false is = mail-lines-or-high ls ∙ rw (is, legal) refl
 
--- a notice that may not be an 8bit mail isn't one
-pub seven_bit-only : (draft : Draft) → may_be_eight_bit draft.returned ≡ false → is_eight_bit draft ≡ false
-unfolding is_eight_bit
+-- a notice that may not be an 8bit mail returns no 8bit lines
+pub seven_bit-only : (draft : Draft) → may_be_eight_bit draft.returned ≡ false → returns_eight_bit draft ≡ false
+unfolding returns_eight_bit
 seven_bit-only draft only = none-high (returned_lines draft) (subst (λ eight. list_all (is_line_of eight) (returned_lines draft) ≡ true) only (returned-mail draft))
 
--- a notice that returns a header isn't an 8bit mail
-header-only : (draft : Draft) → returns_message draft ≡ false → is_eight_bit draft ≡ false
-unfolding is_eight_bit
+-- a header that is returned has no 8bit lines
+header-only : (draft : Draft) → returns_message draft ≡ false → returns_eight_bit draft ≡ false
+unfolding returns_eight_bit
 header-only draft header = none-high (returned_lines draft) (mail-lines (returned_lines draft) (header-returned-legal draft header))
 
--- a notice that returns a message is an 8bit mail if the message has a byte above 127
-message-high : (draft : Draft) → returns_message draft ≡ true → is_eight_bit draft ≡ list_any has_high_byte (lines draft.header)
-unfolding is_eight_bit returned_lines
+-- a message that is returned has 8bit lines if it has a byte above 127
+message-high : (draft : Draft) → returns_message draft ≡ true → returns_eight_bit draft ≡ list_any has_high_byte (lines draft.header)
+unfolding returns_eight_bit returned_lines
 message-high draft whole = rw whole refl
 
-pub whole-and-high : (draft : Draft) (whole : Bool) → whole ≡ returns_message draft → (whole && list_any has_high_byte (lines draft.header)) ≡ is_eight_bit draft
+pub whole-and-high : (draft : Draft) (whole : Bool) → whole ≡ returns_message draft → (whole && list_any has_high_byte (lines draft.header)) ≡ returns_eight_bit draft
 whole-and-high draft true is = sym (message-high draft (sym is))
 whole-and-high draft false is = sym (header-only draft (sym is))
 
@@ -364,9 +366,9 @@ fit-type usual (Some kind) fits e = fit-plain (type_name-plain kind e)
 fit-typed : (name usual : List ℕ) (kind : Option (List ℕ)) → IsFit 26 name → IsFit 32 usual → is_none_or is_type_name kind ≡ true → IsFit 60 (typed name usual kind)
 fit-typed name usual kind fits usual_fits e = fit-append (fit-append fits (fit-type usual kind usual_fits e)) (fit-known 2 (codes "; ") refl refl)
 
-fit-returned-type : (whole : Bool) → IsFit 50 (returned_type whole)
-fit-returned-type true = fit-known 50 (returned_type true) refl refl
-fit-returned-type false = fit-known 50 (returned_type false) refl refl
+fit-returned-type : (whole : Bool) → IsFit 60 (returned_type whole)
+fit-returned-type true = fit-known 60 (returned_type true) refl refl
+fit-returned-type false = fit-known 60 (returned_type false) refl refl
 
 fit-told : (recipient : List ℕ) (origin : Option (List ℕ)) → is_address recipient ≡ true → is_none_or is_address origin ≡ true → IsFit 540 (recipient_told recipient origin)
 unfolding recipient_told
@@ -431,7 +433,7 @@ record AreLegal (ok : List ℕ → Bool) (lines : List (List ℕ)) : Type 0 wher
   all : list_all ok lines ≡ true
 
 -- each line of a notice passes any test that the returned lines pass and each line of tabs and printable bytes passes
-module _ (ok : List ℕ → Bool) (sure : (line : List ℕ) → is_legal_line line ≡ true → ok line ≡ true) (host : List ℕ) (letter : Letter) (formed : IsWellFormed host letter) where
+module _ (ok : List ℕ → Bool) (sure : (line : List ℕ) → is_legal_line line ≡ true → ok line ≡ true) (site : Site) (letter : Letter) (formed : IsWellFormed site letter) where
   legal-none : AreLegal ok []
   legal-none = record { all = refl }
 
@@ -467,8 +469,39 @@ module _ (ok : List ℕ → Bool) (sure : (line : List ℕ) → is_legal_line li
       let parts = and-parts (is_extension_line line) (list_all is_extension_line lines) pass in
       legal-cons (fit-extension line parts.0) (omega arith) (legal-extensions lines parts.1)
 
-  fit-host : IsFit 255 host
-  fit-host = fit-plain (host-plain host formed.host_legal)
+  fit-host : IsFit 255 site.host
+  fit-host = fit-plain (host-plain site.host formed.site_legal.host_legal)
+
+  legal-template : IfSome (template_of site.templates letter) IsTemplate
+  legal-template = template-legal site.templates formed.site_legal.templates_legal letter
+
+  fit-sender : IsFit 989 (preface_of site letter).sender
+  unfolding preface_of
+  fit-sender = here (template_of site.templates letter) legal-template
+    where
+      here : (template : Option Template) → IfSome template IsTemplate → IsFit 989 (preface_by site.host (words_of letter) letter.draft.wording template).sender
+      here None legal =
+          let own = fit-append (fit-append (fit-known 50 (codes "Mail Delivery System <MAILER-DAEMON@") refl refl) fit-host) (fit-known 1 (codes ">") refl refl) in
+          record { legal = own.legal; short = omega (arith, own.short) }
+      here (Some template) legal = fit-plain (value-plain template.sender (template-keeps template legal).sender)
+
+  fit-preface-subject : IsFit 989 (preface_of site letter).subject
+  unfolding preface_of
+  fit-preface-subject = here (template_of site.templates letter) legal-template
+    where
+      here : (template : Option Template) → IfSome template IsTemplate → IsFit 989 (preface_by site.host (words_of letter) letter.draft.wording template).subject
+      here None legal =
+          let own = fit-subject letter.draft.wording letter.key.service _ in
+          record { legal = own.legal; short = omega (arith, own.short) }
+      here (Some template) legal = fit-plain (value-plain template.subject (template-keeps template legal).subject)
+
+  fit-charset : IsFit 40 (preface_of site letter).charset
+  unfolding preface_of
+  fit-charset = here (template_of site.templates letter) legal-template
+    where
+      here : (template : Option Template) → IfSome template IsTemplate → IsFit 40 (preface_by site.host (words_of letter) letter.draft.wording template).charset
+      here None legal = fit-known 40 (codes "us-ascii") refl refl
+      here (Some template) legal = fit-plain (charset-plain template.charset (template-keeps template legal).charset)
 
   fit-own : IsFit 60 (boundary_of letter)
   fit-own = fit-boundary letter (boundary_number letter) formed.id_legal formed.moment_dated (boundary_number-few letter)
@@ -477,20 +510,20 @@ module _ (ok : List ℕ → Bool) (sure : (line : List ℕ) → is_legal_line li
   legal-encoding true = legal-cons (fit-known 80 (codes "Content-Transfer-Encoding: 8bit") refl refl) (omega arith) legal-none
   legal-encoding false = legal-none
 
-  header-legal : AreLegal ok (notice_header host letter (boundary_of letter))
+  header-legal : AreLegal ok (notice_header site letter (boundary_of letter))
   unfolding notice_header
   header-legal =
-      legal-cons (fit-append (fit-append (fit-known 50 (codes "From: Mail Delivery System <MAILER-DAEMON@") refl refl) fit-host) (fit-known 1 (codes ">") refl refl)) (omega arith)
+      legal-cons (fit-append (fit-known 6 (codes "From: ") refl refl) fit-sender) (omega arith)
       (legal-cons (fit-append (fit-append (fit-known 5 (codes "To: <") refl refl) (fit-path letter.draft.return_path formed.path_legal)) (fit-known 1 (codes ">") refl refl)) (omega arith)
-      (legal-cons (fit-append (fit-known 9 (codes "Subject: ") refl refl) (fit-subject letter.draft.wording letter.key.service _)) (omega arith)
+      (legal-cons (fit-append (fit-known 9 (codes "Subject: ") refl refl) fit-preface-subject) (omega arith)
       (legal-cons (fit-append (fit-known 6 (codes "Date: ") refl refl) (fit-date letter.draft.moment formed.moment_dated)) (omega arith)
       (legal-cons (fit-append (fit-append (fit-append (fit-append (fit-append (fit-append (fit-known 13 (codes "Message-ID: <") refl refl) (fit-name letter formed.id_legal formed.moment_dated)) (fit-known 1 (codes ".") refl refl)) (fit-decimal letter.serial formed.serial_fits)) (fit-known 1 (codes "@") refl refl)) fit-host) (fit-known 1 (codes ">") refl refl)) (omega arith)
       (legal-cons (fit-known 80 (codes "Auto-Submitted: auto-replied") refl refl) (omega arith)
       (legal-cons (fit-known 80 (codes "MIME-Version: 1.0") refl refl) (omega arith)
       (legal-cons (fit-known 80 (codes "Content-Type: multipart/report; report-type=delivery-status;") refl refl) (omega arith)
-      (legal-cons (fit-append (fit-append (fit-known 11 (codes " boundary=\"") refl refl) fit-own) (fit-known 1 (codes "\"") refl refl)) (omega arith) (legal-encoding (is_eight_bit letter.draft))))))))))
+      (legal-cons (fit-append (fit-append (fit-known 11 (codes " boundary=\"") refl refl) fit-own) (fit-known 1 (codes "\"") refl refl)) (omega arith) (legal-encoding (is_eight_bit site letter))))))))))
 
-  part-legal : (description content_type : List ℕ) (eight : Bool) (body : List (List ℕ)) → IsFit 50 description → IsFit 50 content_type → AreLegal ok body
+  part-legal : (description content_type : List ℕ) (eight : Bool) (body : List (List ℕ)) → IsFit 50 description → IsFit 60 content_type → AreLegal ok body
       → AreLegal ok (part_of (boundary_of letter) description content_type eight body)
   unfolding part_of part_header
   part-legal description content_type eight body d t legal =
@@ -521,27 +554,38 @@ module _ (ok : List ℕ → Bool) (sure : (line : List ℕ) → is_legal_line li
       (reply-legal outcome.mta (reply_beside outcome.reason outcome.diagnostic) legal.mta_legal (beside-clean outcome.reason outcome.diagnostic legal.diagnostic_clean)))
       (legal-date-if-any (codes "    It will be tried again until ") outcome.retry_until (fit-known 40 (codes "    It will be tried again until ") refl refl) legal.retry_until_dated)
 
-  outcome-legal : (outcome : Outcome) → IsLegalOutcome outcome → AreLegal ok (outcome_lines letter.draft.wording outcome)
+  outcome-legal : (outcome : Outcome) → IsLegalOutcome outcome → AreLegal ok (outcome_lines letter.draft.wording (preface_of site letter).explained outcome)
   unfolding outcome_lines
   outcome-legal outcome legal =
       let told = fit-told outcome.recipient (origin_told letter.draft.wording outcome) legal.recipient_legal (origin-legal letter.draft.wording outcome legal.original_legal) in
       legal-cons (fit-append (fit-append (fit-append (fit-append (fit-append told (fit-known 2 (codes ": ") refl refl)) (fit-word outcome.action)) (fit-known 2 (codes " (") refl refl)) (fit-plain (status-plain outcome.status legal.status_legal))) (fit-known 1 (codes ")") refl refl)) (omega arith)
-      (explanation-legal letter.draft.wording outcome legal)
+      (explanation-legal (preface_of site letter).explained outcome legal)
 
-  guidance-legal : (wording : Wording) (arrived : Bool) → AreLegal ok (guidance wording host (words_by wording letter.key.service arrived).consequence)
+  guidance-legal : (wording : Wording) (arrived : Bool) → AreLegal ok (guidance wording site.host (words_by wording letter.key.service arrived).consequence)
   unfolding guidance
   guidance-legal ByService arrived = legal-none
   guidance-legal ByOutcome arrived =
       legal-cons (fit-consequence ByOutcome letter.key.service arrived) (omega arith)
       (legal-cons (fit-append (fit-append (fit-known 40 (codes "For help, write to <postmaster@") refl refl) fit-host) (fit-known 40 (codes "> and include this notice.") refl refl)) (omega arith) legal-none)
 
-  notification-legal : AreLegal ok (notification host letter)
+  own-legal : AreLegal ok (own_preface site.host (words_of letter) letter.draft.wording).text
+  own-legal =
+      legal-cons (fit-append (fit-append (fit-known 40 (codes "This is the mail system at host ") refl refl) fit-host) (fit-known 1 (codes ".") refl refl)) (omega arith)
+      (legal-empty (legal-cons (fit-opening letter.draft.wording letter.key.service _) (omega arith) (guidance-legal letter.draft.wording _)))
+
+  preface-legal : list_all ok (lines_of_any (template_of site.templates letter)) ≡ true → AreLegal ok (preface_of site letter).text
+  unfolding preface_of
+  preface-legal foreign = here (template_of site.templates letter) foreign
+    where
+      here : (template : Option Template) → list_all ok (lines_of_any template) ≡ true → AreLegal ok (preface_by site.host (words_of letter) letter.draft.wording template).text
+      here None pass = own-legal
+      here (Some template) pass = record { all = pass }
+
+  notification-legal : list_all ok (lines_of_any (template_of site.templates letter)) ≡ true → AreLegal ok (notification site letter)
   unfolding notification
-  notification-legal =
-      legal-append
-      (legal-cons (fit-append (fit-append (fit-known 40 (codes "This is the mail system at host ") refl refl) fit-host) (fit-known 1 (codes ".") refl refl)) (omega arith)
-      (legal-empty (legal-cons (fit-opening letter.draft.wording letter.key.service _) (omega arith) (guidance-legal letter.draft.wording _))))
-      (legal-empty (legal-flat_map (outcome_lines letter.draft.wording) letter.outcomes formed.outcomes_legal outcome-legal))
+  notification-legal foreign =
+      legal-append (preface-legal foreign)
+      (legal-empty (legal-flat_map (outcome_lines letter.draft.wording (preface_of site letter).explained) letter.outcomes formed.outcomes_legal outcome-legal))
 
   group-legal : (outcome : Outcome) → IsLegalOutcome outcome → AreLegal ok (recipient_group outcome)
   unfolding per_recipient_fields
@@ -563,7 +607,7 @@ module _ (ok : List ℕ → Bool) (sure : (line : List ℕ) → is_legal_line li
       (legal-date-if-any (codes "Will-Retry-Until: ") outcome.retry_until (fit-known 40 (codes "Will-Retry-Until: ") refl refl) legal.retry_until_dated))
       (legal-extensions (lines_ended_by_lf outcome.extensions) (extension_lines-pass outcome.extensions legal.extensions_legal)))
 
-  status-legal : AreLegal ok (delivery_status host letter)
+  status-legal : AreLegal ok (delivery_status site.host letter)
   unfolding delivery_status per_message_fields
   status-legal =
       legal-append
@@ -574,55 +618,93 @@ module _ (ok : List ℕ → Bool) (sure : (line : List ℕ) → is_legal_line li
       (legal-extensions (lines_ended_by_lf letter.draft.extensions) (extension_lines-pass letter.draft.extensions formed.extensions_legal)))))
       (legal-flat_map recipient_group letter.outcomes formed.outcomes_legal group-legal)
 
-  returned-part-legal : (description content_type : List ℕ) (eight : Bool) (lines : List (List ℕ)) → IsFit 50 description → IsFit 50 content_type → AreLegal ok lines
+  returned-part-legal : (description content_type : List ℕ) (eight : Bool) (lines : List (List ℕ)) → IsFit 50 description → IsFit 60 content_type → AreLegal ok lines
       → AreLegal ok (returned_part (boundary_of letter) description content_type eight lines)
   unfolding returned_part
   returned-part-legal description content_type eight [] d t e = legal-none
   returned-part-legal description content_type eight (line ∷ lines) d t e = part-legal description content_type eight (line ∷ lines) d t e
 
-  notice-legal : list_all ok (returned_lines letter.draft) ≡ true → AreLegal ok (notice_lines host letter)
+  notice-legal : list_all ok (foreign_lines site letter) ≡ true → AreLegal ok (notice_lines site letter)
   unfolding notice_lines lines_with_boundary
-  notice-legal returned =
+  notice-legal pass =
+      let template = lines_of_any (template_of site.templates letter) in
+      let foreign = and-parts (list_all ok template) (list_all ok (returned_lines letter.draft)) (sym (list_all-append ok template (returned_lines letter.draft)) ∙ pass) in
       legal-append
       (legal-append
       (legal-append
       (legal-append
       (legal-append header-legal (legal-empty legal-none))
-      (part-legal (codes "Notification") (codes "text/plain; charset=us-ascii") false (notification host letter) (fit-known 50 (codes "Notification") refl refl) (fit-known 50 (codes "text/plain; charset=us-ascii") refl refl) notification-legal))
-      (part-legal (codes "Delivery report") (codes "message/delivery-status") false (delivery_status host letter) (fit-known 50 (codes "Delivery report") refl refl) (fit-known 50 (codes "message/delivery-status") refl refl) status-legal))
-      (returned-part-legal _ _ (is_eight_bit letter.draft) (returned_lines letter.draft) (fit-description letter.draft.wording letter.key.service _ (returns_message letter.draft)) (fit-returned-type (returns_message letter.draft)) (record { all = returned })))
+      (part-legal (codes "Notification") (notification_type site letter) (preface_of site letter).eight_bit (notification site letter) (fit-known 50 (codes "Notification") refl refl) (fit-append (fit-known 20 (codes "text/plain; charset=") refl refl) fit-charset) (notification-legal foreign.0)))
+      (part-legal (codes "Delivery report") (codes "message/delivery-status") false (delivery_status site.host letter) (fit-known 50 (codes "Delivery report") refl refl) (fit-known 60 (codes "message/delivery-status") refl refl) status-legal))
+      (returned-part-legal _ _ (returns_eight_bit letter.draft) (returned_lines letter.draft) (fit-description letter.draft.wording letter.key.service _ (returns_message letter.draft)) (fit-returned-type (returns_message letter.draft)) (record { all = foreign.1 })))
       (legal-cons (fit-append (fit-append (fit-known 2 (codes "--") refl refl) fit-own) (fit-known 2 (codes "--") refl refl)) (omega arith) legal-none)
+
+-- ---- the lines that come from others
+
+-- those of a template
+template-eight_bit : (template : Option Template) → IfSome template IsTemplate → list_all is_eight_bit_line (lines_of_any template) ≡ true
+template-eight_bit None legal = refl
+template-eight_bit (Some template) legal = (template-keeps template legal).lines
+
+foreign-eight_bit : (site : Site) (letter : Letter) → IsWellFormed site letter → list_all is_eight_bit_line (foreign_lines site letter) ≡ true
+foreign-eight_bit site letter formed =
+    let template = template_of site.templates letter in
+    list_all-append is_eight_bit_line (lines_of_any template) (returned_lines letter.draft)
+    ∙ rw (template-eight_bit template (template-legal site.templates formed.site_legal.templates_legal letter), returned-eight_bit letter.draft) refl
+
+any-append : (xs ys : List (List ℕ)) → list_any has_high_byte (xs ++ ys) ≡ (list_any has_high_byte xs || list_any has_high_byte ys)
+any-append [] ys = refl
+any-append (x ∷ xs) ys = rw (any-append xs ys) (here (has_high_byte x))
+  where
+    here : (high : Bool) → (high || (list_any has_high_byte xs || list_any has_high_byte ys)) ≡ ((high || list_any has_high_byte xs) || list_any has_high_byte ys)
+    here true = refl
+    here false = refl
+
+-- the notice is an 8bit mail if one of them has a byte above 127
+foreign-high : (site : Site) (letter : Letter) → list_any has_high_byte (foreign_lines site letter) ≡ is_eight_bit site letter
+unfolding preface_of returns_eight_bit
+foreign-high site letter =
+    let template = template_of site.templates letter in
+    any-append (lines_of_any template) (returned_lines letter.draft) ∙ ap (λ high. high || list_any has_high_byte (returned_lines letter.draft)) (here template)
+  where
+    here : (template : Option Template) → list_any has_high_byte (lines_of_any template) ≡ (preface_by site.host (words_of letter) letter.draft.wording template).eight_bit
+    here None = refl
+    here (Some template) = refl
+
+foreign-own : (site : Site) (letter : Letter) → IsWellFormed site letter → list_all (is_line_of (is_eight_bit site letter)) (foreign_lines site letter) ≡ true
+foreign-own site letter formed =
+    subst (λ eight. list_all (is_line_of eight) (foreign_lines site letter) ≡ true) (foreign-high site letter) (own-lines (foreign_lines site letter) (foreign-eight_bit site letter formed))
 
 -- a line of a header or for people can be in a mail of either kind
 sure-line : (eight : Bool) (line : List ℕ) → is_legal_line line ≡ true → is_line_of eight line ≡ true
 sure-line true line legal = eight_bit-line line (mail-line line legal)
 sure-line false line legal = mail-line line legal
 
-notice_lines-legal : (host : List ℕ) (letter : Letter) → IsWellFormed host letter → list_all (is_line_of (is_eight_bit letter.draft)) (notice_lines host letter) ≡ true
-notice_lines-legal host letter formed =
-    (notice-legal (is_line_of (is_eight_bit letter.draft)) (sure-line (is_eight_bit letter.draft)) host letter formed (returned-own letter.draft)).all
+notice_lines-legal : (site : Site) (letter : Letter) → IsWellFormed site letter → list_all (is_line_of (is_eight_bit site letter)) (notice_lines site letter) ≡ true
+notice_lines-legal site letter formed =
+    (notice-legal (is_line_of (is_eight_bit site letter)) (sure-line (is_eight_bit site letter)) site letter formed (foreign-own site letter formed)).all
 
-pub notice_lines-eight_bit : (host : List ℕ) (letter : Letter) → IsWellFormed host letter → list_all is_eight_bit_line (notice_lines host letter) ≡ true
-notice_lines-eight_bit host letter formed = (notice-legal is_eight_bit_line (sure-line true) host letter formed (returned-eight_bit letter.draft)).all
+pub notice_lines-eight_bit : (site : Site) (letter : Letter) → IsWellFormed site letter → list_all is_eight_bit_line (notice_lines site letter) ≡ true
+notice_lines-eight_bit site letter formed = (notice-legal is_eight_bit_line (sure-line true) site letter formed (foreign-eight_bit site letter formed)).all
 
-pub delivery_status-eight_bit : (host : List ℕ) (letter : Letter) → IsWellFormed host letter → list_all is_eight_bit_line (delivery_status host letter) ≡ true
-delivery_status-eight_bit host letter formed = (status-legal is_eight_bit_line (sure-line true) host letter formed).all
+pub delivery_status-eight_bit : (site : Site) (letter : Letter) → IsWellFormed site letter → list_all is_eight_bit_line (delivery_status site.host letter) ≡ true
+delivery_status-eight_bit site letter formed = (status-legal is_eight_bit_line (sure-line true) site letter formed).all
 
--- each line is of tabs and printable bytes, or is a returned line
+-- each line is of tabs and printable bytes, or comes from others
 legal-or : (line : List ℕ) (other : Bool) → is_legal_line line ≡ true → (is_legal_line line || other) ≡ true
 legal-or line other legal = rw legal refl
 
-notice_lines-plain : (host : List ℕ) (letter : Letter) → IsWellFormed host letter → list_all (λ line. is_legal_line line || is_among (returned_lines letter.draft) line) (notice_lines host letter) ≡ true
-notice_lines-plain host letter formed =
-    let returned = returned_lines letter.draft in
-    let ok = λ (line : List ℕ). is_legal_line line || is_among returned line in
-    (notice-legal ok (λ line legal. legal-or line (is_among returned line) legal) host letter formed (among-plain returned returned (among-own returned))).all
+notice_lines-plain : (site : Site) (letter : Letter) → IsWellFormed site letter → list_all (λ line. is_legal_line line || is_among (foreign_lines site letter) line) (notice_lines site letter) ≡ true
+notice_lines-plain site letter formed =
+    let foreign = foreign_lines site letter in
+    let ok = λ (line : List ℕ). is_legal_line line || is_among foreign line in
+    (notice-legal ok (λ line legal. legal-or line (is_among foreign line) legal) site letter formed (among-plain foreign foreign (among-own foreign))).all
 
-pub lines_law : (host : List ℕ) (letter : Letter) → IsWellFormed host letter → HasLegalLines (notice_of host letter) (is_eight_bit letter.draft) (returned_lines letter.draft)
+pub lines_law : (site : Site) (letter : Letter) → IsWellFormed site letter → HasLegalLines (notice_of site letter) (is_eight_bit site letter) (foreign_lines site letter)
 unfolding notice_of
-lines_law host letter formed = record {
-  lines = notice_lines host letter;
+lines_law site letter formed = record {
+  lines = notice_lines site letter;
   written = refl;
-  legal = notice_lines-legal host letter formed;
-  plain = notice_lines-plain host letter formed;
+  legal = notice_lines-legal site letter formed;
+  plain = notice_lines-plain site letter formed;
 }

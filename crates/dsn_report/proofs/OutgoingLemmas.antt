@@ -20,28 +20,29 @@ use Rattle.dsn_device.proofs.UntilFailureLemmas.{leaves_still}
 use Rattle.dsn_device.proofs.TransferLemmas.{Appends-part, AppendsFront-all, AppendsPart-longer}
 use Rattle.dsn_report.specs.declared.post_fault.PostFault.{PostFault}
 use Rattle.dsn_report.specs.Outbox.{greeting, goodbye, mail_transaction, outbox_of}
+use Rattle.dsn_report.specs.Site.{Site}
 use Rattle.dsn_report.specs.Poster.{Poster, post_text, finish_text, post_fault, letter_handed_back}
 use Rattle.dsn_report.specs.Outgoing.{written_of, are_some, text_until, AppendsAtLeast, FailedIn, in_text, at_flush, at_mark, MarksAllOf, MarksFirstOf, SayCountOfFirst, marked_with, FrontWritten, StaysSteady, Delivered, IsOutbox}
 
 -- the text of one more letter, if the greeting is written
-pub written_of-more : (host : List ℕ) (letters : List Letter) (letter : Letter) → written_of host true (letters ++ letter ∷ []) ≡ written_of host true letters ++ mail_transaction host letter
-written_of-more host letters letter =
-    rw (flat_map-more (mail_transaction host) letters letter) (simp append_assoc)
+pub written_of-more : (site : Site) (letters : List Letter) (letter : Letter) → written_of site true (letters ++ letter ∷ []) ≡ written_of site true letters ++ mail_transaction site letter
+written_of-more site letters letter =
+    rw (flat_map-more (mail_transaction site) letters letter) (simp append_assoc)
 
-due : (host : List ℕ) (greeted : Bool) (letters : List Letter) (text : List ℕ) → (greeted ≡ false → letters ≡ []) → written_of host greeted letters ++ ((if greeted then [] else greeting host) ++ text) ≡ written_of host true letters ++ text
-due host true letters text first = refl
-due host false letters text first = rw (first refl) (simp (append-nil {A = ℕ}))
+due : (site : Site) (greeted : Bool) (letters : List Letter) (text : List ℕ) → (greeted ≡ false → letters ≡ []) → written_of site greeted letters ++ ((if greeted then [] else greeting site) ++ text) ≡ written_of site true letters ++ text
+due site true letters text first = refl
+due site false letters text first = rw (first refl) (simp (append-nil {A = ℕ}))
 
 -- the text that a poster has written, followed by that of one more letter
-pub post_text-after : {W : Type 0} (poster : Poster W) (letters : List Letter) (letter : Letter) → (poster.greeted ≡ false → letters ≡ []) → written_of poster.host poster.greeted letters ++ post_text poster letter ≡ written_of poster.host true (letters ++ letter ∷ [])
+pub post_text-after : {W : Type 0} (poster : Poster W) (letters : List Letter) (letter : Letter) → (poster.greeted ≡ false → letters ≡ []) → written_of poster.site poster.greeted letters ++ post_text poster letter ≡ written_of poster.site true (letters ++ letter ∷ [])
 unfolding post_text
 post_text-after poster letters letter first =
-    due poster.host poster.greeted letters (mail_transaction poster.host letter) first ∙ sym (written_of-more poster.host letters letter)
+    due poster.site poster.greeted letters (mail_transaction poster.site letter) first ∙ sym (written_of-more poster.site letters letter)
 
 -- the text that a poster has written, followed by QUIT
-pub finish_text-after : {W : Type 0} (poster : Poster W) (letters : List Letter) → (poster.greeted ≡ false → letters ≡ []) → written_of poster.host poster.greeted letters ++ finish_text poster ≡ outbox_of poster.host letters
+pub finish_text-after : {W : Type 0} (poster : Poster W) (letters : List Letter) → (poster.greeted ≡ false → letters ≡ []) → written_of poster.site poster.greeted letters ++ finish_text poster ≡ outbox_of poster.site letters
 unfolding finish_text outbox_of
-finish_text-after poster letters first = due poster.host poster.greeted letters goodbye first
+finish_text-after poster letters first = due poster.site poster.greeted letters goodbye first
 
 -- the fault returns the letter unchanged
 handed_back : (failed : Bool) (letter : Letter) → letter_handed_back (post_fault failed letter) ≡ letter
@@ -176,20 +177,20 @@ failed-unmarked drain start old new posted letter least text all flushes marked 
     (marks-more drain start old new posted letter marks.0 marks.1 marked any_moment)
 
 -- the longest possible text of an outbox is a front of the text of all letters
-until-front : (host : List ℕ) (posted unsent : List Letter) → (more : List ℕ) × (outbox_of host (posted ++ unsent) ≡ text_until host posted unsent ++ more)
+until-front : (site : Site) (posted unsent : List Letter) → (more : List ℕ) × (outbox_of site (posted ++ unsent) ≡ text_until site posted unsent ++ more)
 unfolding outbox_of
-until-front host posted [] = ([], rw (append-nil posted) (sym (append-nil (outbox_of host posted))))
-until-front host posted (first ∷ rest) =
-    let f = mail_transaction host in
+until-front site posted [] = ([], rw (append-nil posted) (sym (append-nil (outbox_of site posted))))
+until-front site posted (first ∷ rest) =
+    let f = mail_transaction site in
     (flat_map f rest ++ goodbye, rw (flat_map-append f posted (first ∷ rest), flat_map-more f posted first) (simp append_assoc))
 
 -- if the device flushes surely, an outbox that failed lacks some of the text of all letters
-short-of : {W : Type 0} (drain : Drain W) (host : List ℕ) (start end : W) (posted with_next unsent letters : List Letter) → letters ≡ posted ++ unsent → FailedIn drain start end posted with_next (text_until host posted unsent) → drain.flushes_surely start → AppendsPart (drain.contents start) (drain.contents end) (outbox_of host letters)
-short-of drain host start end posted with_next unsent letters split (in_text part none marks) surely =
-    let front = until-front host posted unsent in
+short-of : {W : Type 0} (drain : Drain W) (site : Site) (start end : W) (posted with_next unsent letters : List Letter) → letters ≡ posted ++ unsent → FailedIn drain start end posted with_next (text_until site posted unsent) → drain.flushes_surely start → AppendsPart (drain.contents start) (drain.contents end) (outbox_of site letters)
+short-of drain site start end posted with_next unsent letters split (in_text part none marks) surely =
+    let front = until-front site posted unsent in
     rw (split, front.1) (AppendsPart-longer (drain.contents start) (drain.contents end) _ front.0 part)
-short-of drain host start end posted with_next unsent letters split (at_flush whole once unsure marks) surely = absurd (unsure surely)
-short-of drain host start end posted with_next unsent letters split (at_mark whole once passed_on some unsure marks) surely = absurd (unsure surely)
+short-of drain site start end posted with_next unsent letters split (at_flush whole once unsure marks) surely = absurd (unsure surely)
+short-of drain site start end posted with_next unsent letters split (at_mark whole once passed_on some unsure marks) surely = absurd (unsure surely)
 
 -- a device that stays steady in two steps stays steady in both together
 stays-steady : {W : Type 0} (drain : Drain W) (a b c : W) → StaysSteady drain a b → StaysSteady drain b c → StaysSteady drain a c
@@ -198,7 +199,7 @@ stays-steady drain a b c first second steady =
     let two = second one.0 in
     (two.0, two.1 ∙ one.1)
 
-module _ {W : Type 0} (drain : Drain W) (host : List ℕ) (start : W) (old new : Poster W) (unsent letters : List Letter) (letter : Letter) (before : Delivered drain host start (record { poster = old; unsent = unsent }) letters) where
+module _ {W : Type 0} (drain : Drain W) (site : Site) (start : W) (old new : Poster W) (unsent letters : List Letter) (letter : Letter) (before : Delivered drain site start (record { poster = old; unsent = unsent }) letters) where
   -- a poster that wrote a letter had not failed before
   was-good : (failed : Bool) → old.failed ≡ failed → (old.failed ≡ true → new ≡ old) → new.failed ≡ false → old.failed ≡ false
   was-good true is nothing good = absurd (not-both new.failed (ap (λ (p : Poster W). p.failed) (nothing is) ∙ is) good)
@@ -209,15 +210,15 @@ module _ {W : Type 0} (drain : Drain W) (host : List ℕ) (start : W) (old new :
   still-good false count is = refl
 
   -- one more letter was written
-  pub hand-ok : Appends (drain.contents old.outbox) (drain.contents new.outbox) (post_text old letter) → (old.failed ≡ true → new ≡ old) → new.failed ≡ false → new.greeted ≡ true → new.host ≡ old.host → drain.failures new.outbox ≡ counts_failure old.failed false (drain.failures old.outbox) → WrittenAndMarked drain old.failed new.failed old.outbox new.outbox (post_text old letter) letter.serial → StaysSteady drain old.outbox new.outbox → Delivered drain host start (record { poster = new; unsent = unsent }) (letters ++ letter ∷ [])
-  hand-ok sent nothing good greeted same_host count made steady =
+  pub hand-ok : Appends (drain.contents old.outbox) (drain.contents new.outbox) (post_text old letter) → (old.failed ≡ true → new ≡ old) → new.failed ≡ false → new.greeted ≡ true → new.site ≡ old.site → drain.failures new.outbox ≡ counts_failure old.failed false (drain.failures old.outbox) → WrittenAndMarked drain old.failed new.failed old.outbox new.outbox (post_text old letter) letter.serial → StaysSteady drain old.outbox new.outbox → Delivered drain site start (record { poster = new; unsent = unsent }) (letters ++ letter ∷ [])
+  hand-ok sent nothing good greeted same_site count made steady =
       let was : old.failed ≡ false = was-good old.failed refl nothing good in
       let all = before.while_good was in
       let now = once-marked drain old.failed new.failed old.outbox new.outbox _ _ was good made in record {
-        host_kept = same_host ∙ before.host_kept;
+        site_kept = same_site ∙ before.site_kept;
         while_good = λ _. record {
           none_unsent = all.none_unsent;
-          written = rw (same_host, greeted, ← post_text-after old letters letter (none-where letters old.greeted all.greeted_is)) (Appends-trans (drain.contents start) (drain.contents old.outbox) (drain.contents new.outbox) _ _ all.written sent);
+          written = rw (same_site, greeted, ← post_text-after old letters letter (none-where letters old.greeted all.greeted_is)) (Appends-trans (drain.contents start) (drain.contents old.outbox) (drain.contents new.outbox) _ _ all.written sent);
           greeted_is = greeted ∙ sym (are_some-more letters letter);
           good = count ∙ still-good old.failed (drain.failures old.outbox) was ∙ all.good;
           flushes = now.flushed.once ∙ ap flushed all.flushes ∙ flushed_times-more letters letter (drain.flushes start);
@@ -231,8 +232,8 @@ module _ {W : Type 0} (drain : Drain W) (host : List ℕ) (start : W) (old new :
       }
 
   -- the first letter that could not be written
-  first-lost : old.failed ≡ false → AppendsFront (drain.contents old.outbox) (drain.contents new.outbox) (post_text old letter) → WrittenAndMarked drain old.failed new.failed old.outbox new.outbox (post_text old letter) letter.serial → new.failed ≡ true → new.host ≡ old.host → drain.failures new.outbox ≡ counts_failure old.failed true (drain.failures old.outbox) → FrontWritten drain start (record { poster = new; unsent = unsent ++ letter ∷ [] }) (letters ++ letter ∷ [])
-  first-lost good front made failed same_host count =
+  first-lost : old.failed ≡ false → AppendsFront (drain.contents old.outbox) (drain.contents new.outbox) (post_text old letter) → WrittenAndMarked drain old.failed new.failed old.outbox new.outbox (post_text old letter) letter.serial → new.failed ≡ true → new.site ≡ old.site → drain.failures new.outbox ≡ counts_failure old.failed true (drain.failures old.outbox) → FrontWritten drain start (record { poster = new; unsent = unsent ++ letter ∷ [] }) (letters ++ letter ∷ [])
+  first-lost good front made failed same_site count =
       let all = before.while_good good in
       let first = none-where letters old.greeted all.greeted_is in record {
         posted = letters;
@@ -240,8 +241,8 @@ module _ {W : Type 0} (drain : Drain W) (host : List ℕ) (start : W) (old new :
         later = [];
         unsent_is = rw all.none_unsent refl;
         split = refl;
-        written = rw (same_host, ← all.greeted_is, ← post_text-after old letters letter first) (Appends-least (drain.contents start) (drain.contents old.outbox) (drain.contents new.outbox) _ _ all.written front);
-        lost = rw (same_host, ← post_text-after old letters letter first) (failed-unmarked drain start old.outbox new.outbox letters letter _ _ all.written all.flushes all.marked all.surely all.marks (unmarked-now drain old.failed new.failed old.outbox new.outbox _ _ good failed made));
+        written = rw (same_site, ← all.greeted_is, ← post_text-after old letters letter first) (Appends-least (drain.contents start) (drain.contents old.outbox) (drain.contents new.outbox) _ _ all.written front);
+        lost = rw (same_site, ← post_text-after old letters letter first) (failed-unmarked drain start old.outbox new.outbox letters letter _ _ all.written all.flushes all.marked all.surely all.marks (unmarked-now drain old.failed new.failed old.outbox new.outbox _ _ good failed made));
         marked = not-marked drain old.outbox new.outbox _ _ (unmarked-now drain old.failed new.failed old.outbox new.outbox _ _ good failed made) ∙ all.marked;
         count = rw good at count ∙ ap (counted true) all.good;
       }
@@ -261,35 +262,35 @@ module _ {W : Type 0} (drain : Drain W) (host : List ℕ) (start : W) (old new :
         count = rw same some.count;
       }
 
-  any-lost : (failed : Bool) → old.failed ≡ failed → AppendsFront (drain.contents old.outbox) (drain.contents new.outbox) (post_text old letter) → WrittenAndMarked drain old.failed new.failed old.outbox new.outbox (post_text old letter) letter.serial → new.failed ≡ true → (old.failed ≡ true → new ≡ old) → new.host ≡ old.host → drain.failures new.outbox ≡ counts_failure old.failed true (drain.failures old.outbox) → FrontWritten drain start (record { poster = new; unsent = unsent ++ letter ∷ [] }) (letters ++ letter ∷ [])
-  any-lost true is front made now nothing same_host count = later-lost is (nothing is)
-  any-lost false is front made now nothing same_host count = first-lost is front made now same_host count
+  any-lost : (failed : Bool) → old.failed ≡ failed → AppendsFront (drain.contents old.outbox) (drain.contents new.outbox) (post_text old letter) → WrittenAndMarked drain old.failed new.failed old.outbox new.outbox (post_text old letter) letter.serial → new.failed ≡ true → (old.failed ≡ true → new ≡ old) → new.site ≡ old.site → drain.failures new.outbox ≡ counts_failure old.failed true (drain.failures old.outbox) → FrontWritten drain start (record { poster = new; unsent = unsent ++ letter ∷ [] }) (letters ++ letter ∷ [])
+  any-lost true is front made now nothing same_site count = later-lost is (nothing is)
+  any-lost false is front made now nothing same_site count = first-lost is front made now same_site count
 
   -- one more letter could not be written
-  pub hand-err : (fault : PostFault) → fault ≡ post_fault old.failed letter → AppendsFront (drain.contents old.outbox) (drain.contents new.outbox) (post_text old letter) → WrittenAndMarked drain old.failed new.failed old.outbox new.outbox (post_text old letter) letter.serial → (old.failed ≡ true → new ≡ old) → new.failed ≡ true → new.host ≡ old.host → drain.failures new.outbox ≡ counts_failure old.failed true (drain.failures old.outbox) → StaysSteady drain old.outbox new.outbox → Delivered drain host start (record { poster = new; unsent = unsent ++ letter_handed_back fault ∷ [] }) (letters ++ letter ∷ [])
-  hand-err fault is front made nothing failed same_host count steady =
+  pub hand-err : (fault : PostFault) → fault ≡ post_fault old.failed letter → AppendsFront (drain.contents old.outbox) (drain.contents new.outbox) (post_text old letter) → WrittenAndMarked drain old.failed new.failed old.outbox new.outbox (post_text old letter) letter.serial → (old.failed ≡ true → new ≡ old) → new.failed ≡ true → new.site ≡ old.site → drain.failures new.outbox ≡ counts_failure old.failed true (drain.failures old.outbox) → StaysSteady drain old.outbox new.outbox → Delivered drain site start (record { poster = new; unsent = unsent ++ letter_handed_back fault ∷ [] }) (letters ++ letter ∷ [])
+  hand-err fault is front made nothing failed same_site count steady =
       let back : letter_handed_back fault ≡ letter = ap letter_handed_back is ∙ handed_back old.failed letter in record {
-        host_kept = same_host ∙ before.host_kept;
+        site_kept = same_site ∙ before.site_kept;
         while_good = λ good. absurd (not-both new.failed failed good);
-        after_fault = λ _. rw back (any-lost old.failed refl front made failed nothing same_host count);
+        after_fault = λ _. rw back (any-lost old.failed refl front made failed nothing same_site count);
         steady = stays-steady drain start old.outbox new.outbox before.steady steady;
       }
 
-module _ {W : Type 0} (drain : Drain W) (host : List ℕ) (start : W) (old : Poster W) (unsent letters : List Letter) (before : Delivered drain host start (record { poster = old; unsent = unsent }) letters) where
+module _ {W : Type 0} (drain : Drain W) (site : Site) (start : W) (old : Poster W) (unsent letters : List Letter) (before : Delivered drain site start (record { poster = old; unsent = unsent }) letters) where
   any-front : (outbox : W) (whole : Bool) (text : List ℕ) → (whole ≡ true → Appends (drain.contents old.outbox) (drain.contents outbox) text) → (whole ≡ false → AppendsFront (drain.contents old.outbox) (drain.contents outbox) text) → AppendsFront (drain.contents old.outbox) (drain.contents outbox) text
   any-front outbox true text sent front = AppendsFront-all (drain.contents old.outbox) (drain.contents outbox) text (sent refl)
   any-front outbox false text sent front = front refl
 
-  finished-good : old.failed ≡ false → (outbox : W) (whole : Bool) → (whole ≡ true → Appends (drain.contents old.outbox) (drain.contents outbox) (finish_text old)) → (whole ≡ false → AppendsFront (drain.contents old.outbox) (drain.contents outbox) (finish_text old)) → drain.failures outbox ≡ counts_failure old.failed (not whole) (drain.failures old.outbox) → WrittenAndFlushed drain old.failed (not whole) old.outbox outbox (finish_text old) → StaysSteady drain old.outbox outbox → drain.marked outbox ≡ drain.marked old.outbox → TakesNoTime drain old.outbox outbox → IsOutbox drain host start outbox whole unsent letters
+  finished-good : old.failed ≡ false → (outbox : W) (whole : Bool) → (whole ≡ true → Appends (drain.contents old.outbox) (drain.contents outbox) (finish_text old)) → (whole ≡ false → AppendsFront (drain.contents old.outbox) (drain.contents outbox) (finish_text old)) → drain.failures outbox ≡ counts_failure old.failed (not whole) (drain.failures old.outbox) → WrittenAndFlushed drain old.failed (not whole) old.outbox outbox (finish_text old) → StaysSteady drain old.outbox outbox → drain.marked outbox ≡ drain.marked old.outbox → TakesNoTime drain old.outbox outbox → IsOutbox drain site start outbox whole unsent letters
   finished-good good outbox whole sent front count made steady same still =
       let all = before.while_good good in
       let ends = finish_text-after old letters (none-where letters old.greeted all.greeted_is) in
       let marks = marks-still drain start old.outbox outbox letters all.marks still same in
-      let lost : (whole ≡ false → FailedIn drain start outbox letters (letters ++ take 1 unsent) (text_until host letters unsent)) = λ part. rw (all.none_unsent, ← before.host_kept, ← ends) (failed-in drain start old.outbox outbox letters _ _ _ all.written all.flushes all.surely marks (lost-now drain old.failed (not whole) old.outbox outbox _ good (ap not part) made)) in record {
+      let lost : (whole ≡ false → FailedIn drain start outbox letters (letters ++ take 1 unsent) (text_until site letters unsent)) = λ part. rw (all.none_unsent, ← before.site_kept, ← ends) (failed-in drain start old.outbox outbox letters _ _ _ all.written all.flushes all.surely marks (lost-now drain old.failed (not whole) old.outbox outbox _ good (ap not part) made)) in record {
         posted = letters;
         split = rw all.none_unsent (sym (append-nil letters));
-        written = rw (all.none_unsent, ← before.host_kept, ← all.greeted_is, ← ends) (Appends-least (drain.contents start) (drain.contents old.outbox) (drain.contents outbox) _ _ all.written (any-front outbox whole _ sent front));
-        all_written = λ done. rw (← before.host_kept, ← ends) (Appends-trans (drain.contents start) (drain.contents old.outbox) (drain.contents outbox) _ _ all.written (sent done));
+        written = rw (all.none_unsent, ← before.site_kept, ← all.greeted_is, ← ends) (Appends-least (drain.contents start) (drain.contents old.outbox) (drain.contents outbox) _ _ all.written (any-front outbox whole _ sent front));
+        all_written = λ done. rw (← before.site_kept, ← ends) (Appends-trans (drain.contents start) (drain.contents old.outbox) (drain.contents outbox) _ _ all.written (sent done));
         none_unsent = λ _. all.none_unsent;
         count = rw good at count ∙ ap (counted (not whole)) all.good;
         flushes = λ done. (once-flushed drain old.failed (not whole) old.outbox outbox _ good (ap not done) made).0 ∙ ap flushed all.flushes;
@@ -297,17 +298,17 @@ module _ {W : Type 0} (drain : Drain W) (host : List ℕ) (start : W) (old : Pos
         marked = same ∙ all.marked;
         marks = λ done. marks;
         lost = lost;
-        short = λ part. short-of drain host start outbox letters _ unsent letters (rw all.none_unsent (sym (append-nil letters))) (lost part);
+        short = λ part. short-of drain site start outbox letters _ unsent letters (rw all.none_unsent (sym (append-nil letters))) (lost part);
         steady = stays-steady drain start old.outbox outbox before.steady steady;
       }
 
-  finished-lost : old.failed ≡ true → (outbox : W) (whole : Bool) → (outbox ≡ old.outbox) × (whole ≡ false) → StaysSteady drain old.outbox outbox → IsOutbox drain host start outbox whole unsent letters
+  finished-lost : old.failed ≡ true → (outbox : W) (whole : Bool) → (outbox ≡ old.outbox) × (whole ≡ false) → StaysSteady drain old.outbox outbox → IsOutbox drain site start outbox whole unsent letters
   finished-lost failed outbox whole nothing steady =
       let some = before.after_fault failed in
-      let lost : FailedIn drain start outbox some.posted (some.posted ++ take 1 unsent) (text_until host some.posted unsent) = rw (nothing.0, some.unsent_is, ← before.host_kept) some.lost in record {
+      let lost : FailedIn drain start outbox some.posted (some.posted ++ take 1 unsent) (text_until site some.posted unsent) = rw (nothing.0, some.unsent_is, ← before.site_kept) some.lost in record {
         posted = some.posted;
         split = rw some.unsent_is some.split;
-        written = rw (nothing.0, some.unsent_is, ← before.host_kept) some.written;
+        written = rw (nothing.0, some.unsent_is, ← before.site_kept) some.written;
         all_written = λ done. absurd (not-both whole done nothing.1);
         none_unsent = λ done. absurd (not-both whole done nothing.1);
         count = rw (nothing.0, nothing.1) some.count;
@@ -316,14 +317,14 @@ module _ {W : Type 0} (drain : Drain W) (host : List ℕ) (start : W) (old : Pos
         marked = rw nothing.0 some.marked;
         marks = λ done. absurd (not-both whole done nothing.1);
         lost = λ _. lost;
-        short = λ _. short-of drain host start outbox some.posted _ unsent letters (rw some.unsent_is some.split) lost;
+        short = λ _. short-of drain site start outbox some.posted _ unsent letters (rw some.unsent_is some.split) lost;
         steady = stays-steady drain start old.outbox outbox before.steady steady;
       }
 
-  finished-by : (failed : Bool) → old.failed ≡ failed → (outbox : W) (whole : Bool) → (whole ≡ true → Appends (drain.contents old.outbox) (drain.contents outbox) (finish_text old)) → (whole ≡ false → AppendsFront (drain.contents old.outbox) (drain.contents outbox) (finish_text old)) → (old.failed ≡ true → (outbox ≡ old.outbox) × (whole ≡ false)) → drain.failures outbox ≡ counts_failure old.failed (not whole) (drain.failures old.outbox) → WrittenAndFlushed drain old.failed (not whole) old.outbox outbox (finish_text old) → StaysSteady drain old.outbox outbox → drain.marked outbox ≡ drain.marked old.outbox → TakesNoTime drain old.outbox outbox → IsOutbox drain host start outbox whole unsent letters
+  finished-by : (failed : Bool) → old.failed ≡ failed → (outbox : W) (whole : Bool) → (whole ≡ true → Appends (drain.contents old.outbox) (drain.contents outbox) (finish_text old)) → (whole ≡ false → AppendsFront (drain.contents old.outbox) (drain.contents outbox) (finish_text old)) → (old.failed ≡ true → (outbox ≡ old.outbox) × (whole ≡ false)) → drain.failures outbox ≡ counts_failure old.failed (not whole) (drain.failures old.outbox) → WrittenAndFlushed drain old.failed (not whole) old.outbox outbox (finish_text old) → StaysSteady drain old.outbox outbox → drain.marked outbox ≡ drain.marked old.outbox → TakesNoTime drain old.outbox outbox → IsOutbox drain site start outbox whole unsent letters
   finished-by true is outbox whole sent front nothing count made steady same still = finished-lost is outbox whole (nothing is) steady
   finished-by false is outbox whole sent front nothing count made steady same still = finished-good is outbox whole sent front count made steady same still
 
   -- the outbox ended
-  pub finished : (outbox : W) (whole : Bool) → (whole ≡ true → Appends (drain.contents old.outbox) (drain.contents outbox) (finish_text old)) → (whole ≡ false → AppendsFront (drain.contents old.outbox) (drain.contents outbox) (finish_text old)) → (old.failed ≡ true → (outbox ≡ old.outbox) × (whole ≡ false)) → drain.failures outbox ≡ counts_failure old.failed (not whole) (drain.failures old.outbox) → WrittenAndFlushed drain old.failed (not whole) old.outbox outbox (finish_text old) → StaysSteady drain old.outbox outbox → drain.marked outbox ≡ drain.marked old.outbox → TakesNoTime drain old.outbox outbox → IsOutbox drain host start outbox whole unsent letters
+  pub finished : (outbox : W) (whole : Bool) → (whole ≡ true → Appends (drain.contents old.outbox) (drain.contents outbox) (finish_text old)) → (whole ≡ false → AppendsFront (drain.contents old.outbox) (drain.contents outbox) (finish_text old)) → (old.failed ≡ true → (outbox ≡ old.outbox) × (whole ≡ false)) → drain.failures outbox ≡ counts_failure old.failed (not whole) (drain.failures old.outbox) → WrittenAndFlushed drain old.failed (not whole) old.outbox outbox (finish_text old) → StaysSteady drain old.outbox outbox → drain.marked outbox ≡ drain.marked old.outbox → TakesNoTime drain old.outbox outbox → IsOutbox drain site start outbox whole unsent letters
   finished outbox whole = finished-by old.failed refl outbox whole

@@ -81,7 +81,7 @@ pub record IsPlain (most : ℕ) (text : List ℕ) : Type 0 where
   pub printable : list_all is_printable text ≡ true
   pub short : length text ≤ most
 
-text-plain : (test : ℕ → Bool) → ((byte : ℕ) → test byte ≡ true → is_printable byte ≡ true) → (least most : ℕ) (text : List ℕ) → is_text test least most text ≡ true → IsPlain most text
+pub text-plain : (test : ℕ → Bool) → ((byte : ℕ) → test byte ≡ true → is_printable byte ≡ true) → (least most : ℕ) (text : List ℕ) → is_text test least most text ≡ true → IsPlain most text
 text-plain test stricter least most text e =
     let parts = and-parts (nat_le least (length text) && nat_le (length text) most) (list_all test text) e in
     record {

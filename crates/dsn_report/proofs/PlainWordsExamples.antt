@@ -3,15 +3,15 @@ use Rattle.std.proofs.Common.{◌≡◌, true, false, [], ◌∷◌, refl}
 use Rattle.std.specs.Prelude.{codes, Some, None}
 use Rattle.dsn_outcome.specs.Letter.{Letter}
 use Rattle.dsn_outcome.specs.Outcome.{Outcome}
-use Rattle.dsn_outcome.specs.declared.returned.Returned.TheVariants.{Header}
 use Rattle.dsn_outcome.specs.declared.wording.Wording.{Wording}
 use Rattle.dsn_outcome.specs.declared.wording.Wording.TheVariants.{ByService, ByOutcome}
-use Rattle.dsn_text.specs.Stamp.{date_text, civil_after}
 use Rattle.dsn_text.specs.declared.action.Action.TheVariants.{Failed, Delayed, Relayed}
 use Rattle.dsn_text.specs.declared.service.Service.TheVariants.{Bounce, Defer, Trace}
 use Rattle.dsn_report.specs.DeliveryStatus.{line_if_any}
-use Rattle.dsn_report.specs.Notice.{explanation, guidance, has_text, notification, outcome_lines, recipient_told, reply_lines, words_by}
+use Rattle.dsn_report.specs.Notice.{explanation, guidance, has_text, notification, outcome_lines, preface_of, recipient_told, reply_lines, template_of, words_by}
 use Rattle.dsn_report.specs.PlainWords.{meaning_of, status_words}
+use Rattle.dsn_report.specs.Site.{plain_site}
+use Rattle.dsn_report.proofs.Examples.{bob_fails, retried_until, to_ann}
 
 -- ---- the sentence of a status code
 
@@ -75,25 +75,10 @@ cut_off = refl
 
 -- ---- the lines of an outcome
 
-abbrev bob_fails : Outcome
-bob_fails = record {
-  service = Bounce;
-  recipient = codes "bob@example.org";
-  recipient_type = None;
-  original = None;
-  original_type = None;
-  action = Failed;
-  status = codes "5.1.1";
-  mta = Some (codes "mx.example.org");
-  diagnostic = Some (codes "550 5.1.1 no such user");
-  diagnostic_type = None;
-  reason = None;
-  last_attempt = None;
-  retry_until = None;
-  extensions = [];
-}
+abbrev bob_replied : Outcome
+bob_replied = record bob_fails { mta = Some (codes "mx.example.org"); diagnostic = Some (codes "550 5.1.1 no such user") }
 
-reply_word_for_word : outcome_lines ByOutcome bob_fails ≡
+reply_word_for_word : outcome_lines ByOutcome ByOutcome bob_replied ≡
     codes "<bob@example.org>: failed (5.1.1)"
     ∷ codes "    The address does not exist. Check how it is spelled."
     ∷ codes "    mx.example.org said:"
@@ -103,7 +88,7 @@ unfolding outcome_lines explanation recipient_told line_if_any reply_lines statu
 reply_word_for_word = refl
 
 -- a reason that has the reply is enough
-reason_with_reply : outcome_lines ByOutcome (record bob_fails { reason = Some (codes "host mx.example.org[192.0.2.1] said: 550 5.1.1 no such user (in reply to RCPT TO command)") }) ≡
+reason_with_reply : outcome_lines ByOutcome ByOutcome (record bob_replied { reason = Some (codes "host mx.example.org[192.0.2.1] said: 550 5.1.1 no such user (in reply to RCPT TO command)") }) ≡
     codes "<bob@example.org>: failed (5.1.1)"
     ∷ codes "    The address does not exist. Check how it is spelled."
     ∷ codes "    host mx.example.org[192.0.2.1] said: 550 5.1.1 no such user (in reply to RCPT TO command)"
@@ -111,8 +96,8 @@ reason_with_reply : outcome_lines ByOutcome (record bob_fails { reason = Some (c
 unfolding outcome_lines explanation recipient_told line_if_any reply_lines status_words
 reason_with_reply = refl
 
--- a reason in other words is told beside the reply
-reason_and_reply : outcome_lines ByOutcome (record bob_fails { mta = None; reason = Some (codes "refused") }) ≡
+-- a reason in other words comes beside the reply
+reason_and_reply : outcome_lines ByOutcome ByOutcome (record bob_replied { mta = None; reason = Some (codes "refused") }) ≡
     codes "<bob@example.org>: failed (5.1.1)"
     ∷ codes "    The address does not exist. Check how it is spelled."
     ∷ codes "    refused"
@@ -122,8 +107,8 @@ reason_and_reply : outcome_lines ByOutcome (record bob_fails { mta = None; reaso
 unfolding outcome_lines explanation recipient_told line_if_any reply_lines status_words
 reason_and_reply = refl
 
--- by service the reason alone is told
-reason_by_service : outcome_lines ByService (record bob_fails { reason = Some (codes "refused") }) ≡
+-- by service there is the reason alone
+reason_by_service : outcome_lines ByService ByService (record bob_replied { reason = Some (codes "refused") }) ≡
     codes "<bob@example.org>: failed (5.1.1)"
     ∷ codes "    refused"
     ∷ []
@@ -132,29 +117,15 @@ reason_by_service = refl
 
 -- ---- the part for people
 
-retried_until : date_text 1700432000 ≡ codes "Sun, 19 Nov 2023 22:13:20 +0000"
-unfolding date_text civil_after
-retried_until = refl
-
 abbrev delayed_letter : Wording → Letter
 delayed_letter wording = record {
   key = record { service = Defer; id = codes "A1B2C3" };
-  draft = record {
-    moment = 1700000000;
-    arrival = 1699996400;
-    return_path = Some (codes "ann@example.com");
-    envelope_id = None;
-    header = [];
-    extensions = [];
-    expected = None;
-    returned = Header;
-    wording = wording;
-  };
-  outcomes = record bob_fails { service = Defer; action = Delayed; status = codes "4.4.1"; mta = None; diagnostic = None; retry_until = Some 1700432000 } ∷ [];
+  draft = record (to_ann None []) { wording = wording };
+  outcomes = record bob_fails { service = Defer; action = Delayed; status = codes "4.4.1"; retry_until = Some 1700432000 } ∷ [];
   serial = 0;
 }
 
-delay_by_outcome : notification (codes "mx.example.net") (delayed_letter ByOutcome) ≡
+delay_by_outcome : notification (plain_site (codes "mx.example.net")) (delayed_letter ByOutcome) ≡
     codes "This is the mail system at host mx.example.net."
     ∷ []
     ∷ codes "Your message has not yet been delivered to the recipients below."
@@ -165,17 +136,17 @@ delay_by_outcome : notification (codes "mx.example.net") (delayed_letter ByOutco
     ∷ codes "    The recipient's mail server could not be reached."
     ∷ codes "    It will be tried again until Sun, 19 Nov 2023 22:13:20 +0000"
     ∷ []
-unfolding notification guidance outcome_lines explanation recipient_told line_if_any reply_lines status_words
+unfolding notification preface_of template_of guidance outcome_lines explanation recipient_told line_if_any reply_lines status_words
 delay_by_outcome = rw retried_until refl
 
-delay_by_service : notification (codes "mx.example.net") (delayed_letter ByService) ≡
+delay_by_service : notification (plain_site (codes "mx.example.net")) (delayed_letter ByService) ≡
     codes "This is the mail system at host mx.example.net."
     ∷ []
     ∷ codes "Your message has not yet been delivered to the recipients below."
     ∷ []
     ∷ codes "<bob@example.org>: delayed (4.4.1)"
     ∷ []
-unfolding notification guidance outcome_lines explanation recipient_told line_if_any
+unfolding notification preface_of template_of guidance outcome_lines explanation recipient_told line_if_any
 delay_by_service = refl
 
 final_by_outcome : (words_by ByOutcome Bounce false).consequence ≡ codes "No further attempt will be made."

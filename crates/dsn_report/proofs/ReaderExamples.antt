@@ -6,10 +6,7 @@ use Rattle.dsn_report.specs.Grammar.{Field, delivery_status_in, is_choice_of, pe
 use Rattle.dsn_report.specs.LegalLines.{is_legal_line}
 use Rattle.dsn_report.specs.Lines.{pieces_more, pieces_of_text, text_of_lines, text_of_pieces}
 use Rattle.dsn_report.specs.Multipart.{message_body, divide, divide_more, multipart_of}
-
--- the CRLF of a line
-abbrev crlf : List ℕ
-crlf = 13 ∷ 10 ∷ []
+use Rattle.dsn_report.proofs.Examples.{crlf}
 
 -- only CR directly followed by LF ends a line
 pieces : pieces_of_text (codes "a" ++ crlf ++ 98 ∷ 13 ∷ 99 ∷ 10 ∷ 100 ∷ [] ++ crlf) ≡ codes "a" ∷ (98 ∷ 13 ∷ 99 ∷ 10 ∷ 100 ∷ []) ∷ [] ∷ []

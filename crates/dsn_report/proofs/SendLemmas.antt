@@ -5,6 +5,7 @@ use denote.Param.SendFields.{as_row_send, declared_send}
 use denote.RattleType.{RattleType}
 use denote.Struct.Field.{bool-field, row_field}
 use Rattle.std.proofs.Crossing.{crosses}
+use Rattle.std.proofs.option.Option.TheSendSync as option
 use Rattle.dsn_device.proofs.quiet_writer.QuietWriter.TheSendSync as quiet_writer
 use Rattle.dsn_device.specs.contracts.quiet_writer.QuietWriter as QuietWriter
 use Rattle.dsn_outcome.proofs.SendLemmas.{letters_send}
@@ -16,9 +17,17 @@ use Rattle.dsn_report.specs.contracts.outgoing.Outgoing.TheInside as OutgoingIns
 use Rattle.dsn_report.specs.contracts.poster.Poster as Poster
 use Rattle.dsn_report.specs.contracts.poster.Poster.TheInside as PosterInside
 use Rattle.dsn_report.specs.contracts.site.Site as Site
+use Rattle.dsn_report.specs.contracts.template.Template as Template
+use Rattle.dsn_report.specs.contracts.templates.Templates as Templates
+
+template_send : IsSend Template.the_row
+template_send = search (crosses, sendable) depth 20
+
+templates_send : IsSend Templates.the_row
+templates_send = search (crosses, template_send, option.the_send, option.the_field_send, sendable) depth 20
 
 pub site_send : IsSend Site.the_row
-site_send = search (crosses, sendable) depth 20
+site_send = search (crosses, templates_send, sendable) depth 20
 
 bool_send : IsSend (as_row bool-field)
 bool_send = search sendable depth 20

@@ -52,9 +52,9 @@ returned_lines draft =
     if returns_message draft then lines draft.header
     else map shown_line (header_lines draft.header)
 
--- whether the notice is an 8bit mail: some returned line has a byte above 127
-unfoldable pub is_eight_bit : Draft → Bool
-is_eight_bit draft = list_any has_high_byte (returned_lines draft)
+-- whether some returned line has a byte above 127, so that the notice is an 8bit mail
+unfoldable pub returns_eight_bit : Draft → Bool
+returns_eight_bit draft = list_any has_high_byte (returned_lines draft)
 
 -- how many boundaries a letter has: one for each number of four digits (this project's profile)
 abbrev pub boundary_numbers : ℕ

@@ -6,6 +6,7 @@ use lib.Pointwise.{pointwise}
 use Rattle.dsn_report.specs.Lines.{begins_with_dot, pieces_of_text, text_of_lines}
 use Rattle.dsn_report.specs.Notice.{notice_of}
 use Rattle.dsn_report.specs.Outbox.{mail_data, mail_transaction, outbox_of}
+use Rattle.dsn_report.specs.Site.{Site}
 
 -- whether a line begins the data
 abbrev pub begins_data : List ℕ → Bool
@@ -34,13 +35,13 @@ unfoldable pub message_of : List ℕ → List ℕ
 message_of transaction = text_of_lines (message_lines (data_after (pieces_of_text transaction)))
 
 -- the receiver of a letter's mail transaction gets the notice
-abbrev pub ReceivesNotice : List ℕ → Letter → Type 0
-ReceivesNotice host letter = message_of (mail_transaction host letter) ≡ notice_of host letter
+abbrev pub ReceivesNotice : Site → Letter → Type 0
+ReceivesNotice site letter = message_of (mail_transaction site letter) ≡ notice_of site letter
 
 -- the receiver of a letter's mail data gets the notice
-abbrev pub ReceivesData : List ℕ → Letter → Type 0
-ReceivesData host letter =
-    text_of_lines (message_lines (pieces_of_text (mail_data host letter))) ≡ notice_of host letter
+abbrev pub ReceivesData : Site → Letter → Type 0
+ReceivesData site letter =
+    text_of_lines (message_lines (pieces_of_text (mail_data site letter))) ≡ notice_of site letter
 
 -- the messages in the lines of a session, given the lines of the unfinished message, if there is
 -- one; DATA begins a message, and the line that ends the data ends it; a message without that line
@@ -61,5 +62,5 @@ unfoldable pub messages_of : List ℕ → List (List ℕ)
 messages_of session = map text_of_lines (messages_in None (pieces_of_text session))
 
 -- the receiver of an outbox gets the notice of each letter, in order, and nothing else
-abbrev pub ReceivesNotices : List ℕ → List Letter → Type 0
-ReceivesNotices host letters = messages_of (outbox_of host letters) ≡ map (notice_of host) letters
+abbrev pub ReceivesNotices : Site → List Letter → Type 0
+ReceivesNotices site letters = messages_of (outbox_of site letters) ≡ map (notice_of site) letters

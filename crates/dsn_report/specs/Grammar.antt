@@ -14,6 +14,7 @@ use Rattle.dsn_report.specs.DeliveryStatus.{delivery_status, typed, usual_addres
 use Rattle.dsn_report.specs.Lines.{pieces_of_text}
 use Rattle.dsn_report.specs.Multipart.{Multipart, message_body, multipart_of}
 use Rattle.dsn_report.specs.Notice.{notice_of}
+use Rattle.dsn_report.specs.Site.{Site}
 
 -- a field: a name and a value
 pub record Field : Type 0 where
@@ -150,13 +151,13 @@ delivery_status_in report =
 
 -- the second part in a notice's bytes is lines, each with its CRLF, that obey the grammar, with one
 -- group for each outcome, in log order
-pub record ReportsOutcomes (host : List ℕ) (letter : Letter) : Type 0 where
-  pub found : delivery_status_in (multipart_of (boundary_of letter) (notice_of host letter))
-      ≡ Some (delivery_status host letter ++ [] ∷ [])
+pub record ReportsOutcomes (site : Site) (letter : Letter) : Type 0 where
+  pub found : delivery_status_in (multipart_of (boundary_of letter) (notice_of site letter))
+      ≡ Some (delivery_status site.host letter ++ [] ∷ [])
   pub message : List Field
   pub recipients : List (List Field)
-  pub grammar : IsDeliveryStatus (delivery_status host letter) message recipients
-  pub gives_message : GivesMessage host letter message
+  pub grammar : IsDeliveryStatus (delivery_status site.host letter) message recipients
+  pub gives_message : GivesMessage site.host letter message
   pub gives_outcomes : AllZip GivesOutcome letter.outcomes recipients
 
 -- a report without outcomes is not a delivery status, however its lines are read

@@ -43,9 +43,9 @@ abbrev pub is_among : List (List ℕ) → List ℕ → Bool
 is_among lines line = list_any (pointwise nat_eq line) lines
 
 -- a text is lines that can be in an 8bit mail or in a 7bit one, each with its CRLF, and nothing
--- else; all lines except the returned ones are of tabs and printable bytes
-pub record HasLegalLines (text : List ℕ) (eight_bit : Bool) (returned : List (List ℕ)) : Type 0 where
+-- else; all lines except the foreign ones are of tabs and printable bytes
+pub record HasLegalLines (text : List ℕ) (eight_bit : Bool) (foreign : List (List ℕ)) : Type 0 where
   pub lines : List (List ℕ)
   pub written : text ≡ text_of_lines lines
   pub legal : IsTrue (list_all (is_line_of eight_bit) lines)
-  pub plain : IsTrue (list_all (λ line. is_legal_line line || is_among returned line) lines)
+  pub plain : IsTrue (list_all (λ line. is_legal_line line || is_among foreign line) lines)

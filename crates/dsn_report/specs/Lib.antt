@@ -11,5 +11,6 @@ pub mod Outgoing
 pub mod PlainWords
 pub mod Poster
 pub mod Site
+pub mod Template
 pub mod WellFormed
 pub mod inner

@@ -3,10 +3,11 @@
 use Rattle.std.specs.Prelude.{◌≡◌, ℕ, Bool, false, List, [], ◌∷◌, ◌++◌, map, Option, Some, None, option_map, codes, if◌then◌else◌, nat_eq}
 use Rattle.std.specs.List.{starts_with}
 use Rattle.dsn_outcome.specs.Letter.{Letter}
-use Rattle.dsn_report.specs.Boundary.{boundary_of, is_delimiter, is_eight_bit, returned_lines, returns_message}
+use Rattle.dsn_report.specs.Boundary.{boundary_of, is_delimiter, returned_lines, returns_eight_bit, returns_message}
 use Rattle.dsn_report.specs.DeliveryStatus.{delivery_status}
 use Rattle.dsn_report.specs.Lines.{pieces_of_text, text_of_lines, text_of_pieces}
-use Rattle.dsn_report.specs.Notice.{encoding_lines, notice_of, notification, returned_description, returned_type, words_of}
+use Rattle.dsn_report.specs.Notice.{encoding_lines, notice_of, notification, notification_type, preface_of, returned_description, returned_type, words_of}
+use Rattle.dsn_report.specs.Site.{Site}
 
 -- the lines before the first delimiter, the parts, and the lines after the last delimiter, if there
 -- is one
@@ -75,23 +76,23 @@ returned_parts description content_type eight_bit (line ∷ rest) =
     part_lines description content_type eight_bit (line ∷ rest) ∷ []
 
 -- the parts of a notice
-unfoldable pub notice_parts : List ℕ → Letter → List (List (List ℕ))
-notice_parts host letter =
-    part_lines (codes "Notification") (codes "text/plain; charset=us-ascii") false
-    (notification host letter)
+unfoldable pub notice_parts : Site → Letter → List (List (List ℕ))
+notice_parts site letter =
+    part_lines (codes "Notification") (notification_type site letter)
+    (preface_of site letter).eight_bit (notification site letter)
     ∷ part_lines (codes "Delivery report") (codes "message/delivery-status") false
-    (delivery_status host letter)
+    (delivery_status site.host letter)
     ∷ returned_parts (returned_description (words_of letter) (returns_message letter.draft))
-    (returned_type (returns_message letter.draft)) (is_eight_bit letter.draft)
+    (returned_type (returns_message letter.draft)) (returns_eight_bit letter.draft)
     (returned_lines letter.draft)
 
 -- a reader that divides a notice's bytes at its boundary gets its parts, each with the CRLF of its
 -- last line, and nothing before and nothing after them
-abbrev pub DividesIntoParts : List ℕ → Letter → Type 0
-DividesIntoParts host letter =
-    multipart_of (boundary_of letter) (notice_of host letter)
+abbrev pub DividesIntoParts : Site → Letter → Type 0
+DividesIntoParts site letter =
+    multipart_of (boundary_of letter) (notice_of site letter)
     ≡ record {
       preamble = None;
-      parts = map text_of_lines (notice_parts host letter);
+      parts = map text_of_lines (notice_parts site letter);
       epilogue = Some [];
     }

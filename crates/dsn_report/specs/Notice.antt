@@ -13,10 +13,12 @@ use Rattle.dsn_text.specs.declared.service.Service.{Service}
 use Rattle.dsn_text.specs.declared.service.Service.TheVariants.{Bounce, Defer, Trace}
 use Rattle.dsn_outcome.specs.declared.wording.Wording.{Wording}
 use Rattle.dsn_outcome.specs.declared.wording.Wording.TheVariants.{ByService, ByOutcome}
-use Rattle.dsn_report.specs.Boundary.{letter_name, boundary_of, is_eight_bit, returned_lines, returns_message}
+use Rattle.dsn_report.specs.Boundary.{letter_name, boundary_of, returned_lines, returns_eight_bit, returns_message}
 use Rattle.dsn_report.specs.DeliveryStatus.{line_if_any, delivery_status}
 use Rattle.dsn_report.specs.Lines.{text_of_lines}
 use Rattle.dsn_report.specs.PlainWords.{meaning_of}
+use Rattle.dsn_report.specs.Site.{Site, Templates}
+use Rattle.dsn_report.specs.Template.{Template, has_eight_bit_text, template_lines}
 
 -- the words of a notice that depend on its letter: its subject, its first sentence to the reader,
 -- what follows from it for the reader, and the descriptions of a returned header and of a returned
@@ -115,22 +117,6 @@ encoding_lines false = []
 abbrev pub return_path_of : Letter → List ℕ
 return_path_of letter = unwrap_or letter.draft.return_path []
 
--- the header of a notice (RFC 5322 section 3.6, RFC 3834 section 5, RFC 2045 sections 4 and 6, RFC
--- 6522 section 3)
-unfoldable pub notice_header : List ℕ → Letter → List ℕ → List (List ℕ)
-notice_header host letter boundary =
-    (codes "From: Mail Delivery System <MAILER-DAEMON@" ++ host ++ codes ">")
-    ∷ (codes "To: <" ++ return_path_of letter ++ codes ">")
-    ∷ (codes "Subject: " ++ (words_of letter).subject)
-    ∷ (codes "Date: " ++ date_text letter.draft.moment)
-    ∷ (codes "Message-ID: <" ++ letter_name letter ++ codes "." ++ decimal letter.serial
-    ++ codes "@" ++ host ++ codes ">")
-    ∷ codes "Auto-Submitted: auto-replied"
-    ∷ codes "MIME-Version: 1.0"
-    ∷ codes "Content-Type: multipart/report; report-type=delivery-status;"
-    ∷ (codes " boundary=\"" ++ boundary ++ codes "\"")
-    ∷ encoding_lines (is_eight_bit letter.draft)
-
 -- the beginning of a part: its delimiter, its header and an empty line (RFC 2046 section 5.1.1)
 unfoldable pub part_header : List ℕ → List ℕ → List ℕ → Bool → List (List ℕ)
 part_header boundary description content_type eight_bit =
@@ -197,12 +183,13 @@ explanation ByOutcome outcome =
     ++ line_if_any (codes "    It will be tried again until ")
     (option_map date_text outcome.retry_until)
 
--- the lines for people of one outcome
-unfoldable pub outcome_lines : Wording → Outcome → List (List ℕ)
-outcome_lines wording outcome =
+-- the lines for people of one outcome, by the letter's wording; what happened to the recipient is
+-- explained by a wording of its own
+unfoldable pub outcome_lines : Wording → Wording → Outcome → List (List ℕ)
+outcome_lines wording explained outcome =
     (recipient_told outcome.recipient (origin_told wording outcome) ++ codes ": "
     ++ action_word outcome.action ++ codes " (" ++ outcome.status ++ codes ")")
-    ∷ explanation wording outcome
+    ∷ explanation explained outcome
 
 -- what follows for the reader, and whom to ask; only by outcome
 unfoldable pub guidance : Wording → List ℕ → List ℕ → List (List ℕ)
@@ -212,14 +199,114 @@ guidance ByOutcome host consequence =
     ∷ (codes "For help, write to <postmaster@" ++ host ++ codes "> and include this notice.")
     ∷ []
 
--- the part for people (RFC 6522 section 3, first part)
-unfoldable pub notification : List ℕ → Letter → List (List ℕ)
-notification host letter =
+-- what a template sets: the value of From, the subject, and the text before the recipients, with
+-- its charset and whether it is 8bit; each outcome is explained by a wording of its own
+pub record Preface : Type 0 where
+  pub sender : List ℕ
+  pub subject : List ℕ
+  pub charset : List ℕ
+  pub eight_bit : Bool
+  pub text : List (List ℕ)
+  pub explained : Wording
+
+-- this project's own text before the recipients
+abbrev pub own_text : List ℕ → List ℕ → List ℕ → Wording → List (List ℕ)
+own_text host opening consequence wording =
     (codes "This is the mail system at host " ++ host ++ codes ".")
     ∷ []
-    ∷ (words_of letter).opening
-    ∷ guidance letter.draft.wording host (words_of letter).consequence
-    ++ [] ∷ flat_map (outcome_lines letter.draft.wording) letter.outcomes
+    ∷ opening
+    ∷ guidance wording host consequence
+
+-- this project's own preface
+abbrev pub own_preface : List ℕ → Words → Wording → Preface
+own_preface host words wording = record {
+  sender = codes "Mail Delivery System <MAILER-DAEMON@" ++ host ++ codes ">";
+  subject = words.subject;
+  charset = codes "us-ascii";
+  eight_bit = false;
+  text = own_text host words.opening words.consequence wording;
+  explained = wording;
+}
+
+-- the preface of a template; outcomes are explained by service, since the sentences by outcome are
+-- English
+abbrev pub preface_from : Template → Preface
+preface_from template = record {
+  sender = template.sender;
+  subject = template.subject;
+  charset = template.charset;
+  eight_bit = has_eight_bit_text template;
+  text = template_lines template;
+  explained = ByService;
+}
+
+abbrev pub preface_by : List ℕ → Words → Wording → Option Template → Preface
+preface_by host words wording None = own_preface host words wording
+preface_by host words wording (Some template) = preface_from template
+
+-- the template in place of the words of the same case
+abbrev pub template_by : Templates → Wording → Service → Bool → Option Template
+template_by templates ByService Bounce arrived = templates.failure
+template_by templates ByService Defer arrived = templates.delay
+template_by templates ByService Trace arrived = templates.verify
+template_by templates ByOutcome Bounce arrived = templates.failure
+template_by templates ByOutcome Defer arrived = templates.delay
+template_by templates ByOutcome Trace true = templates.success
+template_by templates ByOutcome Trace false = templates.verify
+
+-- the template of a letter's notice, if the site has one
+unfoldable pub template_of : Templates → Letter → Option Template
+template_of templates letter =
+    template_by templates letter.draft.wording letter.key.service
+    (list_all (λ outcome. has_arrived outcome.action) letter.outcomes)
+
+-- the preface of a letter's notice
+unfoldable pub preface_of : Site → Letter → Preface
+preface_of site letter =
+    preface_by site.host (words_of letter) letter.draft.wording
+    (template_of site.templates letter)
+
+-- the lines of others that are in the notice unchanged: those of the template, if there is one, and
+-- the returned ones
+abbrev pub lines_of_any : Option Template → List (List ℕ)
+lines_of_any None = []
+lines_of_any (Some template) = template_lines template
+
+abbrev pub foreign_lines : Site → Letter → List (List ℕ)
+foreign_lines site letter =
+    lines_of_any (template_of site.templates letter) ++ returned_lines letter.draft
+
+-- whether the notice is an 8bit mail: its preface or a returned line has a byte above 127
+abbrev pub is_eight_bit : Site → Letter → Bool
+is_eight_bit site letter =
+    (preface_of site letter).eight_bit || returns_eight_bit letter.draft
+
+-- the header of a notice (RFC 5322 section 3.6, RFC 3834 section 5, RFC 2045 sections 4 and 6, RFC
+-- 6522 section 3)
+unfoldable pub notice_header : Site → Letter → List ℕ → List (List ℕ)
+notice_header site letter boundary =
+    (codes "From: " ++ (preface_of site letter).sender)
+    ∷ (codes "To: <" ++ return_path_of letter ++ codes ">")
+    ∷ (codes "Subject: " ++ (preface_of site letter).subject)
+    ∷ (codes "Date: " ++ date_text letter.draft.moment)
+    ∷ (codes "Message-ID: <" ++ letter_name letter ++ codes "." ++ decimal letter.serial
+    ++ codes "@" ++ site.host ++ codes ">")
+    ∷ codes "Auto-Submitted: auto-replied"
+    ∷ codes "MIME-Version: 1.0"
+    ∷ codes "Content-Type: multipart/report; report-type=delivery-status;"
+    ∷ (codes " boundary=\"" ++ boundary ++ codes "\"")
+    ∷ encoding_lines (is_eight_bit site letter)
+
+-- the part for people (RFC 6522 section 3, first part), and its media type
+unfoldable pub notification : Site → Letter → List (List ℕ)
+notification site letter =
+    (preface_of site letter).text
+    ++ [] ∷ flat_map (outcome_lines letter.draft.wording (preface_of site letter).explained)
+    letter.outcomes
+
+abbrev pub notification_type : Site → Letter → List ℕ
+notification_type site letter =
+    codes "text/plain; charset=" ++ (preface_of site letter).charset
 
 -- the part with the returned lines, if there are any (RFC 6522 sections 3 and 4)
 unfoldable pub returned_part : List ℕ → List ℕ → List ℕ → Bool → List (List ℕ) → List (List ℕ)
@@ -228,24 +315,24 @@ returned_part boundary description content_type eight_bit (line ∷ rest) =
     part_of boundary description content_type eight_bit (line ∷ rest)
 
 -- the lines of a notice: its header, an empty line, two or three parts, and the last delimiter
-unfoldable pub lines_with_boundary : List ℕ → Letter → List ℕ → List (List ℕ)
-lines_with_boundary host letter boundary =
-    notice_header host letter boundary
+unfoldable pub lines_with_boundary : Site → Letter → List ℕ → List (List ℕ)
+lines_with_boundary site letter boundary =
+    notice_header site letter boundary
     ++ [] ∷ []
-    ++ part_of boundary (codes "Notification") (codes "text/plain; charset=us-ascii") false
-    (notification host letter)
+    ++ part_of boundary (codes "Notification") (notification_type site letter)
+    (preface_of site letter).eight_bit (notification site letter)
     ++ part_of boundary (codes "Delivery report") (codes "message/delivery-status") false
-    (delivery_status host letter)
+    (delivery_status site.host letter)
     ++ returned_part boundary
     (returned_description (words_of letter) (returns_message letter.draft))
-    (returned_type (returns_message letter.draft)) (is_eight_bit letter.draft)
+    (returned_type (returns_message letter.draft)) (returns_eight_bit letter.draft)
     (returned_lines letter.draft)
     ++ (codes "--" ++ boundary ++ codes "--") ∷ []
 
 -- the lines of a notice with its own boundary
-unfoldable pub notice_lines : List ℕ → Letter → List (List ℕ)
-notice_lines host letter = lines_with_boundary host letter (boundary_of letter)
+unfoldable pub notice_lines : Site → Letter → List (List ℕ)
+notice_lines site letter = lines_with_boundary site letter (boundary_of letter)
 
 -- the text of a notice
-unfoldable pub notice_of : List ℕ → Letter → List ℕ
-notice_of host letter = text_of_lines (notice_lines host letter)
+unfoldable pub notice_of : Site → Letter → List ℕ
+notice_of site letter = text_of_lines (notice_lines site letter)

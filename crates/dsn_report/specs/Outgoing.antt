@@ -13,6 +13,7 @@ use Rattle.dsn_device.specs.declared.drain.Drain
 use Rattle.dsn_outcome.specs.Letter.{Letter}
 use Rattle.dsn_report.specs.Outbox.{greeting, mail_transaction, outbox_of}
 use Rattle.dsn_report.specs.Poster.{Poster}
+use Rattle.dsn_report.specs.Site.{Site}
 
 -- a poster, and the letters that it could not write
 pub record Outgoing (W : Type 0) : Type 0 where
@@ -20,16 +21,16 @@ pub record Outgoing (W : Type 0) : Type 0 where
   pub unsent : List Letter
 
 -- nothing is posted yet, and nothing is written
-abbrev pub begun : {W : Type 0} → List ℕ → W → Outgoing W
-begun host outbox = record {
-  poster = record { host = host; outbox = outbox; greeted = false; failed = false };
+abbrev pub begun : {W : Type 0} → Site → W → Outgoing W
+begun site outbox = record {
+  poster = record { site = site; outbox = outbox; greeted = false; failed = false };
   unsent = [];
 }
 
 -- the text that posting these letters writes: the greeting is written before the first of them
-abbrev pub written_of : List ℕ → Bool → List Letter → List ℕ
-written_of host greeted letters =
-    (if greeted then greeting host else []) ++ flat_map (mail_transaction host) letters
+abbrev pub written_of : Site → Bool → List Letter → List ℕ
+written_of site greeted letters =
+    (if greeted then greeting site else []) ++ flat_map (mail_transaction site) letters
 
 -- known bytes grow by a front of the text that contains at least this much of it
 pub record AppendsAtLeast (old new : Option (List ℕ)) (least text : List ℕ) : Type 0 where
@@ -93,9 +94,9 @@ are_some [] = false
 are_some (first ∷ rest) = true
 
 -- the longest possible text of an outbox: with QUIT, or with the first letter that was not written
-abbrev pub text_until : List ℕ → List Letter → List Letter → List ℕ
-text_until host posted [] = outbox_of host posted
-text_until host posted (first ∷ rest) = written_of host true (posted ++ first ∷ [])
+abbrev pub text_until : Site → List Letter → List Letter → List ℕ
+text_until site posted [] = outbox_of site posted
+text_until site posted (first ∷ rest) = written_of site true (posted ++ first ∷ [])
 
 -- if nothing failed, each letter is written, flushed and marked, and nothing is written after the
 -- last flush
@@ -103,7 +104,7 @@ pub record AllWritten {W : Type 0} (drain : Drain.Ghosts W) (start : W) (out : O
     (letters : List Letter) : Type 0 where
   pub none_unsent : out.unsent ≡ []
   pub written : Appends (drain.contents start) (drain.contents out.poster.outbox)
-      (written_of out.poster.host out.poster.greeted letters)
+      (written_of out.poster.site out.poster.greeted letters)
   pub greeted_is : out.poster.greeted ≡ are_some letters
   pub good : drain.failures out.poster.outbox ≡ drain.failures start
   pub flushes : drain.flushes out.poster.outbox
@@ -123,10 +124,10 @@ pub record FrontWritten {W : Type 0} (drain : Drain.Ghosts W) (start : W) (out :
   pub unsent_is : out.unsent ≡ failed ∷ later
   pub split : letters ≡ posted ++ (failed ∷ later)
   pub written : AppendsAtLeast (drain.contents start) (drain.contents out.poster.outbox)
-      (written_of out.poster.host (are_some posted) posted)
-      (written_of out.poster.host true (posted ++ failed ∷ []))
+      (written_of out.poster.site (are_some posted) posted)
+      (written_of out.poster.site true (posted ++ failed ∷ []))
   pub lost : FailedIn drain start out.poster.outbox posted (posted ++ failed ∷ [])
-      (written_of out.poster.host true (posted ++ failed ∷ []))
+      (written_of out.poster.site true (posted ++ failed ∷ []))
   pub marked : drain.marked out.poster.outbox ≡ marked_with posted (drain.marked start)
   pub count : drain.failures out.poster.outbox ≡ counted true (drain.failures start)
 
@@ -136,9 +137,9 @@ StaysSteady drain old new =
     drain.steady old → drain.steady new × (drain.failures new ≡ drain.failures old)
 
 -- these letters were posted, one after another
-pub record Delivered {W : Type 0} (drain : Drain.Ghosts W) (host : List ℕ) (start : W) (out : Outgoing W)
+pub record Delivered {W : Type 0} (drain : Drain.Ghosts W) (site : Site) (start : W) (out : Outgoing W)
     (letters : List Letter) : Type 0 where
-  pub host_kept : out.poster.host ≡ host
+  pub site_kept : out.poster.site ≡ site
   pub while_good : out.poster.failed ≡ false → AllWritten drain start out letters
   pub after_fault : out.poster.failed ≡ true → FrontWritten drain start out letters
   pub steady : StaysSteady drain start out.poster.outbox
@@ -150,14 +151,14 @@ pub record Delivered {W : Type 0} (drain : Drain.Ghosts W) (host : List ℕ) (st
 -- the posted letters are marked; a crash at any moment leaves marks of posted letters only, except
 -- of a letter whose mark failed; if the device flushes surely, one that isn't whole lacks some of
 -- the text of all letters
-pub record IsOutbox {W : Type 0} (drain : Drain.Ghosts W) (host : List ℕ) (start end : W) (whole : Bool)
+pub record IsOutbox {W : Type 0} (drain : Drain.Ghosts W) (site : Site) (start end : W) (whole : Bool)
     (unsent letters : List Letter) : Type 0 where
   pub posted : List Letter
   pub split : letters ≡ posted ++ unsent
   pub written : AppendsAtLeast (drain.contents start) (drain.contents end)
-      (written_of host (are_some posted) posted) (text_until host posted unsent)
+      (written_of site (are_some posted) posted) (text_until site posted unsent)
   pub all_written : whole ≡ true
-      → Appends (drain.contents start) (drain.contents end) (outbox_of host letters)
+      → Appends (drain.contents start) (drain.contents end) (outbox_of site letters)
   pub none_unsent : whole ≡ true → unsent ≡ []
   pub count : drain.failures end ≡ counted (not whole) (drain.failures start)
   pub flushes : whole ≡ true
@@ -166,7 +167,7 @@ pub record IsOutbox {W : Type 0} (drain : Drain.Ghosts W) (host : List ℕ) (sta
   pub marked : drain.marked end ≡ marked_with posted (drain.marked start)
   pub marks : whole ≡ true → MarksAllOf drain start end letters
   pub lost : whole ≡ false
-      → FailedIn drain start end posted (posted ++ take 1 unsent) (text_until host posted unsent)
+      → FailedIn drain start end posted (posted ++ take 1 unsent) (text_until site posted unsent)
   pub short : whole ≡ false → drain.flushes_surely start
-      → AppendsPart (drain.contents start) (drain.contents end) (outbox_of host letters)
+      → AppendsPart (drain.contents start) (drain.contents end) (outbox_of site letters)
   pub steady : StaysSteady drain start end

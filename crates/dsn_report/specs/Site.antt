@@ -1,7 +1,8 @@
--- Sites: host names, and the numbers of their faults.
-use Rattle.std.specs.Prelude.{ℕ, Bool, ◌||◌, ◌==◌, List, IsTrue}
+-- Sites: the mail systems that notices come from, and the numbers of their faults.
+use Rattle.std.specs.Prelude.{ℕ, Bool, ◌||◌, ◌==◌, List, Option, None, IsTrue, IfSome}
 use Rattle.dsn_text.specs.FaultCode.{bad_host_code, no_memory_code}
 use Rattle.dsn_text.specs.Text.{is_text, is_letter_or_digit}
+use Rattle.dsn_report.specs.Template.{Template, IsTemplate}
 use Rattle.dsn_report.specs.declared.site.SiteFault.{SiteFault}
 use Rattle.dsn_report.specs.declared.site.SiteFault.TheVariants.{BadHost, NoMemory}
 
@@ -20,6 +21,37 @@ is_host = is_text is_host_byte 1 longest_host
 
 abbrev pub IsHost : List ℕ → Type 0
 IsHost host = IsTrue (is_host host)
+
+-- the templates of a site: of failures, of delays, of reports that all recipients got the message,
+-- and of other reports; each may be missing
+pub record Templates : Type 0 where
+  pub failure : Option Template
+  pub delay : Option Template
+  pub success : Option Template
+  pub verify : Option Template
+
+abbrev pub no_templates : Templates
+no_templates = record { failure = None; delay = None; success = None; verify = None }
+
+-- each template is legal
+pub record AreTemplates (templates : Templates) : Type 0 where
+  pub failure_legal : IfSome templates.failure IsTemplate
+  pub delay_legal : IfSome templates.delay IsTemplate
+  pub success_legal : IfSome templates.success IsTemplate
+  pub verify_legal : IfSome templates.verify IsTemplate
+
+-- the mail system that notices come from
+pub record Site : Type 0 where
+  pub host : List ℕ
+  pub templates : Templates
+
+-- a site without templates
+abbrev pub plain_site : List ℕ → Site
+plain_site host = record { host = host; templates = no_templates }
+
+pub record IsSite (site : Site) : Type 0 where
+  pub host_legal : IsHost site.host
+  pub templates_legal : AreTemplates site.templates
 
 abbrev pub site_fault_code : SiteFault → ℕ
 site_fault_code BadHost = bad_host_code

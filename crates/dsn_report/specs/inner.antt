@@ -1,3 +1,5 @@
 pub mod Boundary
 pub mod LineWriter
 pub mod NoticeLines
+pub mod Preface
+pub mod Template

@@ -17,10 +17,15 @@ mod pending_bytes;
 mod plain_words;
 mod post_fault;
 mod poster;
+mod preface;
 mod returned_lines;
 mod returned_text;
 mod ruled_out_boundaries;
 mod site;
+mod template;
+mod template_fault;
+mod template_parts;
+mod templates;
 
 pub use boundary_number::boundary;
 pub use laws::{
@@ -33,3 +38,6 @@ pub use outgoing::Outgoing;
 pub use post_fault::PostFault;
 pub use poster::{Ended, Poster};
 pub use site::{LONGEST_HOST, Site, SiteFault};
+pub use template::Template;
+pub use template_fault::TemplateFault;
+pub use templates::Templates;

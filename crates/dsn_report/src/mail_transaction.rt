@@ -3,12 +3,12 @@
 ghost use Rattle.std.specs.Prelude.{◌≡◌, true, [], ◌∷◌, ◌++◌, codes, if◌then◌else◌};
 ghost use Rattle.dsn_device.specs.QuietWriter.{Writes};
 ghost use Rattle.dsn_report.specs.inner.LineWriter.{Took, Wrote};
-ghost use Rattle.dsn_report.specs.Boundary.{is_eight_bit};
-ghost use Rattle.dsn_report.specs.Notice.{return_path_of};
+ghost use Rattle.dsn_report.specs.Notice.{is_eight_bit, return_path_of};
 ghost use Rattle.dsn_report.specs.Outbox.{greeting, goodbye, mail_parameter, mail_transaction};
 
 use crate::line_writer::LineWriter;
 use crate::notice_lines::write_notice;
+use crate::preface::{Preface, is_eight_bit};
 use crate::returned_text::ReturnedText;
 use crate::site::Site;
 use dsn_device::Drain;
@@ -51,7 +51,7 @@ fn greet_once<W: Drain>(lines: &mut LineWriter<W>, site: &Site, greeted: bool)
 {
     if !greeted {
         lines.piece(b"EHLO ");
-        lines.piece(site.bytes());
+        lines.piece(site.host());
         lines.piece(b"\r\n");
     }
 }
@@ -62,16 +62,17 @@ fn write_transaction<W: Drain>(lines: &mut LineWriter<W>, site: &Site, letter: &
     ensures { Took W.Drain lines.old lines.new (mail_transaction site.now letter.now) }
 {
     let returned = ReturnedText::of(letter);
-    write_envelope(lines, letter, mail_parameter(returned.eight_bit));
-    write_notice(lines, site, letter, returned);
+    let preface = Preface::of(site, letter);
+    let parameter = mail_parameter(is_eight_bit(preface, returned));
+    write_envelope(lines, letter, parameter);
+    write_notice(lines, site, letter, preface, returned);
     lines.piece(b".\r\n");
 }
 
-/// Writes the commands before the mail data. Requires that `parameter` is that of MAIL.
+/// Writes the commands before the mail data, with this parameter of MAIL.
 fn write_envelope<'a, W: Drain>(lines: &mut LineWriter<W>, letter: &'a Letter, parameter: &'a [u8])
-    requires { parameter.now ≡ mail_parameter (is_eight_bit letter.now.draft) }
     ensures { Wrote W.Drain lines.old lines.new
-        ((codes "MAIL FROM:<>" ++ mail_parameter (is_eight_bit letter.now.draft))
+        ((codes "MAIL FROM:<>" ++ parameter.now)
         ∷ (codes "RCPT TO:<" ++ return_path_of letter.now ++ codes ">")
         ∷ codes "DATA" ∷ []) }
 {

@@ -8,14 +8,15 @@ ghost use Rattle.std.specs.Option.{option_copied, option_map};
 ghost use Rattle.dsn_text.specs.Action.{action_word};
 ghost use Rattle.dsn_text.specs.Extension.{lines_ended_by_lf, is_extension_text};
 ghost use Rattle.dsn_text.specs.Stamp.{date_text};
-ghost use Rattle.dsn_report.specs.Boundary.{boundary_front, is_eight_bit, returned_lines, returns_message};
+ghost use Rattle.dsn_report.specs.Boundary.{boundary_front, returned_lines, returns_eight_bit, returns_message};
 ghost use Rattle.dsn_report.specs.DeliveryStatus.{delivery_status, line_if_any, per_message_fields, per_recipient_fields, recipient_group, typed, usual_address_type, usual_diagnostic_type};
 ghost use Rattle.dsn_report.specs.inner.LineWriter.{Wrote, begins_plainly};
 ghost use Rattle.dsn_report.specs.Lines.{begins_with_dot};
 ghost use Rattle.dsn_outcome.specs.declared.wording.Wording.TheVariants.{ByOutcome};
-ghost use Rattle.dsn_report.specs.Notice.{encoding_lines, explanation, guidance, notice_header, notice_lines, notification, outcome_lines, part_header, recipient_told, reply_lines, returned_description, returned_part, returned_type, words_of};
+ghost use Rattle.dsn_report.specs.Notice.{encoding_lines, explanation, guidance, is_eight_bit, notice_header, notice_lines, notification, notification_type, outcome_lines, own_text, part_header, preface_of, recipient_told, reply_lines, returned_description, returned_part, returned_type};
 ghost use Rattle.dsn_report.specs.inner.NoticeLines.{words_in};
 ghost use Rattle.dsn_report.specs.inner.NoticeLines.{lines_shown};
+ghost use Rattle.dsn_report.specs.inner.Preface.{IsPreface};
 
 use crate::boundary_number::boundary_beside;
 use crate::extension_lines::ExtensionLines;
@@ -23,6 +24,7 @@ use crate::letter_boundary::{NUMBER_LEN, boundary_text, serial_text};
 use crate::line_writer::LineWriter;
 use crate::notice_wording::{Words, origin_told, reply_beside, returned_type, speaker};
 use crate::plain_words::meaning_of;
+use crate::preface::{Preface, is_eight_bit};
 use crate::returned_lines::{LINE_ROOM, show_dotted_line};
 use crate::returned_text::ReturnedText;
 use crate::site::Site;
@@ -34,32 +36,33 @@ fn write_header<'a, W: Drain>(
     lines: &mut LineWriter<W>,
     site: &'a Site,
     letter: &'a Letter,
-    subject: &'a [u8],
+    preface: Preface<'a>,
     front: &'a [u8],
     boundary: &'a [u8],
     eight_bit: bool,
 )
-    requires eight_bit { eight_bit ≡ is_eight_bit letter.now.draft }
-    requires subject { subject.now ≡ (words_of letter.now).subject }
+    requires eight_bit { eight_bit ≡ is_eight_bit site.now letter.now }
+    requires preface { IsPreface preface site.now letter.now }
     requires front { front.now ≡ boundary_front letter.now }
     ensures { Wrote W.Drain lines.old lines.new (notice_header site.now letter.now boundary.now) }
 {
-    let host = site.bytes();
     let serial = serial_text(letter);
     lines.block(&[
-        b"From: Mail Delivery System <MAILER-DAEMON@",
-        host,
-        b">\r\nTo: <",
+        b"From: ",
+        preface.sender.0,
+        preface.sender.1,
+        preface.sender.2,
+        b"\r\nTo: <",
         letter.return_path().bytes(),
         b">\r\nSubject: ",
-        subject,
+        preface.subject,
         b"\r\nDate: ",
         &letter.moment().date(),
         b"\r\nMessage-ID: <",
         front,
         serial.bytes(),
         b"@",
-        host,
+        site.host(),
         b">\r\n\
           Auto-Submitted: auto-replied\r\n\
           MIME-Version: 1.0\r\n\
@@ -85,32 +88,82 @@ fn write_notification<'a, W: Drain>(
     lines: &mut LineWriter<W>,
     site: &'a Site,
     letter: &'a Letter,
-    opening: &'a [u8],
-    consequence: &'a [u8],
+    preface: Preface<'a>,
     boundary: &'a [u8],
 )
-    requires opening { opening.now ≡ (words_of letter.now).opening }
-    requires consequence { consequence.now ≡ (words_of letter.now).consequence }
+    requires { IsPreface preface site.now letter.now }
     ensures { Wrote W.Drain lines.old lines.new
         ([] ∷ part_header boundary.now (codes "Notification")
-        (codes "text/plain; charset=us-ascii") false ++ notification site.now letter.now) }
+        (notification_type site.now letter.now) (preface_of site.now letter.now).eight_bit
+        ++ notification site.now letter.now) }
 {
     lines.block(&[
         b"\r\n--",
         boundary,
         b"\r\n\
           Content-Description: Notification\r\n\
-          Content-Type: text/plain; charset=us-ascii\r\n\
-          \r\n\
-          This is the mail system at host ",
-        site.bytes(),
+          Content-Type: text/plain; charset=",
+        preface.charset,
+        b"\r\n",
+    ]);
+    write_encoding(lines, preface.eight_bit);
+    lines.block(&[b"\r\n"]);
+    write_preface(lines, site, letter, preface);
+    lines.block(&[b"\r\n"]);
+    write_outcomes(lines, letter, preface.explained);
+}
+
+/// Writes the text before the recipients: the template's, or this project's own.
+fn write_preface<'a, W: Drain>(
+    lines: &mut LineWriter<W>,
+    site: &'a Site,
+    letter: &'a Letter,
+    preface: Preface<'a>,
+)
+    requires { IsPreface preface site.now letter.now }
+    ensures { Wrote W.Drain lines.old lines.new (preface_of site.now letter.now).text }
+{
+    match preface.text {
+        Some(text) => write_returned_lines(
+            lines,
+            ReturnedText {
+                bytes: text,
+                whole: true,
+                eight_bit: preface.eight_bit,
+            },
+        ),
+        None => write_own_text(
+            lines,
+            site,
+            letter.terms().wording(),
+            preface.words.opening,
+            preface.words.consequence,
+        ),
+    }
+}
+
+/// Writes this project's own text before the recipients. Requires that the sentences don't begin
+/// with a dot.
+fn write_own_text<'a, W: Drain>(
+    lines: &mut LineWriter<W>,
+    site: &'a Site,
+    wording: Wording,
+    opening: &'a [u8],
+    consequence: &'a [u8],
+)
+    requires opening { IsFalse (begins_with_dot opening.now) }
+    requires consequence { IsFalse (begins_with_dot consequence.now) }
+    ensures { Wrote W.Drain lines.old lines.new
+        (own_text site.now.host opening.now consequence.now wording) }
+{
+    lines.block(&[
+        b"This is the mail system at host ",
+        site.host(),
         b".\r\n\r\n",
         opening,
         b"\r\n",
     ]);
-    write_guidance(lines, site, letter.terms().wording(), consequence);
-    lines.block(&[b"\r\n"]);
-    write_outcomes(lines, letter);
+    write_guidance(lines, site, wording, consequence);
 }
 
 /// Writes what follows for the reader, and whom to ask, if the wording is by outcome. Requires that
@@ -122,36 +175,42 @@ fn write_guidance<'a, W: Drain>(
     consequence: &'a [u8],
 )
     requires { IsFalse (begins_with_dot consequence.now) }
-    ensures { Wrote W.Drain lines.old lines.new (guidance wording site.now consequence.now) }
+    ensures { Wrote W.Drain lines.old lines.new (guidance wording site.now.host consequence.now) }
 {
     match wording {
         Wording::ByService => {}
         Wording::ByOutcome => lines.block(&[
             consequence,
             b"\r\nFor help, write to <postmaster@",
-            site.bytes(),
+            site.host(),
             b"> and include this notice.\r\n",
         ]),
     }
 }
 
-/// Writes the lines for people of each outcome, oldest first.
-fn write_outcomes<W: Drain>(lines: &mut LineWriter<W>, letter: &Letter)
+/// Writes the lines for people of each outcome, oldest first, explained by this wording.
+fn write_outcomes<W: Drain>(lines: &mut LineWriter<W>, letter: &Letter, explained: Wording)
     ensures { Wrote W.Drain lines.old lines.new
-        (flat_map (outcome_lines letter.now.draft.wording) letter.now.outcomes) }
+        (flat_map (outcome_lines letter.now.draft.wording explained) letter.now.outcomes) }
 {
     let wording = letter.terms().wording();
     for outcome in letter.outcomes() {
-        write_outcome(lines, wording, outcome);
+        write_outcome(lines, wording, explained, outcome);
     }
 }
 
-/// Writes the lines for people of an outcome.
-fn write_outcome<W: Drain>(lines: &mut LineWriter<W>, wording: Wording, outcome: &Outcome)
-    ensures { Wrote W.Drain lines.old lines.new (outcome_lines wording outcome.now) }
+/// Writes the lines for people of an outcome, by the letter's wording. What happened to the
+/// recipient is explained by a wording of its own.
+fn write_outcome<W: Drain>(
+    lines: &mut LineWriter<W>,
+    wording: Wording,
+    explained: Wording,
+    outcome: &Outcome,
+)
+    ensures { Wrote W.Drain lines.old lines.new (outcome_lines wording explained outcome.now) }
 {
     write_action(lines, outcome, origin_told(wording, outcome));
-    match wording {
+    match explained {
         Wording::ByService => write_if_any(lines, b"    ", outcome.reason()),
         Wording::ByOutcome => write_explanation(lines, outcome),
     }
@@ -241,7 +300,7 @@ fn write_delivery_status<W: Drain>(
 )
     ensures { Wrote W.Drain lines.old lines.new
         ([] ∷ part_header boundary.now (codes "Delivery report") (codes "message/delivery-status")
-        false ++ delivery_status site.now letter.now) }
+        false ++ delivery_status site.now.host letter.now) }
 {
     lines.block(&[
         b"\r\n--",
@@ -267,7 +326,7 @@ fn write_groups<W: Drain>(lines: &mut LineWriter<W>, letter: &Letter)
 
 /// Writes the fields of the message as a whole.
 fn write_message_fields<W: Drain>(lines: &mut LineWriter<W>, site: &Site, letter: &Letter)
-    ensures { Wrote W.Drain lines.old lines.new (per_message_fields site.now letter.now) }
+    ensures { Wrote W.Drain lines.old lines.new (per_message_fields site.now.host letter.now) }
 {
     write_if_any(
         lines,
@@ -276,7 +335,7 @@ fn write_message_fields<W: Drain>(lines: &mut LineWriter<W>, site: &Site, letter
     );
     lines.block(&[
         b"Reporting-MTA: dns; ",
-        site.bytes(),
+        site.host(),
         b"\r\nArrival-Date: ",
         &letter.arrival().date(),
         b"\r\n",
@@ -455,7 +514,7 @@ fn write_part_header<'a, W: Drain>(
     lines.block(&[b"\r\n"]);
 }
 
-/// Writes the returned lines.
+/// Writes the lines of a text: of the returned one, or of a template's.
 fn write_returned_lines<W: Drain>(lines: &mut LineWriter<W>, returned: ReturnedText<'_>)
     ensures { Wrote W.Drain lines.old lines.new
         (lines_shown returned.entry.whole returned.entry.bytes.now) }
@@ -466,41 +525,28 @@ fn write_returned_lines<W: Drain>(lines: &mut LineWriter<W>, returned: ReturnedT
     }
 }
 
-/// Writes a notice. It takes no memory. Requires that `returned` is what the notice returns.
+/// Writes a notice. It takes no memory. Requires that `preface` is how the notice begins, and
+/// `returned` what it returns.
 pub(crate) fn write_notice<W: Drain>(
     lines: &mut LineWriter<W>,
     site: &Site,
     letter: &Letter,
+    preface: Preface<'_>,
     returned: ReturnedText<'_>,
 )
+    requires preface { IsPreface preface site.now letter.now }
     requires whole { returned.whole ≡ returns_message letter.now.draft }
-    requires eight_bit { returned.eight_bit ≡ is_eight_bit letter.now.draft }
+    requires eight_bit { returned.eight_bit ≡ returns_eight_bit letter.now.draft }
     requires returned { lines_shown returned.whole returned.bytes.now ≡ returned_lines letter.now.draft }
     ensures { Wrote W.Drain lines.old lines.new (notice_lines site.now letter.now) }
 {
-    let words = Words::of(letter);
     let name = boundary_text(letter, boundary_beside(letter, returned));
     let boundary = name.bytes();
     let front = &boundary[..boundary.len() - NUMBER_LEN];
-    let subject = words.subject;
-    write_header(
-        lines,
-        site,
-        letter,
-        subject,
-        front,
-        boundary,
-        returned.eight_bit,
-    );
-    write_notification(
-        lines,
-        site,
-        letter,
-        words.opening,
-        words.consequence,
-        boundary,
-    );
+    let eight_bit = is_eight_bit(preface, returned);
+    write_header(lines, site, letter, preface, front, boundary, eight_bit);
+    write_notification(lines, site, letter, preface, boundary);
     write_delivery_status(lines, site, letter, boundary);
-    write_returned_part(lines, words, returned, boundary);
+    write_returned_part(lines, preface.words, returned, boundary);
     lines.block(&[b"--", boundary, b"--\r\n"]);
 }

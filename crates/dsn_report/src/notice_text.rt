@@ -9,6 +9,7 @@ ghost use Rattle.dsn_report.specs.Outbox.{mail_data};
 use crate::line_writer::LineWriter;
 use crate::notice_lines::write_notice;
 use crate::pending_bytes::PendingBytes;
+use crate::preface::Preface;
 use crate::returned_text::ReturnedText;
 use crate::site::Site;
 use dsn_device::{Plain, QuietWriter};
@@ -45,7 +46,8 @@ fn notice_text(alloc: Global, site: &Site, letter: &Letter, dots: bool) -> Resul
         dots,
         pending: PendingBytes::new(),
     };
-    write_notice(&mut lines, site, letter, ReturnedText::of(letter));
+    let preface = Preface::of(site, letter);
+    write_notice(&mut lines, site, letter, preface, ReturnedText::of(letter));
     lines.piece(end_of_text(dots));
     lines.settle();
     let LineWriter {

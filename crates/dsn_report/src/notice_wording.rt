@@ -106,7 +106,7 @@ const SUCCESS: Words = Words {
 };
 
 /// Whether the message arrived at all recipients.
-fn all_arrived(letter: &Letter) -> bool
+pub(crate) fn all_arrived(letter: &Letter) -> bool
     ensures { result ≡ list_all (λ outcome. has_arrived outcome.action) letter.now.outcomes }
 {
     for outcome in letter.outcomes() {

@@ -1,8 +1,9 @@
 //! Letters that are written to the outbox.
 //! Implements noticed-notice(5).
-ghost use Rattle.std.specs.Prelude.{◌≡◌, ◌+◌, ◌≤◌, ℕ, List, [], ◌∷◌, ◌++◌, length};
+ghost use Rattle.std.specs.Prelude.{◌≡◌, ◌+◌, ◌≤◌, List, [], ◌∷◌, ◌++◌, length};
 ghost use Rattle.std.specs.Option.{option_to_list};
 ghost use Rattle.dsn_report.specs.Outgoing.{Delivered, IsOutbox, begun};
+ghost use Rattle.dsn_report.specs.Site.{Site};
 
 use crate::outbox_end::OutboxEnd;
 use crate::poster::{Ended, Poster};
@@ -47,9 +48,9 @@ impl<W: Drain> Outgoing<W> {
 
     /// Posts a letter. If the outbox fails or has failed before, keeps the letter as unsent.
     pub fn hand(&mut self, letter: Letter)
-        ensures delivered { (host : List ℕ) (start : W) (letters : List _)
-            → Delivered W.Drain host start self.old letters
-            → Delivered W.Drain host start self.new (letters ++ letter ∷ []) }
+        ensures delivered { (site : Site) (start : W) (letters : List _)
+            → Delivered W.Drain site start self.old letters
+            → Delivered W.Drain site start self.new (letters ++ letter ∷ []) }
         ensures few { length self.new.unsent ≤ length self.old.unsent + 1 }
     {
         if let Err(fault) = self.poster.post(letter) {
@@ -61,9 +62,9 @@ impl<W: Drain> Outgoing<W> {
 
     /// Posts the letter that a request sealed, if there is one.
     pub fn hand_any(&mut self, letter: Option<Letter>)
-        ensures { (host : List ℕ) (start : W) (letters : List _)
-            → Delivered W.Drain host start self.old letters
-            → Delivered W.Drain host start self.new (letters ++ option_to_list letter) }
+        ensures { (site : Site) (start : W) (letters : List _)
+            → Delivered W.Drain site start self.old letters
+            → Delivered W.Drain site start self.new (letters ++ option_to_list letter) }
     {
         if let Some(letter) = letter {
             self.hand(letter);
@@ -79,9 +80,9 @@ impl<W: Drain> Outgoing<W> {
 
     /// Ends the session with QUIT, and returns the outbox and the unsent letters.
     pub fn finish(self) -> OutboxEnd<W>
-        ensures outbox { (host : List ℕ) (start : W) (letters : List _)
-            → Delivered W.Drain host start self letters
-            → IsOutbox W.Drain host start result.outbox result.whole result.unsent letters }
+        ensures outbox { (site : Site) (start : W) (letters : List _)
+            → Delivered W.Drain site start self letters
+            → IsOutbox W.Drain site start result.outbox result.whole result.unsent letters }
         ensures unsent { result.unsent ≡ self.unsent }
     {
         let Outgoing { poster, unsent } = self;

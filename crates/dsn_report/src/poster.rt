@@ -31,7 +31,7 @@ impl<W> Model for Poster<W> {
     ghost Value = { Poster W };
 
     ghost view = { λ p. record {
-      host = p.site;
+      site = p.site;
       outbox = p.lines.writer.drain;
       greeted = p.greeted;
       failed = p.lines.writer.failed;
@@ -53,7 +53,7 @@ impl<W> Poster<W> {
     /// A poster for this site. It writes nothing.
     pub fn new(site: Site, outbox: W) -> Poster<W>
         ensures { result ≡ record {
-          host = site;
+          site = site;
           outbox = outbox;
           greeted = false;
           failed = false;
@@ -104,7 +104,7 @@ impl<W: Drain> Poster<W> {
         ensures fault { IfErr result (λ fault. fault ≡ post_fault self.old.failed letter) }
         ensures failed { self.new.failed ≡ is_err result }
         ensures greeted { OnOk result (self.new.greeted ≡ true) }
-        ensures host { self.new.host ≡ self.old.host }
+        ensures site { self.new.site ≡ self.old.site }
 
         // After a failure, later calls return the letter at once and write nothing.
         ensures later { IsTrue self.old.failed → result ≡ Err (PostFault.Failed letter) }
@@ -159,6 +159,8 @@ impl<W: Drain> Poster<W> {
             greeted,
         } = self;
         send_goodbye(&mut lines, &site, greeted);
+        // Dropped at the function's end, each of its templates would double the cases of the proof.
+        drop(site);
         lines.flush();
         let LineWriter {
             writer,

@@ -3,7 +3,7 @@
 ghost use Rattle.std.specs.Prelude.{◌≡◌, ◌==◌, ◌&&◌, length, nat_lt};
 ghost use Rattle.std.specs.List.{list_all, list_any};
 ghost use Rattle.std.specs.Str.Lines.{lines};
-ghost use Rattle.dsn_report.specs.Boundary.{is_eight_bit, returned_lines, returns_message};
+ghost use Rattle.dsn_report.specs.Boundary.{returned_lines, returns_eight_bit, returns_message};
 ghost use Rattle.dsn_report.specs.LegalLines.{has_high_byte, is_eight_bit_byte, is_eight_bit_line, is_mail_byte, is_mail_line};
 ghost use Rattle.dsn_report.specs.inner.NoticeLines.{lines_shown};
 
@@ -17,7 +17,7 @@ pub(crate) struct ReturnedText<'a> {
     pub(crate) bytes: &'a [u8],
     /// Whether all lines are returned unchanged.
     pub(crate) whole: bool,
-    /// Whether some returned line has a byte above 127, so that the notice is an 8bit mail.
+    /// Whether some line has a byte above 127, so that the notice is an 8bit mail.
     pub(crate) eight_bit: bool,
 }
 
@@ -25,7 +25,7 @@ impl<'a> ReturnedText<'a> {
     /// The text that the notice of a letter returns (RFC 3461 section 4.3).
     pub(crate) fn of(letter: &'a Letter) -> ReturnedText<'a>
         ensures whole { result.whole ≡ returns_message letter.now.draft }
-        ensures eight_bit { result.eight_bit ≡ is_eight_bit letter.now.draft }
+        ensures eight_bit { result.eight_bit ≡ returns_eight_bit letter.now.draft }
         ensures bytes { result.bytes.now ≡ letter.now.draft.header }
         ensures lines { lines_shown result.whole result.bytes.now
             ≡ returned_lines letter.now.draft }
@@ -77,7 +77,7 @@ struct Carriage {
 fn carriage_of(letter: &Letter, text: &[u8]) -> Carriage
     requires { text.now ≡ letter.now.draft.header }
     ensures whole { result.whole ≡ returns_message letter.now.draft }
-    ensures eight_bit { result.eight_bit ≡ is_eight_bit letter.now.draft }
+    ensures eight_bit { result.eight_bit ≡ returns_eight_bit letter.now.draft }
 {
     // Only the client can know whether the next servers offer 8BITMIME, since the outbox is written
     // without waiting for replies. Without 8BITMIME no 8bit line may be sent (RFC 6152). A cleaned
@@ -168,7 +168,7 @@ fn is_mail_byte(byte: u8) -> bool
 }
 
 /// Whether a line can be in an 8bit mail unchanged.
-fn is_eight_bit_line(line: &[u8]) -> bool
+pub(crate) fn is_eight_bit_line(line: &[u8]) -> bool
     ensures { result ≡ is_eight_bit_line line.now }
 {
     line.len() <= LONGEST_LINE && has_eight_bit_bytes(line)
@@ -194,7 +194,7 @@ fn is_eight_bit_byte(byte: u8) -> bool
 }
 
 /// Whether a line has a byte above 127.
-fn has_high_byte(line: &[u8]) -> bool
+pub(crate) fn has_high_byte(line: &[u8]) -> bool
     ensures { result ≡ list_any (nat_lt 127) line.now }
 {
     line.iter().any(|byte| *byte > 127)

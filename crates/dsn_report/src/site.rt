@@ -1,9 +1,10 @@
-//! The host name of the mail system.
+//! The mail system that notices come from: its host name, and its templates.
 //! Implements noticed(8).
 ghost use Rattle.std.specs.Prelude.{◌≡◌, ◌↔◌, IsTrue, IfOk, IsOk, IsErrOf};
 ghost use Rattle.std.specs.List.{list_all};
-ghost use Rattle.dsn_report.specs.Site.{IsHost, is_host_byte, site_fault_code};
+ghost use Rattle.dsn_report.specs.Site.{IsHost, is_host_byte, plain_site, site_fault_code};
 
+use crate::templates::Templates;
 use dsn_text::fault_code;
 use std::alloc::Global;
 use std::marker::Model;
@@ -37,20 +38,20 @@ impl SiteFault {
     }
 }
 
-/// The mail system that notices come from, by its host name. A host name is 1 to 255 ASCII letters,
-/// digits, `.` and `-`.
+/// The mail system that notices come from: its host name, and its templates. A host name is 1 to
+/// 255 ASCII letters, digits, `.` and `-`.
 #[derive(Debug, Drop)]
 pub struct Site {
     host: Vec<u8>,
+    templates: Templates,
 }
 
 impl Model for Site {
-    ghost use Rattle.std.specs.Prelude.{ℕ, List};
-    ghost use Rattle.dsn_report.specs.Site.{IsHost};
+    ghost use Rattle.dsn_report.specs.Site.{IsHost, Site};
 
-    ghost Value = { List ℕ };
+    ghost Value = { Site };
 
-    ghost view = { λ s. s.host.items };
+    ghost view = { λ s. record { host = s.host.items; templates = s.templates } };
 
     ghost invariant = { λ s. IsHost s.host.items };
 }
@@ -63,10 +64,10 @@ impl Site {
         1 <= host.len() && host.len() <= LONGEST_HOST && has_host_bytes(host)
     }
 
-    /// Returns the site with this host name. Returns `BadHost` if it is not valid, and `NoMemory`
-    /// only if memory for it was refused.
+    /// Returns the site with this host name, without templates. Returns `BadHost` if it is not
+    /// valid, and `NoMemory` only if memory for it was refused.
     pub fn new(alloc: Global, host: &[u8]) -> Result<Site, SiteFault>
-        ensures kept { IfOk result (λ site. site ≡ host.now) }
+        ensures kept { IfOk result (λ site. site ≡ plain_site host.now) }
         ensures legal { IsOk result → IsHost host.now }
         ensures bad { IsErrOf result SiteFault.BadHost ↔ ¬ IsHost host.now }
     {
@@ -74,15 +75,33 @@ impl Site {
             return Err(SiteFault::BadHost);
         }
         let host = host.to_vec(alloc).map_err(|_| SiteFault::NoMemory)?;
-        Ok(Site { host })
+        Ok(Site {
+            host,
+            templates: Templates::none(),
+        })
+    }
+
+    /// Returns the site with these templates.
+    pub fn with_templates(self, templates: Templates) -> Site
+        ensures { result ≡ record { host = self.host; templates = templates } }
+    {
+        let Site { host, templates: _ } = self;
+        Site { host, templates }
     }
 
     /// The host name.
-    pub fn bytes(&self) -> &[u8]
-        ensures same { result.now ≡ self.now }
-        ensures legal { IsHost self.now }
+    pub fn host(&self) -> &[u8]
+        ensures same { result.now ≡ self.now.host }
+        ensures legal { IsHost self.now.host }
     {
         self.host.as_slice()
+    }
+
+    /// The templates.
+    pub fn templates(&self) -> &Templates
+        ensures { result.now ≡ self.now.templates }
+    {
+        &self.templates
     }
 }
 

@@ -91,13 +91,13 @@ pub(crate) struct ServeArguments {
 /// What the options of `serve` ask for.
 #[derive(Drop)]
 pub(crate) struct ServeOptions {
-    /// Where the notices go, and the folder of the journal.
+    /// The place of the notices, and the folder of the journal.
     pub(crate) destination: Destination,
     /// What the run's watch is asked to do.
     pub(crate) watch: WatchOptions,
 }
 
-/// Where the notices of `serve` go, and the folder of the journal.
+/// The place of the notices of `serve`, and the folder of the journal.
 #[derive(Drop)]
 pub(crate) enum Destination {
     /// An outbox.
@@ -169,8 +169,8 @@ fn command_given(
         }),
         "hand-in" => Ok(Command::HandIn(HandInArguments::of(alloc, given)?)),
         "faults" => Ok(Command::Faults),
-        "preview" => Ok(Command::Preview(PreviewArguments::of(alloc, given)?)),
-        _ => Ok(Command::Postfix(postfix_serving(alloc, given)?)),
+        "preview" => Ok(Command::Preview(PreviewArguments::of(rt, given)?)),
+        _ => Ok(Command::Postfix(postfix_serving(rt, given)?)),
     }
 }
 

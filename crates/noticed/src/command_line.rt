@@ -203,6 +203,9 @@ fn with_settings<'a>(alloc: Global, command: Command<'a>) -> Result<Command<'a>,
                 .default_value("")
                 .help("Classes that bounce(8) reports: bounce, 2bounce, delay"),
         )?
+        .arg(option(alloc, "templates", "FOLDER").help(
+            "Templates of notices: failure, delay, success, verify",
+        ))?
         .arg(flag(alloc, "threaded").help("Refers to the Message-ID of a notice's message"))
 }
 

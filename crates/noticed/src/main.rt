@@ -33,6 +33,7 @@ mod status_command;
 mod status_metrics;
 mod status_socket;
 mod stop_command;
+mod template_files;
 
 use arguments::{Command, command_of};
 use batch_command::run_batch;
@@ -54,7 +55,7 @@ use stop_command::run_stop;
 
 /// The line that wrong arguments print on standard error.
 const USAGE: &str =
-    "usage: noticed batch HOST | serve [--config FILE] [--inherited] [[--journal FOLDER] --outbox PATH | --journal FOLDER --hand-in HAND-IN [--give-up SECONDS]] [--release-closed] [--logs N] [--entries N] [--idle SECONDS] [--end-on-fault] [--log] SOCKET HOST AGENTS MAX-USE | stop SOCKET | send SOCKET | status [--open|--prometheus] SOCKET | discard SOCKET SERVICE ID | forget SOCKET SERVICE ID | journal FOLDER | hand-in [--done FILE] [--give-up SECONDS] HAND-IN | postfix [--lifetime SECONDS] [--bounce-size-limit BYTES] [--double-bounce ADDRESS] [--hash-queue-names NAMES] [--hash-queue-depth DEPTH] [--pass-on CLASSES] [--threaded] [--inherited] QUEUE-FOLDER HOST HAND-IN | preview [OPTIONS] QUEUE-FOLDER HOST ID";
+    "usage: noticed batch HOST | serve [--config FILE] [--inherited] [[--journal FOLDER] --outbox PATH | --journal FOLDER --hand-in HAND-IN [--give-up SECONDS]] [--release-closed] [--logs N] [--entries N] [--idle SECONDS] [--end-on-fault] [--log] SOCKET HOST AGENTS MAX-USE | stop SOCKET | send SOCKET | status [--open|--prometheus] SOCKET | discard SOCKET SERVICE ID | forget SOCKET SERVICE ID | journal FOLDER | hand-in [--done FILE] [--give-up SECONDS] HAND-IN | postfix [--lifetime SECONDS] [--bounce-size-limit BYTES] [--double-bounce ADDRESS] [--hash-queue-names NAMES] [--hash-queue-depth DEPTH] [--pass-on CLASSES] [--templates FOLDER] [--threaded] [--inherited] QUEUE-FOLDER HOST HAND-IN | preview [OPTIONS] QUEUE-FOLDER HOST ID";
 
 fn main(rt: HostRuntime) -> ExitCode {
     let done = match begin(&rt) {
@@ -137,7 +138,7 @@ fn print_reason(rt: &HostRuntime, error: &clap::Error) {
     }
 }
 
-/// What stands before the first empty line: behind it the parser has a usage of its own.
+/// The lines before the first empty line: behind it the parser has a usage of its own.
 fn reason_in(text: &str) -> &str {
     match text.split_once("\n\n") {
         Some((reason, _usage)) => reason,

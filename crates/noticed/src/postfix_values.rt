@@ -4,6 +4,7 @@
 use crate::arguments::{LONGEST_PATH, number_of, owned, site_of, text_of};
 use crate::postfix_serving::PostfixServing;
 use crate::start_error::StartError;
+use crate::template_files::templates_in;
 use clap::ArgMatches;
 use dsn_postfix::QueueName;
 use dsn_postfix_notices::{PostmasterCopies, ServiceSettings};
@@ -30,7 +31,7 @@ pub(crate) struct PostfixValues {
     pub(crate) lifetime: u32,
     /// How many bytes a message has at most if it is returned whole.
     pub(crate) size_limit: u32,
-    /// Of which notices the postmaster gets a copy.
+    /// The notices of which the postmaster gets a copy.
     copies: PostmasterCopies,
     /// Whether a notice refers to the Message-ID of its message.
     threaded: bool,
@@ -88,18 +89,32 @@ impl PostfixValues {
 
 /// What `postfix` is given.
 pub(crate) fn postfix_serving(
-    alloc: Global,
+    rt: &HostRuntime,
     given: &ArgMatches<'_>,
 ) -> Result<PostfixServing, StartError> {
+    let alloc = rt.alloc();
     let host = text_of(given, "HOST");
     Ok(PostfixServing {
-        site: site_of(alloc, host)?,
+        site: site_with_templates(rt, given, host)?,
         client: client_of(alloc, host)?,
         hand_in: server_of(alloc, text_of(given, "HAND-IN"))?,
         values: values_of(alloc, given, host)?,
         folder: owned(alloc, text_of(given, "QUEUE-FOLDER"))?,
         inherits: given.get_flag("inherited"),
     })
+}
+
+/// The site that the host names, with the templates of the folder that is given, if one is.
+pub(crate) fn site_with_templates(
+    rt: &HostRuntime,
+    given: &ArgMatches<'_>,
+    host: &str,
+) -> Result<Site, StartError> {
+    let site = site_of(rt.alloc(), host)?;
+    match given.get_str("templates") {
+        Some(folder) => Ok(site.with_templates(templates_in(rt, folder)?)),
+        None => Ok(site),
+    }
 }
 
 /// The values of the options.
@@ -119,7 +134,7 @@ pub(crate) fn values_of(
     })
 }
 
-/// Of which notices the postmaster gets a copy: their requests are passed on.
+/// The notices of which the postmaster gets a copy: their requests are passed on.
 fn copies_of(alloc: Global, given: &ArgMatches<'_>) -> Result<PostmasterCopies, StartError> {
     let mut copies = PostmasterCopies {
         bounce: false,

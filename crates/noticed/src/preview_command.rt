@@ -1,7 +1,7 @@
 //! The command `preview`: prints the notices that `postfix` would make of a message's logs. It runs
 //! the code that answers Postfix, over queues of which nothing is changed.
-use crate::arguments::{owned, queue_id_of, site_of, text_of};
-use crate::postfix_values::{PostfixValues, values_of};
+use crate::arguments::{owned, queue_id_of, text_of};
+use crate::postfix_values::{PostfixValues, site_with_templates, values_of};
 use crate::start_error::StartError;
 use crate::status_socket::seconds_of_clock;
 use clap::ArgMatches;
@@ -33,13 +33,14 @@ pub(crate) struct PreviewArguments {
 impl PreviewArguments {
     /// The queue folder, the host and the queue id that the arguments name, and the options' values.
     pub(crate) fn of(
-        alloc: Global,
+        rt: &HostRuntime,
         given: &ArgMatches<'_>,
     ) -> Result<PreviewArguments, StartError> {
+        let alloc = rt.alloc();
         let host = text_of(given, "HOST");
         Ok(PreviewArguments {
             folder: owned(alloc, text_of(given, "QUEUE-FOLDER"))?,
-            site: site_of(alloc, host)?,
+            site: site_with_templates(rt, given, host)?,
             values: values_of(alloc, given, host)?,
             id: queue_id_of(alloc, given)?,
         })

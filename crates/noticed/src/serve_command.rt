@@ -149,7 +149,7 @@ fn serve_to_server<R: Threads + Wait + Clock + Sync>(
 ) -> u8 {
     let notes = &mut Plain::new(rt.stderr());
     let (Ok(name), Ok(began)) = (
-        MtaName::new(rt.alloc(), serving.site.bytes()),
+        MtaName::new(rt.alloc(), serving.site.host()),
         Instant::now(rt),
     ) else {
         print_fault_line(rt, fault_code::NO_MEMORY);

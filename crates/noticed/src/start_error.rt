@@ -1,5 +1,6 @@
 //! Why a command wasn't started.
 use clap::error::ErrorKind;
+use dsn_report::TemplateFault;
 use dsn_text::NoMemory;
 use std::alloc::{AllocError, Global};
 use std::io;
@@ -41,6 +42,14 @@ impl StartError {
     /// That a file can't be read.
     pub(crate) fn at_file(alloc: Global, path: &str, error: &io::Error) -> StartError {
         match format!(in alloc; "{path}: {error}") {
+            Ok(line) => StartError::Wrong(line),
+            Err(_) => StartError::NoMemory,
+        }
+    }
+
+    /// That a file isn't a template.
+    pub(crate) fn at_template(alloc: Global, path: &str, fault: TemplateFault) -> StartError {
+        match format!(in alloc; "{path}: {fault}") {
             Ok(line) => StartError::Wrong(line),
             Err(_) => StartError::NoMemory,
         }

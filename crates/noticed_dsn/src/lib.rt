@@ -6,6 +6,7 @@
 ghost use Rattle.std.specs.Prelude.{◌≡◌};
 ghost use Rattle.dsn_report.specs.Notice.{notice_of, return_path_of};
 ghost use Rattle.dsn_report.specs.Outbox.{mail_data};
+ghost use Rattle.dsn_report.specs.Site.{plain_site};
 ghost use Rattle.noticed_dsn.specs.Calls.{GivesText, IsCallRefused, IsTextOf, library_words};
 ghost use Rattle.noticed_dsn.specs.Log.{IsRefused};
 
@@ -38,7 +39,7 @@ pub extern "C" fn noticed_dsn_notice(
     out: &mut [u8],
     fault: &mut u32,
 ) -> usize
-    ensures { GivesText (IsTextOf (notice_of host.now) frames.now serial)
+    ensures { GivesText (IsTextOf (notice_of (plain_site host.now)) frames.now serial)
         (IsCallRefused host.now frames.now) out.old out.new result fault.new }
 {
     match text_for(alloc, host, frames, serial, false) {
@@ -58,7 +59,7 @@ pub extern "C" fn noticed_dsn_mail_data(
     out: &mut [u8],
     fault: &mut u32,
 ) -> usize
-    ensures { GivesText (IsTextOf (mail_data host.now) frames.now serial)
+    ensures { GivesText (IsTextOf (mail_data (plain_site host.now)) frames.now serial)
         (IsCallRefused host.now frames.now) out.old out.new result fault.new }
 {
     match text_for(alloc, host, frames, serial, true) {

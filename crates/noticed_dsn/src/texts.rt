@@ -2,6 +2,7 @@
 ghost use Rattle.std.specs.Prelude.{IfOk, IfErr, if◌then◌else◌};
 ghost use Rattle.dsn_report.specs.Notice.{notice_of};
 ghost use Rattle.dsn_report.specs.Outbox.{mail_data};
+ghost use Rattle.dsn_report.specs.Site.{plain_site};
 ghost use Rattle.noticed_dsn.specs.Calls.{IsCallRefused, IsTextOf};
 
 use crate::one_log::read_letter;
@@ -20,7 +21,8 @@ pub(crate) fn text_for(
     dots: bool,
 ) -> Result<Vec<u8>, u32>
     ensures text { IfOk result
-        (λ text. IsTextOf (if dots then mail_data host.now else notice_of host.now) frames.now
+        (λ text. IsTextOf (if dots then mail_data (plain_site host.now) else notice_of (plain_site host.now))
+        frames.now
         serial text.items) }
     ensures refused { IfErr result (IsCallRefused host.now frames.now) }
 {

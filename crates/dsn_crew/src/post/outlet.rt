@@ -83,10 +83,10 @@ impl<W: Drain + Drop + Send> Outlet for Outgoing<W> {
     type Left = W;
 
     ghost posted = { λ start letters now.
-        Delivered W.Drain start.poster.host start.poster.outbox now letters };
+        Delivered W.Drain start.poster.site start.poster.outbox now letters };
 
     ghost ended = { λ start letters end.
-        IsOutbox W.Drain start.poster.host start.poster.outbox end.outbox end.whole end.unsent
+        IsOutbox W.Drain start.poster.site start.poster.outbox end.outbox end.whole end.unsent
         letters };
 
     ghost untouched = { λ outgoing outbox. outbox ≡ outgoing.poster.outbox };

@@ -1,5 +1,5 @@
--- What all notices of one request have in common: the name of the mail system that they come from, and the header
--- fields in front of each.
+-- What all notices of one request have in common: the mail system that they come from, and the header fields in front
+-- of each.
 use Rattle.std.specs.Prelude.{◌≡◌, ℕ, Bool, true, false, List, [], ◌∷◌, ◌++◌, ◌&&◌, not, Option, Some, None, codes, length, nat_le}
 use Rattle.std.specs.List.{list_all}
 use Rattle.dsn_text.specs.Text.{is_printable}
@@ -8,6 +8,7 @@ use Rattle.dsn_report.specs.Data.{message_lines}
 use Rattle.dsn_report.specs.Lines.{begins_with_dot, longest_line, pieces_of_text, text_of_lines}
 use Rattle.dsn_report.specs.Notice.{notice_of}
 use Rattle.dsn_report.specs.Outbox.{mail_data}
+use Rattle.dsn_report.specs.Site.{Site}
 use Rattle.dsn_postfix.specs.RequestFlags.{is_tls_optional}
 use Rattle.dsn_postfix_files.specs.QueueListing.{QueueEnding, RecordsFrom}
 use Rattle.dsn_postfix_files.specs.QueueRecord.{PlacedBytes}
@@ -18,7 +19,7 @@ use Rattle.dsn_postfix_notices.specs.requests.Task.{Task}
 use Rattle.dsn_postfix_notices.specs.requests.ThreadId.{thread_id}
 
 pub record Heading : Type 0 where
-  pub host : List ℕ
+  pub site : Site
   pub front : List ℕ
 
 -- ---- the fields in front
@@ -51,7 +52,7 @@ received bytes = text_of_lines (message_lines (pieces_of_text bytes))
 -- ---- the notices of a request
 
 pub record IsHeadingOf (task : Task) (found : MailRead) (heading : Heading) : Type 0 where
-  pub host_is : heading.host ≡ task.terms.settings.host
+  pub site_is : heading.site ≡ task.terms.settings.site
   pub records : List PlacedBytes
   pub ending : QueueEnding
   pub listed : RecordsFrom found.file (first_place found.file) records ending
@@ -64,11 +65,11 @@ pub record AreNoticesAsked (task : Task) (found : MailRead) (heading : Heading) 
 
 -- the mail data of a notice with the fields in front
 abbrev pub submitted_data : Heading → Letter → List ℕ
-submitted_data heading letter = heading.front ++ mail_data heading.host letter
+submitted_data heading letter = heading.front ++ mail_data heading.site letter
 
 -- the receiver of a notice of a request gets the fields in front, and then the notice
-abbrev pub ReceivesFront : List ℕ → Letter → Type 0
-ReceivesFront host letter =
+abbrev pub ReceivesFront : Site → Letter → Type 0
+ReceivesFront site letter =
     (task : Task) (records : List PlacedBytes)
-    → received (submitted_data (record { host = host; front = front_of task records }) letter)
-    ≡ front_of task records ++ notice_of host letter
+    → received (submitted_data (record { site = site; front = front_of task records }) letter)
+    ≡ front_of task records ++ notice_of site letter

@@ -4,10 +4,11 @@ use Rattle.dsn_text.specs.declared.service.Service.{Service}
 use Rattle.dsn_postfix.specs.declared.postfix_request.NoticeRequest.{NoticeRequest}
 use Rattle.dsn_postfix.specs.declared.postfix_request.PostfixRequest.{PostfixRequest}
 use Rattle.dsn_postfix_notices.specs.declared.requests.postmaster_copies.PostmasterCopies.{PostmasterCopies}
+use Rattle.dsn_report.specs.Site.{Site}
 
 -- the settings of the mail system that notices depend on
 pub record SettingsSaid : Type 0 where
-  pub host : List ℕ
+  pub site : Site
   pub double_bounce : List ℕ
   pub lifetime : ℕ
   pub size_limit : ℕ

@@ -1,5 +1,5 @@
-//! What all notices of one request have in common: the name that they come from, and the header
-//! fields in front of each.
+//! What all notices of one request have in common: the mail system that they come from, and the
+//! header fields in front of each.
 //! Implements docs/postfix-internals.md, "The notice of a Postfix log".
 ghost use Rattle.std.specs.Option.{option_map};
 ghost use Rattle.std.specs.Prelude.{[], ◌++◌, ◌∷◌, ◌≡◌, IfOk, List, Some};
@@ -25,7 +25,7 @@ const TLS_NOT_REQUIRED: &[u8] = b"TLS-Required: no\r\n";
 /// How the notices of one request begin.
 #[derive(Debug, Drop)]
 pub(super) struct NoticeHeading<'a> {
-    /// The mail system's name.
+    /// The mail system.
     pub(super) site: &'a Site,
     /// The header fields in front of each notice, each with its line end.
     pub(super) front: &'a [u8],
@@ -37,7 +37,7 @@ impl<'a> Model for NoticeHeading<'a> {
     ghost Value = { Heading };
 
     ghost view = { λ heading. record {
-      host = heading.site.now;
+      site = heading.site.now;
       front = heading.front.now;
     } };
 }

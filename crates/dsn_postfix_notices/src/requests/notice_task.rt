@@ -58,9 +58,9 @@ impl<'a> NoticeTask<'a> {
         settings.threaded
     }
 
-    /// The mail system's name.
+    /// The mail system.
     pub(super) fn site(&self) -> &'a Site
-        ensures { result.now ≡ self.now.terms.settings.host }
+        ensures { result.now ≡ self.now.terms.settings.site }
     {
         let terms: &RequestTerms<'a> = self.terms;
         let settings: &ServiceSettings<'a> = terms.settings;

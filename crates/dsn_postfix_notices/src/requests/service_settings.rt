@@ -6,7 +6,7 @@ use std::marker::Model;
 /// The settings of the mail system that a request's notices depend on.
 #[derive(Debug, Drop)]
 pub struct ServiceSettings<'a> {
-    /// The mail system's name, from which its notices come.
+    /// The mail system that notices come from.
     pub site: &'a Site,
     /// The sender of notices about notices (Postfix's `double_bounce_sender`, with its domain).
     pub double_bounce: &'a [u8],
@@ -14,7 +14,7 @@ pub struct ServiceSettings<'a> {
     pub lifetime: u32,
     /// The size in bytes up to which a message is returned whole (`bounce_size_limit`).
     pub size_limit: u32,
-    /// Of which notices the postmaster gets a copy: Postfix's own service makes these.
+    /// The notices of which the postmaster gets a copy: Postfix's own service makes these.
     pub copies: PostmasterCopies,
     /// Whether a notice refers to the Message-ID of its message (`enable_threaded_bounces`).
     pub threaded: bool,
@@ -26,7 +26,7 @@ impl<'a> Model for ServiceSettings<'a> {
     ghost Value = { SettingsSaid };
 
     ghost view = { λ settings. record {
-      host = settings.site.now;
+      site = settings.site.now;
       double_bounce = settings.double_bounce.now;
       lifetime = settings.lifetime;
       size_limit = settings.size_limit;

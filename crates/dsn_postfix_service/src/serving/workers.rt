@@ -136,7 +136,7 @@ fn start_round<'s, 'a: 's, E: 's, R: Threads + Wait + Clock + Sync>(
 fn say_start<R: Wait>(waiting: &R, share: &PostfixShare<'_>) {
     let (root, host) = (
         share.place.queues.root,
-        ascii_text(share.settings.site.bytes()),
+        ascii_text(share.settings.site.host()),
     );
     share
         .events

@@ -15,6 +15,7 @@ use Rattle.dsn_frame.proofs.SessionLemmas.{session_no_memory}
 use Rattle.dsn_outcome.specs.History.{Limits, held_after, history_after, history_of, sealed_letters}
 use Rattle.dsn_device.specs.UntilFailure.{Sent, counts_failure}
 use Rattle.dsn_report.specs.Outgoing.{Outgoing, Delivered}
+use Rattle.dsn_report.specs.Site.{Site}
 use Rattle.noticed_lib.proofs.batch_run.RunLemmas.{letters-none, replies-none}
 use Rattle.noticed_lib.proofs.batch_run.SteadyLemmas.{steady-none, steady-then}
 use Rattle.noticed_lib.specs.batch_run.Batch.{ended_with, NotesSent, IsBatch}
@@ -64,10 +65,10 @@ notes-count false lost y z ending l m n ended e f = f ∙ ap (counted lost) e
 notes-count true false y z ending l m n ended e f = absurd ended
 notes-count true true y z ending l m n ended e f = f ∙ e
 
-module _ {R W N : Type 0} (input_device : Source R) (outbox_device : Drain W) (notes_device : Drain N) (limits : Limits) (host : List ℕ) (start : W) where
+module _ {R W N : Type 0} (input_device : Source R) (outbox_device : Drain W) (notes_device : Drain N) (limits : Limits) (site : Site) (start : W) where
   -- a run that found no memory for its logs read nothing
-  pub harvest-nothing : (input : R) (notes : N) (outgoing : Outgoing W) (lines : List OpenLine) → lines ≡ [] → Delivered outbox_device host start outgoing []
-      → Harvested input_device outbox_device notes_device limits host start input input notes notes (Some 9) outgoing (Some lines)
+  pub harvest-nothing : (input : R) (notes : N) (outgoing : Outgoing W) (lines : List OpenLine) → lines ≡ [] → Delivered outbox_device site start outgoing []
+      → Harvested input_device outbox_device notes_device limits site start input input notes notes (Some 9) outgoing (Some lines)
   unfolding answer_lines_from batch_requests_from
   harvest-nothing input notes outgoing lines empty delivered = record {
     frames = [];
@@ -83,8 +84,8 @@ module _ {R W N : Type 0} (input_device : Source R) (outbox_device : Drain W) (n
 
   -- what was read, and the logs that are open then
   pub harvest-read : (input now : R) (run new : Run W) (notes later : N) (end : Option ℕ) (logs : Option (List OpenLine)) → run.book.limits ≡ limits
-      → (heard : Heard input_device outbox_device notes_device input now run new notes later end) (stands : RunStands outbox_device limits host start new heard.bodies heard.answers)
-      → AreOpenLines (history_of limits (requests_of heard.bodies)) logs → Harvested input_device outbox_device notes_device limits host start input now notes later end new.outgoing logs
+      → (heard : Heard input_device outbox_device notes_device input now run new notes later end) (stands : RunStands outbox_device limits site start new heard.bodies heard.answers)
+      → AreOpenLines (history_of limits (requests_of heard.bodies)) logs → Harvested input_device outbox_device notes_device limits site start input now notes later end new.outgoing logs
   harvest-read input now run new notes later end logs kept heard stands listed = record {
     frames = heard.frames;
     bodies = heard.bodies;
@@ -97,11 +98,11 @@ module _ {R W N : Type 0} (input_device : Source R) (outbox_device : Drain W) (n
     read_count = heard.read.counts.count;
   }
 
-module _ {R W N : Type 0} (input_device : Source R) (outbox_device : Drain W) (notes_device : Drain N) (limits : Limits) (host : List ℕ) (input now : R) (start : W) (notes middle later : N) (reading : Option ℕ) (outgoing : Outgoing W) (logs : Option (List OpenLine)) (end : BatchEnd W) where
+module _ {R W N : Type 0} (input_device : Source R) (outbox_device : Drain W) (notes_device : Drain N) (limits : Limits) (site : Site) (input now : R) (start : W) (notes middle later : N) (reading : Option ℕ) (outgoing : Outgoing W) (logs : Option (List OpenLine)) (end : BatchEnd W) where
   -- what was read and how it ended are the whole run
-  pub whole-batch : (harvest : Harvested input_device outbox_device notes_device limits host start input now notes middle reading outgoing logs)
-      → Ended outbox_device notes_device host start (sealed_letters (history_of limits (requests_of harvest.bodies))) reading logs middle later end
-      → IsBatch input_device outbox_device notes_device limits host input now start notes later end
+  pub whole-batch : (harvest : Harvested input_device outbox_device notes_device limits site start input now notes middle reading outgoing logs)
+      → Ended outbox_device notes_device site start (sealed_letters (history_of limits (requests_of harvest.bodies))) reading logs middle later end
+      → IsBatch input_device outbox_device notes_device limits site input now start notes later end
   whole-batch harvest ended = record {
     frames = harvest.frames;
     bodies = harvest.bodies;

@@ -8,6 +8,7 @@ use Rattle.dsn_frame.specs.declared.bodies.spoken.Spoken.{Spoken}
 use Rattle.dsn_outcome.specs.History.{Limits}
 use Rattle.dsn_outcome.specs.Letter.{Letter}
 use Rattle.dsn_report.specs.Outgoing.{FailedIn, MarksAllOf, in_text, at_flush, at_mark, marked_with}
+use Rattle.dsn_report.specs.Site.{Site}
 use Rattle.noticed_lib.specs.batch_run.Batch.{NotesSent, IsBatch}
 use Rattle.noticed_lib.specs.batch_run.MemoryRun.{Memory, memory_source, memory_drain, no_bytes}
 use Rattle.noticed_lib.specs.declared.batch_run.batch_end.BatchEnd.{BatchEnd}
@@ -41,7 +42,7 @@ pub record IsUnwritten {W : Type 0} (drain : Drain W) (device : W) : Type 0 wher
   pub flushes : drain.flushes device ≡ 0
   pub surely : drain.flushes_surely device
 
-module _ {R W N : Type 0} (source : Source R) (outbox_drain : Drain W) (notes_drain : Drain N) (limits : Limits) (host : List ℕ) (input now : R) (start : W) (notes later : N) (end : BatchEnd W) (bytes unread outbox_bytes notes_bytes : List ℕ) where
+module _ {R W N : Type 0} (source : Source R) (outbox_drain : Drain W) (notes_drain : Drain N) (limits : Limits) (site : Site) (input now : R) (start : W) (notes later : N) (end : BatchEnd W) (bytes unread outbox_bytes notes_bytes : List ℕ) where
   failed-known : (posted with_next : List Letter) (text : List ℕ) → IsUnwritten outbox_drain start → outbox_drain.contents end.outbox ≡ Some outbox_bytes → FailedIn outbox_drain start end.outbox posted with_next text → FailedIn memory_drain no_bytes (memory_of outbox_drain outbox_bytes end.outbox) posted with_next text
   failed-known posted with_next text unwritten end_is (in_text part flushes marks) = in_text (rw (unwritten.contents, end_is) at part) (rw unwritten.flushes at flushes) (none_left _ _ posted)
   failed-known posted with_next text unwritten end_is (at_flush whole flushes unsure marks) = absurd (unsure unwritten.surely)
@@ -49,8 +50,8 @@ module _ {R W N : Type 0} (source : Source R) (outbox_drain : Drain W) (notes_dr
 
   pub in-memory : source.remaining input ≡ Some bytes → source.remaining now ≡ Some unread → source.failures input ≡ 0 → source.failures now ≡ 0
       → IsUnwritten outbox_drain start → outbox_drain.contents end.outbox ≡ Some outbox_bytes → IsUnwritten notes_drain notes → notes_drain.contents later ≡ Some notes_bytes
-      → IsBatch source outbox_drain notes_drain limits host input now start notes later end
-      → IsBatch memory_source memory_drain memory_drain limits host bytes unread no_bytes no_bytes (memory_of notes_drain notes_bytes later)
+      → IsBatch source outbox_drain notes_drain limits site input now start notes later end
+      → IsBatch memory_source memory_drain memory_drain limits site bytes unread no_bytes no_bytes (memory_of notes_drain notes_bytes later)
       (record { outbox = memory_of outbox_drain outbox_bytes end.outbox; whole = end.whole; fault = end.fault; unsent = end.unsent; status = end.status })
   in-memory input_is now_is input_count now_count unwritten end_is no_notes later_is batch = record {
     frames = batch.frames;

@@ -94,7 +94,7 @@ module _ {R W N : Type 0} (input_device : Source R) (outbox_device : Drain W) (n
   read-none input run notes = record {
     counts = counts-none input_device.failures input_device.flushes input_device.steady input;
     noted = record { sent = Appends-nil (notes_device.contents notes); count = refl; steady = steady-none notes_device notes };
-    stands = λ limits host start stands. record { replies = replies-none limits; stands = stands };
+    stands = λ limits site start stands. record { replies = replies-none limits; stands = stands };
   }
 
   module _ (input now : R) (run new : Run W) (notes later : N) (bodies : List Body) (answers : List Spoken) (left : HasRead input_device outbox_device notes_device input now run new notes later bodies answers false false) where
@@ -107,7 +107,7 @@ module _ {R W N : Type 0} (input_device : Source R) (outbox_device : Drain W) (n
     read-turn next last position bytes turn answered sent many all part count steady = record {
       counts = rw (turn_not_read (is_ok sent) turn.over) left.counts;
       noted = noted-turn notes_device notes later last answers position turn.answer many left.noted steady sent turn.over all part count;
-      stands = λ limits host start stands. answered.then limits host start bodies answers (left.stands limits host start stands);
+      stands = λ limits site start stands. answered.then limits site start bodies answers (left.stands limits site start stands);
     }
 
   -- a whole input was read, and its values are those that the session left

@@ -24,6 +24,7 @@ use Rattle.dsn_frame.specs.Session.{Input, Takes, asked}
 use Rattle.noticed_lib.specs.batch_run.Requests.{batch_requests_from, requests_of, AreReplies}
 use Rattle.noticed_lib.specs.inner.Run.{next_request, replied_next, Stands, Asks, Answered}
 use Rattle.dsn_report.specs.Outgoing.{Delivered, Outgoing}
+use Rattle.dsn_report.specs.Site.{Site}
 use Rattle.dsn_frame.specs.inner.Session.{end_after}
 use Rattle.dsn_frame.specs.declared.session.Turn.{Turn}
 use Rattle.noticed_lib.specs.declared.batch_run.run.Run.{Run}
@@ -102,18 +103,18 @@ pub letters-none : (limits : Limits) → sealed_letters (history_of limits []) �
 unfolding history_after letters_after
 letters-none limits = refl
 
-module _ {W : Type 0} (outbox_device : Drain W) (limits : Limits) (host : List ℕ) (start : W) where
+module _ {W : Type 0} (outbox_device : Drain W) (limits : Limits) (site : Site) (start : W) where
   -- the next request was applied, and the letter that it sealed was passed on
   pub asked-next : (book next : Book) (outgoing later : Outgoing W) (accepted : ℕ) (requests : List Request) (body : Body) (applied : Request) (answer : Answer) (letter : Option Letter) (handed : List Letter)
-      → Stands outbox_device limits host start (record { book = book; outgoing = outgoing; accepted = accepted }) requests
+      → Stands outbox_device limits site start (record { book = book; outgoing = outgoing; accepted = accepted }) requests
       → next.limits ≡ book.limits
       → ((t : List Exchange) → Represents book t → answer ≡ answer_of t (exchange_of book.limits t applied))
       → ((t : List Exchange) → Represents book t → letters_in letter ≡ letter_of t (exchange_of book.limits t applied))
       → ((t : List Exchange) → Represents book t → Represents next (t ++ exchange_of book.limits t applied ∷ []))
       → applied.agent ≡ 0 → applied.number ≡ accepted → applied.body ≡ body
-      → ((letters : List Letter) → Delivered outbox_device host start outgoing letters → Delivered outbox_device host start later (letters ++ handed))
+      → ((letters : List Letter) → Delivered outbox_device site start outgoing letters → Delivered outbox_device site start later (letters ++ handed))
       → handed ≡ option_to_list letter
-      → Asks outbox_device limits host start (record { book = next; outgoing = later; accepted = accepted + 1 }) requests body (replied_in answer)
+      → Asks outbox_device limits site start (record { book = next; outgoing = later; accepted = accepted + 1 }) requests body (replied_in answer)
   asked-next book next outgoing later accepted requests body applied answer letter handed stands same answer_is letter_is stands_is agent_is number_is body_is delivers handed_is =
       let history = history_of limits requests in
       let request = next_request requests body in
@@ -134,8 +135,8 @@ module _ {W : Type 0} (outbox_device : Drain W) (limits : Limits) (host : List �
       }
 
   -- a book with no key, and no letters on their way, model no requests
-  pub stands-nothing : (book : Book) (outgoing : Outgoing W) → book.limits ≡ limits → Represents book [] → Delivered outbox_device host start outgoing []
-      → Stands outbox_device limits host start (record { book = book; outgoing = outgoing; accepted = 0 }) (requests_of [])
+  pub stands-nothing : (book : Book) (outgoing : Outgoing W) → book.limits ≡ limits → Represents book [] → Delivered outbox_device site start outgoing []
+      → Stands outbox_device limits site start (record { book = book; outgoing = outgoing; accepted = 0 }) (requests_of [])
   unfolding batch_requests_from
   stands-nothing book outgoing kept represents delivered = record {
     limits_kept = kept;
@@ -148,15 +149,15 @@ module _ {W : Type 0} (outbox_device : Drain W) where
   -- a request's answer is that of its frame
   pub answered-asked : (old new : Run W) (body : Body) (reply : Replied) (position : ℕ) (bytes : List ℕ)
       → Encodes bytes position body → old.accepted < old.book.limits.requests → new.accepted ≡ old.accepted + 1 → new.book.limits ≡ old.book.limits
-      → ((limits : Limits) (host : List ℕ) (start : W) (requests : List Request) → Stands outbox_device limits host start old requests → Asks outbox_device limits host start new requests body reply)
+      → ((limits : Limits) (site : Site) (start : W) (requests : List Request) → Stands outbox_device limits site start old requests → Asks outbox_device limits site start new requests body reply)
       → Answered outbox_device old new position bytes (record { answer = spoken.Reply reply; over = false })
   answered-asked old new body reply position bytes encoded few counted kept asks = record {
     asked = body ∷ [];
     takes = asked body reply encoded few;
     counted = counted;
     limited = kept;
-    then = λ limits host start bodies answers so_far.
-        let ask = asks limits host start (requests_of bodies) so_far.stands in
+    then = λ limits site start bodies answers so_far.
+        let ask = asks limits site start (requests_of bodies) so_far.stands in
         let same : requests_of (bodies ++ body ∷ []) ≡ requests_of bodies ++ next_request (requests_of bodies) body ∷ [] = requests-more bodies (body ∷ []) ∙ requests-one (requests_of bodies) body in
         record { replies = rw (same, ask.reply_is) (replies-asked limits answers (requests_of bodies) body so_far.replies); stands = rw same ask.stands };
   }
@@ -170,6 +171,6 @@ module _ {W : Type 0} (outbox_device : Drain W) where
     takes = rw (answer_is, over_is) takes;
     counted = omega arith;
     limited = refl;
-    then = λ limits host start bodies answers so_far.
+    then = λ limits site start bodies answers so_far.
         rw (append-nil bodies, answer_is) (record { replies = replies-refused limits answers (requests_of bodies) number so_far.replies; stands = so_far.stands });
   }

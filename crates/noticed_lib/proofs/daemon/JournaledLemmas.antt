@@ -22,6 +22,7 @@ use Rattle.dsn_ledger.specs.Ledger.{AreKept, earlier_agent, records_of}
 use Rattle.dsn_ledger.specs.OpenLedger.{AwaitsInPlaceOf, AwaitsRequests, Ledger, rules_of}
 use Rattle.dsn_journal.specs.MarkedOutbox.{MarkedOutbox}
 use Rattle.dsn_report.specs.Outgoing.{Delivered, Outgoing}
+use Rattle.dsn_report.specs.Site.{Site}
 use Rattle.dsn_device.specs.declared.drain.Drain.{Ghosts as Drain}
 use Rattle.dsn_journal.specs.Marks.{IsForeignToMarks, IsTooShortForMarks, LeavesTheMark, Marks, SayMark, SayNoMark}
 use Rattle.dsn_ledger.specs.Posting.{AreToPost}
@@ -213,10 +214,10 @@ module _ {D : Type 0} (disk : Disk.Ghosts D) (limits : Limits) (mark : ℕ) (jou
       })
 
 -- the letters that a poster was given first, over an outbox that marks them
-pub posted_is : {D M W : Type 0} (disk : Disk.Ghosts D) (marks_disk : Disk.Ghosts M) (drain : Drain W) (host : List ℕ) (limits : Limits) (journal : D) (marks : M) (outbox : W) (opened : Marks M) (letters : List Letter) (marked : MarkedOutbox W M) (poster : Outgoing (MarkedOutbox W M))
-    → marked ≡ record { outbox = outbox; marks = opened; failures = 0 } → IsFolderOpened disk marks_disk limits journal marks opened letters → Delivered (marking_drain drain marks_disk) host marked poster letters
-    → IsPostedFirst disk marks_disk drain host limits journal marks outbox poster
-posted_is disk marks_disk drain host limits journal marks outbox opened letters marked poster is folder delivered = record {
+pub posted_is : {D M W : Type 0} (disk : Disk.Ghosts D) (marks_disk : Disk.Ghosts M) (drain : Drain W) (site : Site) (limits : Limits) (journal : D) (marks : M) (outbox : W) (opened : Marks M) (letters : List Letter) (marked : MarkedOutbox W M) (poster : Outgoing (MarkedOutbox W M))
+    → marked ≡ record { outbox = outbox; marks = opened; failures = 0 } → IsFolderOpened disk marks_disk limits journal marks opened letters → Delivered (marking_drain drain marks_disk) site marked poster letters
+    → IsPostedFirst disk marks_disk drain site limits journal marks outbox poster
+posted_is disk marks_disk drain site limits journal marks outbox opened letters marked poster is folder delivered = record {
   start = marked;
   first = letters;
   opened = subst (λ (it : MarkedOutbox _ _). IsFolderOpened disk marks_disk limits journal marks it.marks letters) (sym is) folder;

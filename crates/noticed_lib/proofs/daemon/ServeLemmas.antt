@@ -31,6 +31,7 @@ use Rattle.dsn_outcome.specs.History.{Exchange, answers_after, answers_to, seale
 use Rattle.dsn_outcome.specs.Letter.{Letter}
 use Rattle.dsn_outcome.specs.Request.{Request}
 use Rattle.dsn_report.specs.Outgoing.{begun}
+use Rattle.dsn_report.specs.Site.{Site}
 use Rattle.noticed_lib.specs.daemon.Journaled.{IsOverSocket, IsRunOver, IsServeOver, marking_drain}
 use Rattle.dsn_ledger.specs.KeptBook.{ledger_keeper}
 use Rattle.noticed_lib.specs.daemon.Serve.{IsServe, IsSocketServe, WritesFault}
@@ -90,11 +91,11 @@ module _ {P S : Type 0} (port : Port P S) (untold : (one : P) → port.conns one
     outbox = is.outbox;
   }
 
-  module _ {W N : Type 0} (drain : Drain W) (notes_device : Drain N) (host : List ℕ) (rules : Rules) (ports : List P) (fit : All Fits ports) (start : W) (notes later : N) (end : ServeEnd W) where
-    pub serve-uses : IsServe port drain notes_device host rules ports start notes later end → IsServe (socket_port may_end) drain notes_device host rules (replicate (length ports) uses) start notes later end
+  module _ {W N : Type 0} (drain : Drain W) (notes_device : Drain N) (site : Site) (rules : Rules) (ports : List P) (fit : All Fits ports) (start : W) (notes later : N) (end : ServeEnd W) where
+    pub serve-uses : IsServe port drain notes_device site rules ports start notes later end → IsServe (socket_port may_end) drain notes_device site rules (replicate (length ports) uses) start notes later end
     serve-uses (inl served) = inl (record {
       account = served.account;
-      crew = record { letters = served.crew.letters; sealed = served.crew.sealed; is = account-uses ruled_keeper (outbox_outlet drain) (begun host start) [] rules [] served.crew.letters ports served.account fit served.crew.is };
+      crew = record { letters = served.crew.letters; sealed = served.crew.sealed; is = account-uses ruled_keeper (outbox_outlet drain) (begun site start) [] rules [] served.crew.letters ports served.account fit served.crew.is };
       count = rw (length-replicate (length ports)) served.count;
       noted = served.noted;
     })
@@ -132,11 +133,11 @@ module _ {P S : Type 0} (port : Port P S) (untold : (one : P) → port.conns one
       crash = rw (length-replicate (length ports)) faulted.crash;
     })
 
-  pub over-uses : {D M W N : Type 0} (disk : Disk.Ghosts D) (marks_disk : Disk.Ghosts M) (drain : Drain W) (notes_device : Drain N) (host : List ℕ) (rules : Rules) (ports : List P) (fit : All Fits ports) (journal : D) (marks : M) (outbox : W) (notes later : N) (end : ServeEnd W) (last : D) (last_marks : M)
-      → IsServeOver disk marks_disk port drain notes_device host rules ports journal marks outbox notes later end last last_marks
-      → IsServeOver disk marks_disk (socket_port may_end) drain notes_device host rules (replicate (length ports) uses) journal marks outbox notes later end last last_marks
-  over-uses disk marks_disk drain notes_device host rules ports fit journal marks outbox notes later end last last_marks (inl none) = inl (record { code = none.code; back = none.back; why = none.why; noted = none.noted; crash = none.crash })
-  over-uses disk marks_disk drain notes_device host rules ports fit journal marks outbox notes later end last last_marks (inr started) = inr (record {
+  pub over-uses : {D M W N : Type 0} (disk : Disk.Ghosts D) (marks_disk : Disk.Ghosts M) (drain : Drain W) (notes_device : Drain N) (site : Site) (rules : Rules) (ports : List P) (fit : All Fits ports) (journal : D) (marks : M) (outbox : W) (notes later : N) (end : ServeEnd W) (last : D) (last_marks : M)
+      → IsServeOver disk marks_disk port drain notes_device site rules ports journal marks outbox notes later end last last_marks
+      → IsServeOver disk marks_disk (socket_port may_end) drain notes_device site rules (replicate (length ports) uses) journal marks outbox notes later end last last_marks
+  over-uses disk marks_disk drain notes_device site rules ports fit journal marks outbox notes later end last last_marks (inl none) = inl (record { code = none.code; back = none.back; why = none.why; noted = none.noted; crash = none.crash })
+  over-uses disk marks_disk drain notes_device site rules ports fit journal marks outbox notes later end last last_marks (inr started) = inr (record {
     ledger = started.ledger;
     poster = started.poster;
     begun = started.begun;
@@ -149,11 +150,11 @@ module _ {P S : Type 0} (port : Port P S) (untold : (one : P) → port.conns one
     last_marks_are = started.last_marks_are;
   })
 
-  pub server-uses : {D M T C K N : Type 0} (disk : Disk.Ghosts D) (marks_disk : Disk.Ghosts M) (source : Source T) (drain : Drain T) (gives : C → C → Result T HandInFault → Type 0) (keeps : K → List ℕ → List ℕ → List ℕ → Bool → K → Type 0) (notes_device : Drain N) (host : List ℕ) (rules : Rules) (ports : List P) (fit : All Fits ports) (journal : D) (marks : M) (terms : MailTerms C K) (notes later : N) (result : Result (Submitted T C K D M) (JournaledEnd (MailTerms C K) D M))
-      → IsServeToServer disk marks_disk port source drain gives keeps notes_device host rules ports journal marks terms notes later result
-      → IsServeToServer disk marks_disk (socket_port may_end) source drain gives keeps notes_device host rules (replicate (length ports) uses) journal marks terms notes later result
-  server-uses disk marks_disk source drain gives keeps notes_device host rules ports fit journal marks terms notes later (Err end) none = record { code = none.code; why = none.why; noted = none.noted; crash = none.crash }
-  server-uses disk marks_disk source drain gives keeps notes_device host rules ports fit journal marks terms notes later (Ok end) started = record {
+  pub server-uses : {D M T C K N : Type 0} (disk : Disk.Ghosts D) (marks_disk : Disk.Ghosts M) (source : Source T) (drain : Drain T) (gives : C → C → Result T HandInFault → Type 0) (keeps : K → List ℕ → List ℕ → List ℕ → Bool → K → Type 0) (notes_device : Drain N) (site : Site) (rules : Rules) (ports : List P) (fit : All Fits ports) (journal : D) (marks : M) (terms : MailTerms C K) (notes later : N) (result : Result (Submitted T C K D M) (JournaledEnd (MailTerms C K) D M))
+      → IsServeToServer disk marks_disk port source drain gives keeps notes_device site rules ports journal marks terms notes later result
+      → IsServeToServer disk marks_disk (socket_port may_end) source drain gives keeps notes_device site rules (replicate (length ports) uses) journal marks terms notes later result
+  server-uses disk marks_disk source drain gives keeps notes_device site rules ports fit journal marks terms notes later (Err end) none = record { code = none.code; why = none.why; noted = none.noted; crash = none.crash }
+  server-uses disk marks_disk source drain gives keeps notes_device site rules ports fit journal marks terms notes later (Ok end) started = record {
     ledger = started.ledger;
     opened = started.opened;
     first = started.first;
@@ -192,8 +193,8 @@ represented (Releasing book) history has = has.represents
 abbrev nothing_done : {W : Type 0} → CrewCause → W → CrewFault W RuledBook
 nothing_done cause start = record { cause = cause; outbox = start; unsent = []; book = None; taken = []; behind = [] }
 
-fault_of_none : {W : Type 0} (drain : Drain W) (host : List ℕ) (rules : Rules) (agents : ℕ) (start : W) (cause : CrewCause) → IsFaultWith (outbox_outlet drain) (begun host start) [] (begun host start) [] agents (nothing_done cause start) cause → HasFault ruled_keeper (outbox_outlet drain) (begun host start) [] (begun host start) rules [] agents (nothing_done cause start)
-fault_of_none drain host rules agents start cause is = record {
+fault_of_none : {W : Type 0} (drain : Drain W) (site : Site) (rules : Rules) (agents : ℕ) (start : W) (cause : CrewCause) → IsFaultWith (outbox_outlet drain) (begun site start) [] (begun site start) [] agents (nothing_done cause start) cause → HasFault ruled_keeper (outbox_outlet drain) (begun site start) [] (begun site start) rules [] agents (nothing_done cause start)
+fault_of_none drain site rules agents start cause is = record {
   sealed = [];
   are = record { are = ap sealed_letters (under-none rules []) ∙ sym (append-nil (sealed_letters [])) };
   is = is;
@@ -201,10 +202,10 @@ fault_of_none drain host rules agents start cause is = record {
 }
 
 -- a run that was refused for the number of its agents
-serve-refused : {W N : Type 0} (may_end : Type 0) (uses : ℕ) (drain : Drain W) (notes_device : Drain N) (host : List ℕ) (rules : Rules) (agents : ℕ) (start : W) (notes later : N) (end : ServeEnd W) → (agents ≡ 0) ⊎ (most_ports < agents) → WritesFault notes_device PortCount start [] notes later end → IsServe (socket_port may_end) drain notes_device host rules (replicate agents uses) start notes later end
-serve-refused may_end uses drain notes_device host rules agents start notes later end few noted = inr (record {
+serve-refused : {W N : Type 0} (may_end : Type 0) (uses : ℕ) (drain : Drain W) (notes_device : Drain N) (site : Site) (rules : Rules) (agents : ℕ) (start : W) (notes later : N) (end : ServeEnd W) → (agents ≡ 0) ⊎ (most_ports < agents) → WritesFault notes_device PortCount start [] notes later end → IsServe (socket_port may_end) drain notes_device site rules (replicate agents uses) start notes later end
+serve-refused may_end uses drain notes_device site rules agents start notes later end few noted = inr (record {
   fault = nothing_done PortCount start;
-  crew = fault_of_none drain host rules (length (replicate agents uses)) start PortCount (record { taken = refl; behind = refl; unsent = refl; outbox = refl });
+  crew = fault_of_none drain site rules (length (replicate agents uses)) start PortCount (record { taken = refl; behind = refl; unsent = refl; outbox = refl });
   counted = (λ is. rw (length-replicate agents) few, λ is. refl);
   kept = λ why same. let never : PortCount ≡ Unkept why = same in cc;
   noted = noted;
@@ -221,27 +222,27 @@ unfolding answers_after answers_to
 none_earlier agent few = refl
 
 -- a run over ports that are too many or too few, or whose book found no memory
-pub no-book : {P S W N : Type 0} (port : Port P S) (drain : Drain W) (notes_device : Drain N) (host : List ℕ) (rules : Rules) (ports : List P) (start : W) (notes later : N) (end : ServeEnd W) (cause : CrewCause) → HasNoPorts (length ports) cause → WritesFault notes_device cause start [] notes later end
-    → IsServe port drain notes_device host rules ports start notes later end
-no-book port drain notes_device host rules ports start notes later end cause (inl count) noted = inr (record {
+pub no-book : {P S W N : Type 0} (port : Port P S) (drain : Drain W) (notes_device : Drain N) (site : Site) (rules : Rules) (ports : List P) (start : W) (notes later : N) (end : ServeEnd W) (cause : CrewCause) → HasNoPorts (length ports) cause → WritesFault notes_device cause start [] notes later end
+    → IsServe port drain notes_device site rules ports start notes later end
+no-book port drain notes_device site rules ports start notes later end cause (inl count) noted = inr (record {
   fault = nothing_done PortCount start;
-  crew = fault_of_none drain host rules (length ports) start PortCount (record { taken = refl; behind = refl; unsent = refl; outbox = refl });
+  crew = fault_of_none drain site rules (length ports) start PortCount (record { taken = refl; behind = refl; unsent = refl; outbox = refl });
   counted = (λ is. count.1, λ is. refl);
   kept = λ why same. let never : PortCount ≡ Unkept why = same in cc;
   noted = subst (λ (it : CrewCause). WritesFault notes_device it start [] notes later end) count.0 noted;
 })
-no-book port drain notes_device host rules ports start notes later end cause (inr refused) noted = inr (record {
+no-book port drain notes_device site rules ports start notes later end cause (inr refused) noted = inr (record {
   fault = nothing_done Refused start;
-  crew = fault_of_none drain host rules (length ports) start Refused (inl (record { taken = refl; behind = refl; unsent = refl; outbox = refl }));
+  crew = fault_of_none drain site rules (length ports) start Refused (inl (record { taken = refl; behind = refl; unsent = refl; outbox = refl }));
   counted = (λ is. absurd (let never : Refused ≡ PortCount = is in cc), λ few. absurd (no_crew (length ports) (refused.1, refused.2) few));
   kept = λ why same. let never : Refused ≡ Unkept why = same in cc;
   noted = subst (λ (it : CrewCause). WritesFault notes_device it start [] notes later end) refused.0 noted;
 })
 
 -- a run over a socket whose agents get no ports
-module _ {W N : Type 0} (may_end : Type 0) (uses : ℕ) (drain : Drain W) (notes_device : Drain N) (host : List ℕ) (rules : Rules) (agents : ℕ) (start : W) (notes later : N) (end : ServeEnd W) where
-  pub no-ports : (cause : CrewCause) → HasNoPorts agents cause → WritesFault notes_device cause start [] notes later end → IsSocketServe drain notes_device may_end host rules agents uses start notes later end
-  no-ports cause (inl count) noted = inl (serve-refused may_end uses drain notes_device host rules agents start notes later end count.1 (subst (λ (it : CrewCause). WritesFault notes_device it start [] notes later end) count.0 noted))
+module _ {W N : Type 0} (may_end : Type 0) (uses : ℕ) (drain : Drain W) (notes_device : Drain N) (site : Site) (rules : Rules) (agents : ℕ) (start : W) (notes later : N) (end : ServeEnd W) where
+  pub no-ports : (cause : CrewCause) → HasNoPorts agents cause → WritesFault notes_device cause start [] notes later end → IsSocketServe drain notes_device may_end site rules agents uses start notes later end
+  no-ports cause (inl count) noted = inl (serve-refused may_end uses drain notes_device site rules agents start notes later end count.1 (subst (λ (it : CrewCause). WritesFault notes_device it start [] notes later end) count.0 noted))
   no-ports cause (inr refused) noted = inr ((refused.1, refused.2), subst (λ (it : CrewCause). WritesFault notes_device it start [] notes later end) refused.0 noted)
 
 -- and so of any run over a socket

@@ -13,6 +13,7 @@ use Rattle.dsn_outcome.specs.Request.{Body}
 use Rattle.dsn_notes.specs.OpenLogs.{AreOpenLines}
 use Rattle.dsn_notes.specs.Notes.{answer_line, answer_lines_from, end_lines}
 use Rattle.dsn_report.specs.Outgoing.{StaysSteady, IsOutbox}
+use Rattle.dsn_report.specs.Site.{Site}
 use Rattle.noticed_lib.specs.batch_run.Requests.{AreReplies, requests_of}
 use Rattle.dsn_frame.specs.SentAnswers.{LosesLast}
 use Rattle.noticed_lib.specs.declared.batch_run.batch_end.BatchEnd.{BatchEnd}
@@ -55,7 +56,7 @@ module _ {R W N : Type 0} (input_device : Source R) (outbox_device : Drain W)
   -- a prefix of their text after a failure. The notes are the lines of the answers and of the end,
   -- or a part of them after a failure. Each device failed once if the run says that it failed, and
   -- otherwise not
-  pub record IsBatch (limits : Limits) (host : List ℕ) (input now : R) (start : W)
+  pub record IsBatch (limits : Limits) (site : Site) (input now : R) (start : W)
       (notes later : N) (end : BatchEnd W) : Type 0 where
     pub frames : List (List ℕ)
     pub bodies : List Body
@@ -66,7 +67,7 @@ module _ {R W N : Type 0} (input_device : Source R) (outbox_device : Drain W)
     pub read_count : input_device.failures now
         ≡ counted (ended_with read_failed_code reading) (input_device.failures input)
     pub replies : AreReplies limits answers (requests_of bodies)
-    pub outbox : IsOutbox outbox_device host start end.outbox end.whole end.unsent
+    pub outbox : IsOutbox outbox_device site start end.outbox end.whole end.unsent
         (sealed_letters (history_of limits (requests_of bodies)))
     pub logs : Option (List OpenLine)
     pub logs_are : AreOpenLines (history_of limits (requests_of bodies)) logs

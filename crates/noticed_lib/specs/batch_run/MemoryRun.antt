@@ -7,6 +7,7 @@ use Rattle.dsn_outcome.specs.History.{Limits}
 use Rattle.noticed_lib.specs.batch_run.Batch.{IsBatch}
 use Rattle.noticed_lib.specs.declared.batch_run.batch_end.BatchEnd.{BatchEnd}
 use Rattle.noticed_lib.specs.declared.batch_run.memory_run.MemoryRun.{MemoryRun}
+use Rattle.dsn_report.specs.Site.{Site}
 
 -- bytes in memory that are read: no read of them fails
 abbrev pub memory_source : Source (List ℕ)
@@ -60,11 +61,11 @@ end_in_memory end outbox =
 
 -- the bytes of the input, from what they were to what was left unread, are run into an outbox and
 -- notes, whose bytes are these
-pub record IsMemoryRun (limits : Limits) (host input : List ℕ) (end : MemoryRun) : Type 0 where
+pub record IsMemoryRun (limits : Limits) (site : Site) (input : List ℕ) (end : MemoryRun) : Type 0 where
   pub unread : List ℕ
   pub outbox : Memory
   pub outbox_is : outbox.bytes ≡ end.outbox.items
   pub notes : Memory
   pub notes_is : notes.bytes ≡ end.notes.items
-  pub run : IsBatch memory_source memory_drain memory_drain limits host input unread no_bytes
+  pub run : IsBatch memory_source memory_drain memory_drain limits site input unread no_bytes
       no_bytes notes (end_in_memory end outbox)

@@ -43,6 +43,7 @@ use Rattle.dsn_text.specs.FaultCode.{journal_full_code, outbox_write_code}
 use Rattle.dsn_report.specs.Outgoing.{Delivered, Outgoing}
 use Rattle.noticed_lib.specs.daemon.SocketUses.{socket_port}
 use Rattle.noticed_lib.specs.daemon.Serve.{WritesAccount, WritesFault, WritesNumber}
+use Rattle.dsn_report.specs.Site.{Site}
 use Rattle.dsn_ledger.specs.JournalFolder.{AreMarksRefusedFor, HasHistory, HaveMark, IsNotOpenedToRaise, IsOnlyRead}
 use Rattle.noticed_lib.specs.declared.daemon.serve_end.ServeEnd.{ServeEnd}
 
@@ -142,6 +143,20 @@ LeavesStart disk limits journal last =
 
 -- the ledger that a run over this journal begins with. The run may begin with each history that the
 -- journal's records are in place of. At each moment until then a crash leaves what it might have
+-- a journal's file that a start under these limits leaves as it is: it is replayed under them, and
+-- its records take up at most a quarter of it
+pub record StaysAtStart (limits : Limits) (file : List ℕ) : Type 0 where
+  pub under : AreReplayedUnder limits (recovered file) limits
+  pub short : FillAQuarter (length (encoded (with_header limits (recovered file)))) (length file)
+
+-- from one disk of a journal to another its records stay, except that a file without one gets its
+-- header. A crash leaves at each moment what it might have left of the first, or the same records
+pub record IsOnlyOpened {D : Type 0} (disk : Disk.Ghosts D) (limits : Limits) (journal last : D)
+    : Type 0 where
+  pub records : recovered (disk.seen last) ≡ with_header limits (recovered (disk.seen journal))
+  pub any_moment : LeavesOnly disk journal last
+      (λ left. disk.may_leave journal left ⊎ IsLeftByOpening limits (disk.seen journal) left)
+
 -- left before, or a file that a later start begins with the same history
 pub record IsLedgerBegun {D : Type 0} (disk : Disk.Ghosts D) (limits : Limits) (journal : D)
     (ledger : Ledger D) : Type 0 where
@@ -153,6 +168,8 @@ pub record IsLedgerBegun {D : Type 0} (disk : Disk.Ghosts D) (limits : Limits) (
   pub crash : LeavesStart disk limits journal ledger.journal.disk
 
 -- why the ledger of this file was not begun while these letters wait, by the number of the fault: the
+  pub stays : StaysAtStart limits (disk.seen journal)
+      → IsOnlyOpened disk limits journal ledger.journal.disk
 -- journal could not be replaced, or 2^63 letters were sealed
 pub data IsNotBegun (limits : Limits) (file : List ℕ) (waiting : List Letter) (code : ℕ)
     : Type 0 where
@@ -164,30 +181,30 @@ pub data IsNotBegun (limits : Limits) (file : List ℕ) (waiting : List Letter) 
 
 -- a poster that was given the letters of a folder that was opened, and no other, over this outbox
 pub record IsPostedFirst {D M W : Type 0} (disk : Disk.Ghosts D) (marks_disk : Disk.Ghosts M)
-    (drain : Drain W) (host : List ℕ) (limits : Limits) (journal : D) (marks : M) (outbox : W)
+    (drain : Drain W) (site : Site) (limits : Limits) (journal : D) (marks : M) (outbox : W)
     (poster : Outgoing (MarkedOutbox W M)) : Type 0 where
   pub start : MarkedOutbox W M
   pub first : List Letter
   pub opened : IsFolderOpened disk marks_disk limits journal marks start.marks first
-  pub posted : Delivered (marking_drain drain marks_disk) host start poster first
+  pub posted : Delivered (marking_drain drain marks_disk) site start poster first
   pub outbox_is : start.outbox ≡ outbox
 
 -- why a run over an outbox did not begin, by the number of its fault, the outbox that is returned,
 -- and both disks. Its folder was not opened, and the outbox is as it was. Or the outbox failed
 -- while the first letters were posted. Or it did not fail, and the ledger was not begun
 pub data IsNoStart {D M W : Type 0} (disk : Disk.Ghosts D) (marks_disk : Disk.Ghosts M)
-    (drain : Drain W) (host : List ℕ) (limits : Limits) (journal last : D) (marks last_marks : M)
+    (drain : Drain W) (site : Site) (limits : Limits) (journal last : D) (marks last_marks : M)
     (outbox back : W) (code : ℕ) : Type 0 where
   not_opened : back ≡ outbox
       → IsNotOpened disk marks_disk limits journal last marks last_marks code
-      → IsNoStart disk marks_disk drain host limits journal last marks last_marks outbox back code
+      → IsNoStart disk marks_disk drain site limits journal last marks last_marks outbox back code
   posted_first : (poster : Outgoing (MarkedOutbox W M))
-      → IsPostedFirst disk marks_disk drain host limits journal marks outbox poster
+      → IsPostedFirst disk marks_disk drain site limits journal marks outbox poster
       → back ≡ poster.poster.outbox.outbox
       → last_marks ≡ poster.poster.outbox.marks.journal.disk
       → ((poster.poster.failed ≡ true) × (code ≡ outbox_write_code))
       ⊎ ((poster.poster.failed ≡ false) × IsNotBegun limits (disk.seen journal) [] code)
-      → IsNoStart disk marks_disk drain host limits journal last marks last_marks outbox back code
+      → IsNoStart disk marks_disk drain site limits journal last marks last_marks outbox back code
 
 -- a ledger that released its closed keys, or couldn't, and then its disk. If it did, the held keys
 -- are those whose log was open, and a crash leaves its history with all requests that released the
@@ -256,7 +273,7 @@ module _ {D P S O L N : Type 0} (disk : Disk.Ghosts D) (reached : ℕ → Type 0
   IsRunOver = IsServedOver ⊎ IsFaultedOver
 
 module _ {D M P S W N : Type 0} (disk : Disk.Ghosts D) (marks_disk : Disk.Ghosts M)
-    (port : Port P S) (drain : Drain W) (notes_device : Drain N) (host : List ℕ) (rules : Rules)
+    (port : Port P S) (drain : Drain W) (notes_device : Drain N) (site : Site) (rules : Rules)
     (ports : List P) (journal : D) (marks : M) (outbox : W) (notes later : N)
     (end : ServeEnd W) (last : D) (last_marks : M) where
   -- a run that did not begin: its notes have a number alone, and this is why. At each moment a crash
@@ -264,7 +281,7 @@ module _ {D M P S W N : Type 0} (disk : Disk.Ghosts D) (marks_disk : Disk.Ghosts
   pub record IsNotStarted : Type 0 where
     pub code : ℕ
     pub back : W
-    pub why : IsNoStart disk marks_disk drain host rules.limits journal last marks last_marks outbox back
+    pub why : IsNoStart disk marks_disk drain site rules.limits journal last marks last_marks outbox back
         code
     pub noted : WritesNumber notes_device code back [] notes later end
     pub crash : LeavesStart disk rules.limits journal last
@@ -276,7 +293,7 @@ module _ {D M P S W N : Type 0} (disk : Disk.Ghosts D) (marks_disk : Disk.Ghosts
     pub poster : Outgoing (MarkedOutbox W M)
     pub begun : IsLedgerBegun disk rules.limits journal ledger
     pub rule : ledger.releases ≡ rules.releases
-    pub first : IsPostedFirst disk marks_disk drain host rules.limits journal marks outbox poster
+    pub first : IsPostedFirst disk marks_disk drain site rules.limits journal marks outbox poster
     pub all_sent : poster.unsent ≡ []
     pub left : ServeEnd (MarkedOutbox W M)
     pub run : IsRunOver disk (λ _. Unit {0}) port (outbox_outlet (marking_drain drain marks_disk))
@@ -300,11 +317,11 @@ pub record IsOverSocket (run : List ℕ → Type 0) (nothing : CrewCause → Typ
 -- a run over a socket, these disks and this outbox. If nothing began, no disk was touched, and its
 -- notes have a number alone
 abbrev pub IsSocketServeOver : {D M W N : Type 0} → Disk.Ghosts D → Disk.Ghosts M → Drain W
-    → Drain N → Type 0 → List ℕ → Rules → ℕ → ℕ → D → M → W → N → N → ServeEnd W → D → M → Type 0
-IsSocketServeOver disk marks_disk drain notes_device may_end host rules agents uses journal marks
+    → Drain N → Type 0 → Site → Rules → ℕ → ℕ → D → M → W → N → N → ServeEnd W → D → M → Type 0
+IsSocketServeOver disk marks_disk drain notes_device may_end site rules agents uses journal marks
     outbox notes later end last last_marks =
     IsOverSocket
-    (λ ports. IsServeOver disk marks_disk (socket_port may_end) drain notes_device host rules ports
+    (λ ports. IsServeOver disk marks_disk (socket_port may_end) drain notes_device site rules ports
     journal marks outbox notes later end last last_marks)
     (λ cause. WritesFault notes_device cause outbox [] notes later end × (last ≡ journal)
     × (last_marks ≡ marks))

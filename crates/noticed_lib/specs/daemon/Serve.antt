@@ -16,6 +16,7 @@ use Rattle.dsn_device.specs.declared.drain.Drain.{Ghosts as Drain}
 use Rattle.dsn_outcome.specs.History.{Exchange}
 use Rattle.dsn_outcome.specs.Letter.{Letter}
 use Rattle.dsn_report.specs.Outgoing.{begun}
+use Rattle.dsn_report.specs.Site.{Site}
 use Rattle.dsn_notes.specs.OpenLogs.{AreOpenLines}
 use Rattle.noticed_lib.specs.daemon.AgentLines.{account_lines, number_lines, port_fault}
 use Rattle.noticed_lib.specs.daemon.SocketUses.{socket_port}
@@ -58,13 +59,13 @@ module _ {W N : Type 0} (notes_device : Drain N) where
   WritesFault cause = WritesNumber (crew_cause_code cause)
 
 module _ {P S W N : Type 0} (port : Port P S) (drain : Drain W) (notes_device : Drain N)
-    (host : List ℕ) (rules : Rules) (ports : List P) (start : W) (notes later : N)
+    (site : Site) (rules : Rules) (ports : List P) (start : W) (notes later : N)
     (end : ServeEnd W) where
   -- a run by these rules that ended well, over a book that was empty. It has the account of its
   -- crew, and its notes, over the logs that the requests taken leave open
   pub record IsDaemonServed : Type 0 where
     pub account : Account W RuledBook
-    pub crew : HasAccount ruled_keeper port (outbox_outlet drain) (begun host start) [] rules [] ports account
+    pub crew : HasAccount ruled_keeper port (outbox_outlet drain) (begun site start) [] rules [] ports account
     pub count : (1 ≤ length ports) × (length ports ≤ most_ports)
     pub noted : WritesAccount notes_device (history_under rules [] account.taken) account
         notes later end
@@ -73,7 +74,7 @@ module _ {P S W N : Type 0} (port : Port P S) (drain : Drain W) (notes_device : 
   -- exactly if there are not 1 to `most_ports` ports, and never a request that was not kept
   pub record IsFaulted : Type 0 where
     pub fault : CrewFault W RuledBook
-    pub crew : HasFault ruled_keeper (outbox_outlet drain) (begun host start) [] (begun host start) rules []
+    pub crew : HasFault ruled_keeper (outbox_outlet drain) (begun site start) [] (begun site start) rules []
         (length ports) fault
     pub counted : (fault.cause ≡ PortCount) ↔ ((length ports ≡ 0) ⊎ (most_ports < length ports))
     pub kept : (why : NotKept) → fault.cause ≢ Unkept why
@@ -86,10 +87,10 @@ module _ {P S W N : Type 0} (port : Port P S) (drain : Drain W) (notes_device : 
 -- a run over the given number of ports of a socket, each with the given number of uses. Or, for 1 to
 -- `most_ports` of them: memory for their list was refused, and nothing began. `may_end` says whether a
 -- watch may end the run before the uses are used up
-abbrev pub IsSocketServe : {W N : Type 0} → Drain W → Drain N → Type 0 → List ℕ → Rules → ℕ → ℕ
+abbrev pub IsSocketServe : {W N : Type 0} → Drain W → Drain N → Type 0 → Site → Rules → ℕ → ℕ
     → W → N → N → ServeEnd W → Type 0
-IsSocketServe drain notes_device may_end host rules agents uses start notes later end =
-    IsServe (socket_port may_end) drain notes_device host rules (replicate agents uses) start notes
+IsSocketServe drain notes_device may_end site rules agents uses start notes later end =
+    IsServe (socket_port may_end) drain notes_device site rules (replicate agents uses) start notes
     later end
     ⊎ (((1 ≤ agents) × (agents ≤ most_ports))
     × WritesFault notes_device Refused start [] notes later end)

@@ -23,6 +23,7 @@ use Rattle.noticed_lib.specs.declared.daemon.serve_end.ServeEnd.{ServeEnd}
 use Rattle.noticed_lib.specs.declared.daemon.serving.Serving.{Serving}
 use Rattle.noticed_lib.specs.declared.daemon.serve_to_server.MailTerms.{MailTerms}
 use Rattle.noticed_lib.specs.declared.daemon.serve_to_server.Submitted.{Submitted}
+use Rattle.dsn_report.specs.Site.{Site}
 
 -- what is left of an outlet, with the disk of its marks in their place
 abbrev pub with_disk : {S C K M : Type 0} → MailParts S C K (Marks M) → MailParts S C K M
@@ -37,7 +38,7 @@ module _ {D M P Q S C K N : Type 0} (disk : Disk.Ghosts D) (marks_disk : Disk.Gh
     (port : Port P Q) (source : Source.Ghosts S) (drain : Drain.Ghosts S)
     (gives : C → C → Result S HandInFault → Type 0)
     (keeps : K → List ℕ → List ℕ → List ℕ → Bool → K → Type 0) (notes_device : Drain.Ghosts N)
-    (host : List ℕ) (rules : Rules) (ports : List P) (journal : D) (marks : M)
+    (site : Site) (rules : Rules) (ports : List P) (journal : D) (marks : M)
     (terms : MailTerms C K) (notes later : N) where
   -- A run that did not begin, so that nothing was submitted: its notes have a number alone. Its folder
   -- was not opened, or the ledger was not begun with the letters that wait. At each moment a crash
@@ -64,7 +65,7 @@ module _ {D M P Q S C K N : Type 0} (disk : Disk.Ghosts D) (marks_disk : Disk.Gh
     pub begun : IsLedgerBegun disk rules.limits journal ledger
     pub rule : ledger.releases ≡ rules.releases
     pub passed : Passes source drain gives keeps (RaisesMark marks_disk)
-        (mail_start host terms.name terms.give_up opened.mark terms.server terms.refused opened)
+        (mail_start site terms.name terms.give_up opened.mark terms.server terms.refused opened)
         first given
     pub left : ServeEnd (MailParts S C K (Marks M))
     pub run : IsRunOver disk (λ _. Unit {0}) port

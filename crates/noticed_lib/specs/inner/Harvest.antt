@@ -14,6 +14,7 @@ use Rattle.noticed_lib.specs.batch_run.Batch.{ended_with, status_of}
 use Rattle.dsn_notes.specs.OpenLogs.{AreOpenLines}
 use Rattle.dsn_notes.specs.Notes.{end_lines}
 use Rattle.dsn_report.specs.Outgoing.{Delivered, IsOutbox, Outgoing}
+use Rattle.dsn_report.specs.Site.{Site}
 use Rattle.noticed_lib.specs.batch_run.Requests.{AreReplies, requests_of}
 use Rattle.noticed_lib.specs.inner.NotedAnswers.{AnswersNoted}
 use Rattle.noticed_lib.specs.declared.batch_run.batch_end.BatchEnd.{BatchEnd}
@@ -22,7 +23,7 @@ use Rattle.dsn_frame.specs.declared.bodies.spoken.Spoken.{Spoken}
 module _ {R W N : Type 0} (input_device : Source R) (outbox_device : Drain W)
     (notes_device : Drain N) where
   -- the result of the reading
-  pub record Harvested (limits : Limits) (host : List ℕ) (start : W) (input now : R)
+  pub record Harvested (limits : Limits) (site : Site) (start : W) (input now : R)
       (notes later : N) (end : Option ℕ) (outgoing : Outgoing W)
       (logs : Option (List OpenLine)) : Type 0 where
     pub frames : List (List ℕ)
@@ -31,7 +32,7 @@ module _ {R W N : Type 0} (input_device : Source R) (outbox_device : Drain W)
     pub session : IsSession Input limits.requests 0 (input_device.remaining input)
         (input_device.remaining now) frames bodies answers end
     pub replies : AreReplies limits answers (requests_of bodies)
-    pub delivered : Delivered outbox_device host start outgoing
+    pub delivered : Delivered outbox_device site start outgoing
         (sealed_letters (history_of limits (requests_of bodies)))
     pub logs_are : AreOpenLines (history_of limits (requests_of bodies)) logs
     pub noted : AnswersNoted notes_device (ended_with notes_write_code end) notes later answers
@@ -39,10 +40,10 @@ module _ {R W N : Type 0} (input_device : Source R) (outbox_device : Drain W)
         ≡ counted (ended_with read_failed_code end) (input_device.failures input)
 
 -- how a run ended, after the reading
-pub record Ended {W N : Type 0} (outbox_device : Drain W) (notes_device : Drain N) (host : List ℕ)
+pub record Ended {W N : Type 0} (outbox_device : Drain W) (notes_device : Drain N) (site : Site)
     (start : W) (letters : List Letter) (reading : Option ℕ) (logs : Option (List OpenLine))
     (notes later : N) (end : BatchEnd W) : Type 0 where
-  pub outbox : IsOutbox outbox_device host start end.outbox end.whole end.unsent letters
+  pub outbox : IsOutbox outbox_device site start end.outbox end.whole end.unsent letters
   pub lost : Bool
   pub noted : WritesUntilFailure notes_device (ended_with notes_write_code reading) lost notes later
       (end_lines reading end.whole end.unsent logs)

@@ -13,6 +13,7 @@ use Rattle.noticed_lib.specs.batch_run.Requests.{requests_of}
 use Rattle.noticed_lib.specs.inner.NotedAnswers.{AnswersNoted}
 use Rattle.noticed_lib.specs.inner.Run.{Stands, RunStands}
 use Rattle.noticed_lib.specs.declared.batch_run.run.Run.{Run}
+use Rattle.dsn_report.specs.Site.{Site}
 
 -- these bodies were asked of a run, and these answers noted, by whether a read failed, and whether
 -- the last line was lost
@@ -21,9 +22,9 @@ pub record HasRead {R W N : Type 0} (input_device : Source R) (outbox_device : D
     (bodies : List Body) (answers : List Spoken) (failed lost : Bool) : Type 0 where
   pub counts : Counts input_device.failures input_device.flushes input_device.steady failed input now
   pub noted : AnswersNoted notes_device lost notes later answers
-  pub stands : (limits : Limits) (host : List ℕ) (start : W)
-      → Stands outbox_device limits host start run (requests_of [])
-      → RunStands outbox_device limits host start new bodies answers
+  pub stands : (limits : Limits) (site : Site) (start : W)
+      → Stands outbox_device limits site start run (requests_of [])
+      → RunStands outbox_device limits site start new bodies answers
 
 -- a whole input was read: its frames are a session, which ended with this number, if it didn't end
 -- well

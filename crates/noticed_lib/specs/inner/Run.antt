@@ -8,6 +8,7 @@ use Rattle.dsn_outcome.specs.History.{Limits, history_of, answer_of, exchange_of
 use Rattle.dsn_outcome.specs.Request.{Request, Body}
 use Rattle.dsn_outcome.specs.declared.answer.Replied.{Replied}
 use Rattle.dsn_report.specs.Outgoing.{Delivered}
+use Rattle.dsn_report.specs.Site.{Site}
 use Rattle.noticed_lib.specs.batch_run.Requests.{AreReplies, requests_of}
 use Rattle.noticed_lib.specs.declared.batch_run.run.Run.{Run}
 use Rattle.dsn_frame.specs.declared.session.Turn.{Turn}
@@ -30,25 +31,25 @@ abbrev pub most_accepted : ℕ
 most_accepted = 4294967295
 
 -- the book models the requests' history, and the letters of that history were passed on
-pub record Stands {W : Type 0} (outbox_device : Drain W) (limits : Limits) (host : List ℕ)
+pub record Stands {W : Type 0} (outbox_device : Drain W) (limits : Limits) (site : Site)
     (start : W) (run : Run W) (requests : List Request) : Type 0 where
   pub limits_kept : run.book.limits ≡ limits
   pub book : Represents run.book (history_of limits requests)
   pub count : run.accepted ≡ length requests
-  pub letters : Delivered outbox_device host start run.outgoing
+  pub letters : Delivered outbox_device site start run.outgoing
       (sealed_letters (history_of limits requests))
 
 -- a request was taken, and the run models the requests with it
-pub record Asks {W : Type 0} (outbox_device : Drain W) (limits : Limits) (host : List ℕ)
+pub record Asks {W : Type 0} (outbox_device : Drain W) (limits : Limits) (site : Site)
     (start : W) (run : Run W) (before : List Request) (body : Body) (reply : Replied) : Type 0 where
   pub reply_is : reply ≡ replied_next limits before body
-  pub stands : Stands outbox_device limits host start run (before ++ next_request before body ∷ [])
+  pub stands : Stands outbox_device limits site start run (before ++ next_request before body ∷ [])
 
 -- the run models the requests that these bodies make, and their replies are among the answers
-pub record RunStands {W : Type 0} (outbox_device : Drain W) (limits : Limits) (host : List ℕ)
+pub record RunStands {W : Type 0} (outbox_device : Drain W) (limits : Limits) (site : Site)
     (start : W) (run : Run W) (bodies : List Body) (answers : List Spoken) : Type 0 where
   pub replies : AreReplies limits answers (requests_of bodies)
-  pub stands : Stands outbox_device limits host start run (requests_of bodies)
+  pub stands : Stands outbox_device limits site start run (requests_of bodies)
 
 -- a frame was answered as a session answers it, and the run models the requests after it
 pub record Answered {W : Type 0} (outbox_device : Drain W) (old new : Run W) (position : ℕ)
@@ -58,6 +59,6 @@ pub record Answered {W : Type 0} (outbox_device : Drain W) (old new : Run W) (po
       (turn.answer ∷ []) (end_after turn.over)
   pub counted : new.accepted ≡ old.accepted + length asked
   pub limited : new.book.limits ≡ old.book.limits
-  pub then : (limits : Limits) (host : List ℕ) (start : W) (bodies : List Body)
-      (answers : List Spoken) → RunStands outbox_device limits host start old bodies answers
-      → RunStands outbox_device limits host start new (bodies ++ asked) (answers ++ turn.answer ∷ [])
+  pub then : (limits : Limits) (site : Site) (start : W) (bodies : List Body)
+      (answers : List Spoken) → RunStands outbox_device limits site start old bodies answers
+      → RunStands outbox_device limits site start new (bodies ++ asked) (answers ++ turn.answer ∷ [])

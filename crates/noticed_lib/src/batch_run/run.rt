@@ -1,8 +1,9 @@
 //! One run of the daemon on one thread: frames in, letters out.
-ghost use Rattle.std.specs.Prelude.{◌≡◌, ℕ, ◌+◌, ◌<◌, ◌≤◌, List};
+ghost use Rattle.std.specs.Prelude.{◌≡◌, ◌+◌, ◌<◌, ◌≤◌, List};
 ghost use Rattle.dsn_outcome.specs.History.{Limits};
 ghost use Rattle.dsn_outcome.specs.Body.{body_of};
 ghost use Rattle.noticed_lib.specs.inner.Run.{Stands, Asks, Answered, most_accepted};
+ghost use Rattle.dsn_report.specs.Site.{Site};
 
 use dsn_book::{Book, Step};
 use dsn_frame::{Spoken, Turn, next_request};
@@ -46,9 +47,9 @@ impl<W: Drain> Run<W> {
         ensures counted { self.new.accepted ≡ self.old.accepted + 1 }
         ensures limits { self.new.book.limits ≡ self.old.book.limits }
         ensures sealed { self.new.book.sealed ≤ self.new.accepted }
-        ensures asked { (limits : Limits) (host : List ℕ) (start : W) (requests : List _)
-            → Stands W.Drain limits host start self.old requests
-            → Asks W.Drain limits host start self.new requests (body_of body) result }
+        ensures asked { (limits : Limits) (site : Site) (start : W) (requests : List _)
+            → Stands W.Drain limits site start self.old requests
+            → Asks W.Drain limits site start self.new requests (body_of body) result }
     {
         let request = Request {
             agent: 0,

@@ -1,11 +1,12 @@
 //! A whole run on one thread: frames in, an outbox and notes out.
-ghost use Rattle.std.specs.Prelude.{◌≡◌, ℕ, List};
+ghost use Rattle.std.specs.Prelude.{◌≡◌, List};
 ghost use Rattle.std.specs.Option.{option_map};
 ghost use Rattle.std.specs.Result.{result_ok};
 ghost use Rattle.dsn_outcome.specs.Letter.{Letter};
 ghost use Rattle.noticed_lib.specs.batch_run.Batch.{IsBatch};
 ghost use Rattle.noticed_lib.specs.inner.Harvest.{Ended};
 ghost use Rattle.dsn_report.specs.Outgoing.{Delivered};
+ghost use Rattle.dsn_report.specs.Site.{Site};
 
 use crate::batch_run::batch_end::BatchEnd;
 use crate::batch_run::reading::read_all;
@@ -71,9 +72,9 @@ fn end<W: Drain, N: Drain>(
     logs: Result<Vec<OpenLine>, NoMemory>,
     notes: &mut N,
 ) -> BatchEnd<W>
-    ensures { (host : List ℕ) (start : W) (letters : List Letter)
-        → Delivered W.Drain host start outgoing letters
-        → Ended W.Drain N.Drain host start letters fault
+    ensures { (site : Site) (start : W) (letters : List Letter)
+        → Delivered W.Drain site start outgoing letters
+        → Ended W.Drain N.Drain site start letters fault
         (option_map (λ lines. lines.items) (result_ok logs))
         notes.old notes.new result }
 {

@@ -1,5 +1,5 @@
 //! The run of the daemon over a journal, whose letters are written to an outbox.
-ghost use Rattle.std.specs.Prelude.{◌≡◌, ◌+◌, ◌^◌, ◌<◌, ℕ, List, [], All, IfErr, IfOk};
+ghost use Rattle.std.specs.Prelude.{◌≡◌, ◌+◌, ◌^◌, ◌<◌, List, [], All, IfErr, IfOk};
 ghost use Rattle.dsn_outcome.specs.History.{Exchange};
 ghost use Rattle.dsn_outcome.specs.Letter.{Letter};
 ghost use Rattle.dsn_crew.specs.KeeperHistory.{BeginsWith};
@@ -7,6 +7,7 @@ ghost use Rattle.dsn_crew.specs.post.Outlet.{outbox_outlet};
 ghost use Rattle.dsn_ledger.specs.KeptBook.{ledger_keeper};
 ghost use Rattle.dsn_report.specs.Outgoing.{Delivered};
 ghost use Rattle.noticed_lib.specs.daemon.Journaled.{IsLedgerBegun, IsNoStart, IsPostedFirst, IsRunOver, IsServeOver, LeavesStart};
+ghost use Rattle.dsn_report.specs.Site.{Site};
 
 use crate::daemon::journal_folder::JournalFolder;
 use crate::daemon::journal_run::run_over;
@@ -112,8 +113,8 @@ fn run_outbox<
     requires few { start.keeper.base + start.keeper.book.book.sealed < 2 ^ 63 }
     requires begins { (before : List Exchange)
         × BeginsWith (ledger_keeper D.Disk) start.keeper before }
-    requires posted { (host : List ℕ) × (from : W) × (first : List Letter)
-        × Delivered W.Drain host from start.outlet first }
+    requires posted { (site : Site) × (from : W) × (first : List Letter)
+        × Delivered W.Drain site from start.outlet first }
     requires all_sent { start.outlet.unsent ≡ [] }
     ensures { IsRunOver D.Disk C.may_reach P.Port (outbox_outlet W.Drain) N.Drain ports.items
         start.keeper start.outlet notes.old notes.new result.0 result.1 }

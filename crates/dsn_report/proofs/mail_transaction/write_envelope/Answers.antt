@@ -9,7 +9,7 @@ pub returns : goal.returns
 returns g c =
     let path : c.bytes.result.now ≡ return_path_of c.args.letter.now =
     c.bytes.ensures.same ∙ sym (ap (λ path. unwrap_or path []) c.return_path.ensures) in
-    Wrote-as (rw (path, c.requires) refl)
+    Wrote-as (rw path refl)
     (c.block.ensures _
     (block-line (codes "MAIL FROM:<>") (c.args.parameter.now ∷ []) refl
     (block-line (codes "RCPT TO:<") (c.bytes.result.now ∷ codes ">" ∷ []) refl

@@ -11,8 +11,8 @@ returns-in-ByService g c = Wrote-as (rw c.in-ByService.is refl) (Wrote-none c.ar
 pub returns-in-ByOutcome : goal.returns-in-ByOutcome
 unfolding guidance
 returns-in-ByOutcome g c =
-    let host : c.bytes.result.now ≡ c.args.site.now = c.bytes.ensures.same in
+    let host : c.host.result.now ≡ c.args.site.now.host = c.host.ensures.same in
     Wrote-as (rw (c.in-ByOutcome.is, host) refl)
     (c.block.ensures _
     (block-line c.args.consequence.now [] c.requires
-    (block-line (codes "For help, write to <postmaster@") (c.bytes.result.now ∷ codes "> and include this notice." ∷ []) refl block-none)))
+    (block-line (codes "For help, write to <postmaster@") (c.host.result.now ∷ codes "> and include this notice." ∷ []) refl block-none)))

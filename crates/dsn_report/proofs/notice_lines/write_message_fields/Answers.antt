@@ -11,11 +11,11 @@ pub returns : goal.returns
 unfolding per_message_fields
 returns g c =
     let id : option_copied c.map.result ≡ c.args.letter.now.draft.envelope_id = search rules in
-    let host : c.bytes.result.now ≡ c.args.site.now = c.bytes.ensures.same in
+    let host : c.host.result.now ≡ c.args.site.now.host = c.host.ensures.same in
     let date : c.date.result ≡ date_text c.args.letter.now.draft.arrival = search rules in
     let own : c.extensions.result.now ≡ c.args.letter.now.draft.extensions = search rules in
     let extensions = Wrote-same lines_ended_by_lf c.args.letter.now.draft.extensions own c.write_extensions.ensures in
     let block = c.block.ensures _
-    (block-line (codes "Reporting-MTA: dns; ") (c.bytes.result.now ∷ []) refl
+    (block-line (codes "Reporting-MTA: dns; ") (c.host.result.now ∷ []) refl
     (block-line (codes "Arrival-Date: ") (c.date.result ∷ []) refl block-none)) in
     Wrote-as (rw (id, host, date) refl) (Wrote-then c.write_if_any.ensures (Wrote-then block extensions))

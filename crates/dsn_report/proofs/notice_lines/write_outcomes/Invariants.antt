@@ -8,5 +8,5 @@ use Rattle.dsn_report.proofs.notice_lines.write_outcomes.Given as goal
 abbrev pub invariant-loop-outcome : goal.invariant-loop-outcome
 invariant-loop-outcome g l =
     (end : _)
-    → Wrote g.W.Drain l.lines end (flat_map (outcome_lines l.letter.draft.wording) (outcomes_left l.outcome-iterator))
-    → Wrote g.W.Drain l.initial.lines end (flat_map (outcome_lines l.letter.draft.wording) l.letter.outcomes)
+    → Wrote g.W.Drain l.lines end (flat_map (outcome_lines l.letter.draft.wording l.explained) (outcomes_left l.outcome-iterator))
+    → Wrote g.W.Drain l.initial.lines end (flat_map (outcome_lines l.letter.draft.wording l.explained) l.letter.outcomes)

@@ -2,4 +2,4 @@
 use Rattle.dsn_crew.proofs.post.outlet.OutgoingOutlet.hand.Goals as goal
 
 pub returns-clause-posted : goal.returns-clause-posted
-returns-clause-posted g c = λ start letters before. c.hand.ensures.delivered start.poster.host start.poster.outbox letters before
+returns-clause-posted g c = λ start letters before. c.hand.ensures.delivered start.poster.site start.poster.outbox letters before

@@ -72,10 +72,10 @@ def exchange(daemon: Daemon, given: bytes, count: int) -> bytes:
     return b""
 
 
-def filled(room: Path, name: str) -> Place:
+def filled(room: Path, name: str, *options) -> Place:
     """A place where K1 was sealed and its notice posted, and K2 is open with one outcome."""
     place = Place(room, name)
-    with place.daemon() as it:
+    with place.daemon(*options) as it:
         exchange(it, append(0, b"K1") + flush(1, b"K1") + append(2, b"K2"), 3)
         it.end()
     return place
@@ -154,9 +154,9 @@ def not_allowed(checks: Checks, room: Path):
 def files(checks: Checks, room: Path):
     """A file that is another program's (73), another version's (74) or damaged (75); marks ahead of the journal (76) or
     behind it (77). Each stays as it was, nobody is served, and with the right files again the daemon goes on."""
-    place = filled(room, "files")
+    place = filled(room, "files", "--logs", "4095")
     kept, marks = place.file("journal"), place.file("marks")
-    # the run before was ended in order, and a start puts the journal away: its base is then the mark
+    # the run before was ended in order, and a start under higher limits puts the journal away: its base is then the mark
     with place.daemon() as it:
         exchange(it, b"", 0)
         it.end()

@@ -21,7 +21,7 @@ SMALL = 262_144  # bytes of a journal: its start is soon over
 SMALLEST = 98_304  # bytes of a journal that is soon full, and has room for what the clients hold
 STOPPED = 77  # the status of a daemon whose machine stopped
 PATIENCE = 60  # seconds until it is killed where it didn't come to the call: a slow disk takes 10 ms for one
-OF_A_START, OF_A_RUN = 20, 1_000  # calls within which it stops: a start makes some sixteen, a first one 21
+OF_A_START, OF_A_RUN = 16, 1_000  # calls within which it stops: a first start makes 16
 WRITES = 1  # calls that write the zeros of a journal which the daemon makes
 
 

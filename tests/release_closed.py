@@ -16,7 +16,7 @@ from tests.support.faults import fault_line
 from tests.support.running import Checks, Ran, run
 
 LOGS, FEW, BOUNCE = 4096, 64, 1
-SIZE = 8 << 20  # bytes of a journal
+SIZE, SHORT = 8 << 20, 24 << 10  # bytes of a journal, and of one that a start compacts: over a quarter of it is used
 FAST = "/dev/shm" if os.path.isdir("/dev/shm") else None  # a sync costs nothing there
 
 
@@ -43,11 +43,11 @@ def in_memory(logs: int, *options) -> Daemon:
 class Folder:
     """A folder with a journal in it, and daemons over it, each with an outbox of its own."""
 
-    def __init__(self, room: str):
+    def __init__(self, room: str, size: int = SIZE):
         self.room, self.runs = Path(room), 0
         self.journal = self.room / "journal"
         self.journal.mkdir()
-        (self.journal / "journal").write_bytes(bytes(SIZE))
+        (self.journal / "journal").write_bytes(bytes(size))
 
     def daemon(self, logs: int, *options) -> Daemon:
         """A daemon over the journal with so many keys."""
@@ -110,10 +110,10 @@ def order_in_memory(checks: Checks):
         checks.equal("without a journal and the option", asked(daemon, appends([FEW, 0])), [b"table full", b"closed"])
 
 
-def order_survives(checks: Checks):
-    """The order of closing outlives a kill, and the shorter journal that each start writes."""
+def order_survives(checks: Checks, size: int):
+    """The order of closing outlives a kill, whether or not the next start writes a shorter journal."""
     with tempfile.TemporaryDirectory(dir=FAST, prefix="noticed-") as room:
-        folder = Folder(room)
+        folder = Folder(room, size)
         with folder.daemon(FEW, "--release-closed") as daemon:
             daemon.send(discarded(0, FEW + 10)[0])
             daemon.running.kill()
@@ -145,7 +145,8 @@ def main():
     checks = Checks(f"release_closed: {messages:,} messages within {LOGS:,} keys, and the order of closing")
     goes_on_both_ways(checks, messages)
     order_in_memory(checks)
-    order_survives(checks)
+    for size in (SIZE, SHORT):
+        order_survives(checks, size)
     refused(checks)
     checks.done()
 

@@ -34,4 +34,5 @@ mod ShorterFiles
 mod SnapshotBooks
 mod SnapshotExamples
 mod Snapshots
+mod StayingExamples
 mod WithinLimits

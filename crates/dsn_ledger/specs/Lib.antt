@@ -13,4 +13,5 @@ pub mod OpenLedger
 pub mod Opening
 pub mod Posting
 pub mod Snapshot
+pub mod Staying
 pub mod inner

@@ -19,6 +19,7 @@ mod opening_to_raise;
 mod raising;
 mod replay;
 mod snapshot;
+mod staying;
 
 pub use file_limits::limits_in;
 pub use keep_error::KeepError;

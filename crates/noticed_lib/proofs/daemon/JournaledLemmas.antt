@@ -26,6 +26,7 @@ use Rattle.dsn_report.specs.Site.{Site}
 use Rattle.dsn_device.specs.declared.drain.Drain.{Ghosts as Drain}
 use Rattle.dsn_journal.specs.Marks.{IsForeignToMarks, IsTooShortForMarks, LeavesTheMark, Marks, SayMark, SayNoMark}
 use Rattle.dsn_ledger.specs.Posting.{AreToPost}
+use Rattle.dsn_ledger.specs.Staying.{MayStay}
 use Rattle.dsn_journal.specs.Moments.{LeavesOnly}
 use Rattle.dsn_ledger.specs.Opening.{IsLeftByOpening}
 use Rattle.dsn_journal.specs.Records.{StandsForSome, encoded, recovered}
@@ -41,7 +42,7 @@ use Rattle.dsn_ledger.proofs.LedgersInPlace.{headed}
 use Rattle.dsn_ledger.proofs.ReplayLimits.{one_replay, replay_header, replay_in_place, replay_opened}
 use Rattle.dsn_journal.proofs.Moments.{joined, started, weaker}
 use Rattle.noticed_lib.specs.inner.Daemon.{BeginsAnew}
-use Rattle.noticed_lib.specs.daemon.Journaled.{IsFolderOpened, IsLedgerBegun, IsNotBegun, IsPostedFirst, LeavesMarksOpened, LeavesStart, StartsWith, marking_drain, not_replaced, too_many_letters}
+use Rattle.noticed_lib.specs.daemon.Journaled.{IsFolderOpened, IsLedgerBegun, IsNotBegun, IsOnlyOpened, IsPostedFirst, LeavesMarksOpened, LeavesStart, StartsWith, StaysAtStart, marking_drain, not_replaced, too_many_letters}
 use Rattle.dsn_text.specs.FaultCode.{journal_full_code}
 use Rattle.dsn_ledger.specs.JournalFolder.{AreMarksRefusedFor, IsOnlyRead, IsOpenedToRaise}
 use Rattle.dsn_ledger.specs.declared.opening.Opened.{Opened}
@@ -175,15 +176,38 @@ module _ {D : Type 0} (disk : Disk.Ghosts D) (limits : Limits) (mark : ℕ) (jou
         (λ left or. inr (⊎_elim (λ old. starts_in_place limits opened.ledger.book.book.limits left long is.higher old) (λ new. starts_in_place limits limits left long allowed new) or))
         (later long (begun_in long starts)))
 
+  -- the journal that a start leaves as it is may stay once it is opened
+  pub may_stay : StaysAtStart limits (disk.seen journal) → opened.ledger.base + opened.ledger.book.book.sealed < 2 ^ 63 → MayStay disk limits opened.ledger
+  may_stay stays few =
+      let own = opened.ledger.book.book.limits in
+      let was = recovered (disk.seen journal) in
+      let same : own ≡ limits = one_replay limits own limits was is.own stays.under in
+      let end : opened.ledger.journal.used ≡ length (encoded (with_header limits was)) =
+      is.journal_is.end ∙ ap (λ (rs : List (List ℕ)). length (encoded rs)) (is.same ∙ ap (λ (l : Limits). with_header l was) same) in
+      record {
+        limits_are = same;
+        short = omega (arith, stays.short, end, is.size);
+        few = few;
+      }
+
+  -- what an opening does to a journal under its own limits
+  pub only_opened : opened.ledger.book.book.limits ≡ limits → IsOnlyOpened disk limits journal opened.ledger.journal.disk
+  only_opened same = record {
+    records = is.same ∙ ap (λ (l : Limits). with_header l (recovered (disk.seen journal))) same;
+    any_moment = is.any_moment;
+  }
+
   -- the ledger under the run's limits, in place of each history that the opened one was in place of
   pub begun_is : (ledger : Ledger D) → ledger.book.book.limits ≡ limits → ledger.base + ledger.book.book.sealed < 2 ^ 63 → BeginsAnew disk ledger
       → ((long : List Exchange) → IsLedgerInPlaceOf opened.ledger.book opened.ledger.base (recovered (disk.seen opened.ledger.journal.disk)) long → IsLedgerInPlaceOf ledger.book ledger.base (recovered (disk.seen ledger.journal.disk)) long)
+      → (StaysAtStart limits (disk.seen journal) → IsOnlyOpened disk limits journal ledger.journal.disk)
       → LeavesStart disk limits journal ledger.journal.disk → IsLedgerBegun disk limits journal ledger
-  begun_is ledger limits_are few anew in_place crash = record {
+  begun_is ledger limits_are few anew in_place stays crash = record {
     limits_are = limits_are;
     few = few;
     begins = anew.some;
     begins_with = λ long starts. anew.each long (in_place long (begun_in long starts));
+    stays = stays;
     crash = crash;
   }
 

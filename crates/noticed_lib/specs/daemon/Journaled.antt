@@ -29,7 +29,9 @@ use Rattle.dsn_journal.specs.Marks.{IsLeftByOpeningMarks, LeavesTheMark, Marks, 
 use Rattle.dsn_journal.specs.MarksError.{is_of_disk, marks_error_code}
 use Rattle.dsn_journal.specs.Moments.{LeavesOnly}
 use Rattle.dsn_ledger.specs.OpenLedger.{Ledger, rules_of}
+use Rattle.dsn_ledger.specs.Opening.{IsLeftByOpening}
 use Rattle.dsn_ledger.specs.Posting.{AreToPost}
+use Rattle.dsn_ledger.specs.Staying.{FillAQuarter}
 use Rattle.dsn_journal.specs.Records.{encoded, recovered}
 use Rattle.dsn_journal.specs.declared.disk.Disk
 use Rattle.dsn_journal.specs.declared.journal_error.JournalError.TheVariants.{Failed, Full}
@@ -41,9 +43,9 @@ use Rattle.dsn_journal.specs.declared.marks_error.MarksError.{MarksError}
 use Rattle.dsn_journal.specs.declared.marks_error.MarksError.TheVariants as no_marks_for
 use Rattle.dsn_text.specs.FaultCode.{journal_full_code, outbox_write_code}
 use Rattle.dsn_report.specs.Outgoing.{Delivered, Outgoing}
+use Rattle.dsn_report.specs.Site.{Site}
 use Rattle.noticed_lib.specs.daemon.SocketUses.{socket_port}
 use Rattle.noticed_lib.specs.daemon.Serve.{WritesAccount, WritesFault, WritesNumber}
-use Rattle.dsn_report.specs.Site.{Site}
 use Rattle.dsn_ledger.specs.JournalFolder.{AreMarksRefusedFor, HasHistory, HaveMark, IsNotOpenedToRaise, IsOnlyRead}
 use Rattle.noticed_lib.specs.declared.daemon.serve_end.ServeEnd.{ServeEnd}
 
@@ -141,8 +143,6 @@ LeavesStart disk limits journal last =
     (long : List Exchange) → StartsWith limits (disk.seen journal) long
     → LeavesOnly disk journal last (λ left. disk.may_leave journal left ⊎ StartsWith limits left long)
 
--- the ledger that a run over this journal begins with. The run may begin with each history that the
--- journal's records are in place of. At each moment until then a crash leaves what it might have
 -- a journal's file that a start under these limits leaves as it is: it is replayed under them, and
 -- its records take up at most a quarter of it
 pub record StaysAtStart (limits : Limits) (file : List ℕ) : Type 0 where
@@ -157,7 +157,10 @@ pub record IsOnlyOpened {D : Type 0} (disk : Disk.Ghosts D) (limits : Limits) (j
   pub any_moment : LeavesOnly disk journal last
       (λ left. disk.may_leave journal left ⊎ IsLeftByOpening limits (disk.seen journal) left)
 
--- left before, or a file that a later start begins with the same history
+-- the ledger that a run over this journal begins with. The run may begin with each history that the
+-- journal's records are in place of. A journal that stays as it is was not replaced. At each moment
+-- until then a crash leaves what it might have left before, or a file that a later start begins with
+-- the same history
 pub record IsLedgerBegun {D : Type 0} (disk : Disk.Ghosts D) (limits : Limits) (journal : D)
     (ledger : Ledger D) : Type 0 where
   pub limits_are : ledger.book.book.limits ≡ limits
@@ -165,11 +168,11 @@ pub record IsLedgerBegun {D : Type 0} (disk : Disk.Ghosts D) (limits : Limits) (
   pub begins : (before : List Exchange) × BeginsWith (ledger_keeper disk) ledger before
   pub begins_with : (long : List Exchange) → StartsWith limits (disk.seen journal) long
       → BeginsWith (ledger_keeper disk) ledger (of_earlier_run long)
+  pub stays : StaysAtStart limits (disk.seen journal)
+      → IsOnlyOpened disk limits journal ledger.journal.disk
   pub crash : LeavesStart disk limits journal ledger.journal.disk
 
 -- why the ledger of this file was not begun while these letters wait, by the number of the fault: the
-  pub stays : StaysAtStart limits (disk.seen journal)
-      → IsOnlyOpened disk limits journal ledger.journal.disk
 -- journal could not be replaced, or 2^63 letters were sealed
 pub data IsNotBegun (limits : Limits) (file : List ℕ) (waiting : List Letter) (code : ℕ)
     : Type 0 where

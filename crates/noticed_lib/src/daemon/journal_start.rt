@@ -1,9 +1,11 @@
 //! The start of a run over a journal: the parts that don't depend on where its letters go.
-ghost use Rattle.std.specs.Prelude.{◌≡◌, ◌++◌, List, [], true, IfErr, IfOk};
+ghost use Rattle.std.specs.Prelude.{◌≡◌, ◌++◌, List, [], true, IfErr, IfOk, IsOk};
 ghost use Rattle.dsn_outcome.specs.Letter.{Letter};
 ghost use Rattle.dsn_journal.specs.Records.{recovered};
+ghost use Rattle.dsn_ledger.specs.Compacted.{compacted, raised};
 ghost use Rattle.dsn_ledger.specs.OpenLedger.{AwaitsRequests};
 ghost use Rattle.dsn_ledger.specs.Posting.{AreToPostUnderSome};
+ghost use Rattle.dsn_ledger.specs.Staying.{MayStay};
 ghost use Rattle.noticed_lib.specs.inner.Daemon.{BeginsAnew, IsOpenedFrom};
 ghost use Rattle.noticed_lib.specs.daemon.Journaled.{IsLedgerBegun, IsNotBegun, LeavesStart};
 
@@ -60,12 +62,14 @@ pub(crate) fn hand_first<O: Outlet>(outlet: O, letters: Vec<Letter>) -> O
     outlet
 }
 
-/// Replaces the journal of a ledger, which was opened for a run under these limits, by a shorter one
-/// under them, which keeps the letters that wait. The watch is notified of the keys that are held.
-/// Returns what keeps the run's requests, whose letters are marked as the count says. Closed keys
-/// make room if `releases` is true.
+/// Begins a run under these limits with a ledger that was opened for it. The journal stays as it is
+/// if [`Ledger::may_stay`] says so; otherwise it is replaced by a shorter one under the limits, which
+/// keeps the letters that wait. The watch is notified of the keys that are held. Returns what keeps
+/// the run's requests, whose letters are marked as the count says. Closed keys make room if
+/// `releases` is true.
 ///
-/// A crash before that leaves a journal under the old limits, so a later start does the same.
+/// A crash before the journal is replaced leaves one under the old limits, so a later start does the
+/// same.
 ///
 /// The numbers of its errors are those of a journal that could not be replaced, and 71 if 2^63
 /// letters or more were sealed.
@@ -85,6 +89,12 @@ pub(crate) fn begin_ledger<D: Replaceable, C: MarkCount + Drop, H: Watch>(
         → IsOpenedFrom D.Disk limits journal ledger
         → IsLedgerBegun D.Disk limits journal keeper) }
     ensures rule { IfOk result (λ keeper. keeper.releases ≡ releases) }
+    ensures stays { MayStay D.Disk limits ledger
+        → IfOk result (λ keeper. keeper ≡ record ledger { releases = releases }) }
+    ensures begins { MayStay D.Disk limits ledger → IsOk result }
+    ensures shorter { (MayStay D.Disk limits ledger → ⊥)
+        → IfOk result (λ keeper. recovered (D.seen keeper.journal.disk)
+        ≡ compacted (raised limits ledger.book) ledger.base waiting.now) }
     ensures refused { IfErr result (λ not. (journal : D)
         → IsOpenedFrom D.Disk limits journal ledger
         → IsNotBegun limits (D.seen journal) waiting.now not.code) }
@@ -93,20 +103,26 @@ pub(crate) fn begin_ledger<D: Replaceable, C: MarkCount + Drop, H: Watch>(
         → LeavesStart D.Disk limits journal not.left) }
 {
     let mut ledger = ledger;
-    match ledger.raise(alloc, waiting, limits) {
-        Ok(true) => {
-            report_held(watch, ledger.book().entries());
-            Ok(keeper_over(alloc, ledger, releases, count))
+    // Replacing the file writes and syncs all of it, which takes most of a start.
+    if !ledger.may_stay(limits) {
+        match ledger.raise(alloc, waiting, limits) {
+            Ok(true) => {}
+            Ok(false) => {
+                return Err(NotBegun {
+                    code: fault_code::JOURNAL_FULL,
+                    left: ledger.into_disk(),
+                });
+            }
+            Err(error) => {
+                return Err(NotBegun {
+                    code: error.code(),
+                    left: ledger.into_disk(),
+                });
+            }
         }
-        Ok(false) => Err(NotBegun {
-            code: fault_code::JOURNAL_FULL,
-            left: ledger.into_disk(),
-        }),
-        Err(error) => Err(NotBegun {
-            code: error.code(),
-            left: ledger.into_disk(),
-        }),
     }
+    report_held(watch, ledger.book().entries());
+    Ok(keeper_over(alloc, ledger, releases, count))
 }
 
 /// What keeps requests on this ledger, whose letters are marked as the count says. Closed keys make

@@ -1,26 +1,31 @@
-use Rattle.std.proofs.Common.{rules, ◌≡◌, ◌∙◌, ◌+◌, ◌-◌, ◌^◌, refl, true≢false, ap, sym, arith}
-use Rattle.std.specs.Prelude.{Err, min}
-use Rattle.noticed_lib.proofs.daemon.JournaledLemmas.{begun_is, many_sealed, not_replaced_for, once_opened, too_many_for}
+use Rattle.std.proofs.Common.{◌∙◌, ◌+◌, refl, subst, true≢false, ap, sym, arith}
+use Rattle.std.specs.Prelude.{Err}
+use Rattle.noticed_lib.specs.inner.Daemon.{BeginsAnew}
+use Rattle.noticed_lib.proofs.daemon.JournaledLemmas.{at_opening, begun_is, many_sealed, may_stay, not_replaced_for, once_opened, only_opened, too_many_for}
 use Rattle.noticed_lib.proofs.daemon.journal_start.begin_ledger.Goals as goal
+use Rattle.noticed_lib.proofs.daemon.journal_start.begin_ledger.Goals.{then-not-may_stay+in-Ok-true, else-not-may_stay}
 
-pub raise-requires-clause-none : goal.raise-requires-clause-none
-raise-requires-clause-none g c = λ _. c.requires.opened.1.is.awaits
-
-pub raise-requires-clause-letters : goal.raise-requires-clause-letters
-raise-requires-clause-letters g c = λ _. c.requires.letters
-
-pub raise-requires-clause-higher : goal.raise-requires-clause-higher
-raise-requires-clause-higher g c = c.requires.opened.1.is.higher
-
-pub returns-in-Ok-true-clause-begun : goal.returns-in-Ok-true-clause-begun
-returns-in-Ok-true-clause-begun g c =
-    let raised = c.in-Ok-true.ensures in
-    let done = c.in-Ok-true.field-0-test in
-    let book = raised.book done in
-    rw c.keeper_over.ensures.ledger
-    (λ journal from.
-    begun_is g.D.Disk c.args.limits from.mark journal (record from.opened { ledger = c.args.ledger }) from.allowed from.is _ book.limits_are (let base = raised.base done in let waiting = book.sealed in let small = raised.small.0 done in omega arith) c.keeper_over.ensures.begins raised.ledger
-    (once_opened g.D.Disk c.args.limits from.mark journal (record from.opened { ledger = c.args.ledger }) from.allowed from.is _ (raised.in_place from.is.settled)))
+pub returns-clause-begun : goal.returns-clause-begun
+returns-clause-begun g c = elim c.if-not-may_stay.branch [
+  | then-not-may_stay+in-Ok-true w ↦
+      let raised = w.in-Ok-true.ensures in
+      let done = w.in-Ok-true.field-0-test in
+      let book = raised.book done in
+      let begins = subst (λ l. BeginsAnew g.D.Disk (record l { releases = c.args.releases })) w.ledger-is c.keeper_over.ensures.begins in
+      rw (c.keeper_over.ensures.ledger, w.ledger-is)
+      (λ journal from.
+      begun_is g.D.Disk c.args.limits from.mark journal (record from.opened { ledger = c.args.ledger }) from.allowed from.is _ book.limits_are (let base = raised.base done in let waiting = book.sealed in let small = raised.small.0 done in omega arith) begins raised.ledger
+      (λ stays. absurd (true≢false (sym (c.may_stay.ensures.1 (may_stay g.D.Disk c.args.limits from.mark journal (record from.opened { ledger = c.args.ledger }) from.allowed from.is stays (raised.small.0 done))) ∙ w.if-not-may_stay.true)))
+      (once_opened g.D.Disk c.args.limits from.mark journal (record from.opened { ledger = c.args.ledger }) from.allowed from.is _ (raised.in_place from.is.settled)))
+  | else-not-may_stay w ↦
+      let may = c.may_stay.ensures.0 w.if-not-may_stay.false in
+      let begins = subst (λ l. BeginsAnew g.D.Disk (record l { releases = c.args.releases })) w.ledger-is c.keeper_over.ensures.begins in
+      rw (c.keeper_over.ensures.ledger, w.ledger-is)
+      (λ journal from.
+      begun_is g.D.Disk c.args.limits from.mark journal (record from.opened { ledger = c.args.ledger }) from.allowed from.is _ may.limits_are may.few begins (λ long in_place. in_place)
+      (λ stays. only_opened g.D.Disk c.args.limits from.mark journal (record from.opened { ledger = c.args.ledger }) from.allowed from.is may.limits_are)
+      (at_opening g.D.Disk c.args.limits from.mark journal (record from.opened { ledger = c.args.ledger }) from.allowed from.is))
+]
 
 pub returns-in-Ok-false-clause-refused : goal.returns-in-Ok-false-clause-refused
 returns-in-Ok-false-clause-refused g c =

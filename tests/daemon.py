@@ -112,6 +112,22 @@ def many_sends(checks: Checks):
         checks.equal("their daemon", (ended.notes, ended.status), (b"".join(line(it, 4, 2) for it in range(4)), 0))
 
 
+def sent_ahead(checks: Checks):
+    """A client that sends frames of all lengths before it reads an answer, in pieces of any size: each is answered."""
+    reasons = [0, 1, 400, 475, 476, 477, 600, 800, 0, 0, 0, 2, 450]
+    sent = [frames.append(at, 1, b"Q1", b"x@y", 1, b"5.0.0", reason=b"r" * it) for at, it in enumerate(reasons)]
+    given, pieces = b"".join(sent), (8192, 511, 512, 513, 7)
+    with Daemon(1, len(pieces)) as daemon:
+        for before, piece in zip(range(0, 1000, len(sent)), pieces):
+            with daemon.connect() as client:
+                for at in range(0, len(given), piece):
+                    client.sendall(given[at : at + piece])
+                wanted = b"".join(answer(1, at, before + at) for at in range(len(sent)))
+                checks.equal(f"{len(given)} bytes in pieces of {piece}", heard(client, len(wanted)), wanted)
+        count = len(sent) * len(pieces)
+        checks.equal("their daemon", daemon.end().notes, line(0, count, len(pieces)) + b"open B Q1 %d\n" % count)
+
+
 def odd_clients(checks: Checks):
     """One agent, five connections: single bytes, a cut frame, a bad length, a number out of turn, and a flush."""
     with Daemon(1, 5) as daemon:
@@ -196,6 +212,7 @@ def main():
         one_after_another,
         sixteen,
         many_sends,
+        sent_ahead,
         odd_clients,
         cut_and_flushed,
         never_reads,

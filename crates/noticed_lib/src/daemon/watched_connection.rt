@@ -1,9 +1,10 @@
 //! A connection to a client, under a watch.
-//! There is no buffer: agents ask one request at a time. So a request costs two reads and an answer
-//! one write, and no memory is kept for a silent client.
-ghost use Rattle.std.specs.Prelude.{refl};
+//! A request of up to 512 bytes costs one read, and an answer one write.
+ghost use Rattle.std.specs.Prelude.{◌≤◌, length, refl};
+ghost use Rattle.std.specs.Io.{ReadsAtMost};
 
 use crate::daemon::watch::{TICK, Watch};
+use arrayvec::ArrayVec;
 use dsn_device::OpaqueStream;
 use std::io;
 use std::io::{ErrorKind, Read, Write};
@@ -13,6 +14,10 @@ use std::time::Duration;
 
 /// How many seconds a client has in the middle of a frame, at most, once the run is ending.
 const LAST_PATIENCE: u32 = 10;
+
+/// How many bytes a read takes ahead, at most. Most frames are shorter, and a refused growth would
+/// cost the client its connection.
+const AHEAD: usize = 512;
 
 /// What a connection waits for. A client waits for each answer before its next frame.
 #[derive(Clone, Copy, PartialEq, Eq)]
@@ -33,6 +38,8 @@ enum Stage {
 #[derive(Drop)]
 pub(crate) struct WatchedConnection<'a, H> {
     stream: UnixStream,
+    /// What was read of the client's frames and is not used yet.
+    ahead: ArrayVec<u8, AHEAD>,
     watch: &'a H,
     /// When the client's time began, by the watch: with the connection, an answer, the first byte of
     /// a frame, a write, or when the run was found to be ending.
@@ -53,6 +60,7 @@ impl<'a, H: Watch> WatchedConnection<'a, H> {
         }
         Ok(WatchedConnection {
             stream,
+            ahead: ArrayVec::new(),
             watch,
             since: watch.elapsed(),
             stage: Stage::BetweenFrames,
@@ -159,6 +167,30 @@ impl<'a, H: Watch> WatchedConnection<'a, H> {
         }
     }
 
+    /// Reads from the stream, as much ahead as the client has sent.
+    fn read_stream(&mut self, buffer: &mut [u8]) -> io::Result<usize>
+        ensures { ReadsAtMost result buffer.new }
+    {
+        if buffer.len() >= AHEAD {
+            return self.stream.read(buffer);
+        }
+        let mut room = [0; AHEAD];
+        let count = self.stream.read(&mut room)?;
+        self.ahead = ArrayVec::from(room);
+        self.ahead.truncate(count);
+        Ok(self.take_ahead(buffer))
+    }
+
+    /// Takes what was read ahead, as much as there is room for. Returns how many bytes it took.
+    fn take_ahead(&mut self, buffer: &mut [u8]) -> usize
+        ensures { result ≤ length buffer.new }
+    {
+        let count = buffer.len().min(self.ahead.len());
+        buffer[..count].copy_from_slice(&self.ahead[..count]);
+        self.ahead.drain(..count);
+        count
+    }
+
     /// Begins a frame by what was read, which may be the end of the input instead.
     fn begin_frame(&mut self, read: &io::Result<usize>) {
         self.enter(Stage::InFrame);
@@ -185,14 +217,19 @@ impl<H: Watch> Read for WatchedConnection<'_, H> {
             if self.ends_here() {
                 return Ok(0);
             }
-            let read = self.stream.read(buffer);
+            let is_ahead = !self.ahead.is_empty();
+            let read = if is_ahead {
+                Ok(self.take_ahead(buffer))
+            } else {
+                self.read_stream(buffer)
+            };
             if self.goes_on(&read) {
                 continue;
             }
             if self.stage == Stage::BetweenFrames {
                 self.begin_frame(&read);
             }
-            if is_short(&read, buffer.len()) && self.is_too_slow() {
+            if !is_ahead && is_short(&read, buffer.len()) && self.is_too_slow() {
                 return Err(io::Error::from(ErrorKind::TimedOut));
             }
             return read;

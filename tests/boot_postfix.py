@@ -165,6 +165,18 @@ def check_passed_on(checks: Checks, it: Machine):
     checks.equal("another one", it.bounces("unquoted")[0], it.main_process())
 
 
+def check_templates(checks: Checks, it: Machine):
+    """A template is in the notices from the next start on, and out of them after one more: the unit may write its file."""
+    template = "failure_template = <<END\nCharset: utf-8\nSubject: Nicht zugestellt\n\nZur\u00fcck von $myhostname.\nEND\n"
+    write = f"cat > /etc/postfix/bounce.cf <<'EOF'\n{template}EOF\npostconf -e bounce_template_file=/etc/postfix/bounce.cf"
+    for name, change, count in ("templated", write, 1), ("plain", "postconf -X bounce_template_file", 1):
+        it.shell(f"{change}; systemctl restart noticed-postfix").check_returncode()
+        checks.true(f"{name}: check", until(lambda: not it.shell("noticed-postfix check").returncode, 10))
+        checks.equal(f"{name}: a notice", it.bounces(name)[0], it.main_process())
+        found = it.mailbox().count("Subject: Nicht zugestellt"), it.mailbox().count(f"\nZur\u00fcck von {HOST}.\n")
+        checks.equal(f"{name}: its words", found, (count, count))
+
+
 def check_ends(checks: Checks, it: Machine):
     """Over a kill, a stop and a reboot each message has its notice; over a kill none is deferred: systemd keeps the
     sockets."""
@@ -251,7 +263,8 @@ def main():
         ]
         subprocess.run(words, cwd=ROOT, stdout=subprocess.DEVNULL, check=True)
         checks.true("the container boots", it.boot())
-        first, last = (check_readme, check_steps, check_passed_on), (check_before_postfix, check_against, check_back)
+        first = (check_readme, check_steps, check_passed_on, check_templates)
+        last = (check_before_postfix, check_against, check_back)
         for check in (*first, check_ends, *last):
             failed = checks.failed
             check(checks, it)

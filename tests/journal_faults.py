@@ -244,6 +244,8 @@ def missing(checks: Checks, room: Path):
         exchange(it, b"", 0)
         checks.equal("without both: the end", it.end().status, 0)
     checks.equal("without both: they are made", {it: len(place.file(it)) for it in NEW}, NEW)
+    modes = [(place.folder / it).stat().st_mode & 0o777 for it in NEW]
+    checks.equal("without both: they are their owner's alone", modes, [0o600, 0o600])
 
 
 def stops_of_a_first_start(checks: Checks, room: Path, library: Path):
@@ -378,8 +380,7 @@ def outboxes(checks: Checks, room: Path):
     )
     checks.equal("it stays as it was", (room / "some.outbox").read_bytes(), b"EHLO mx.example.net\r\nMAIL FR")
     check_still_there(checks, "after outboxes that failed", place)
-    for file in (place.outbox, place.folder / "journal", place.folder / "marks"):
-        checks.equal(f"{file.name} is its owner's alone", file.stat().st_mode & 0o777, 0o600)
+    checks.equal("the outbox is its owner's alone", place.outbox.stat().st_mode & 0o777, 0o600)
 
 
 def ends(checks: Checks, room: Path):
@@ -397,8 +398,8 @@ def ends(checks: Checks, room: Path):
 
 
 def calls(checks: Checks, room: Path, library: Path):
-    """Each write and sync of a file fails in turn, of a start and of a run. A run whose request can't be kept ends with
-    45, and no answer is given that isn't true of the next daemon."""
+    """Each write and sync of a file fails in turn, of a start that puts the journal away, since a limit rises, and of a
+    run. A run whose request can't be kept ends with 45, and no answer is given that isn't true of the next daemon."""
     shadow = room / "shadow"
     shadow.mkdir()
     for name, most, how in (
@@ -413,6 +414,10 @@ def calls(checks: Checks, room: Path, library: Path):
         while found and number < 100:
             number += 1
             place = Place(room, f"{name}-{number}-{len(how)}")
+            if name == "journal":
+                with place.daemon("--logs", "4095") as it:
+                    exchange(it, b"", 0)
+                    it.end()
             with place.daemon(
                 env=preloading(
                     library, FOLDER=place.folder, OUTBOX=place.outbox, SHADOW=shadow, ON=name, FAIL_AT=number, **how

@@ -69,7 +69,7 @@ WANTED_OF_POSTFIX = {
     "NoNewPrivileges": ["yes"],
     "CapabilityBoundingSet": [""],
     "ProtectSystem": ["strict"],
-    "ReadWritePaths": [QUEUE],
+    "ReadWritePaths": [QUEUE, "-/var/lib/postfix"],  # the second is data_directory, for templates
     "RestrictAddressFamilies": ["AF_UNIX"],
     "IPAddressDeny": ["any"],
 }

@@ -1,7 +1,8 @@
 """Runs the clients of clients/, in each language whose tools this machine has: on the worked examples of vectors/,
-whose requests they encode and whose answers they decode; on headers and messages that are too long; against small
-false daemons, one for each way in which a connection ends or an answer is not one; and beside a real daemon with a
-journal that is killed and started again in the middle, after which each outcome is in one notice, once.
+whose requests they encode and whose answers they decode; on headers and messages that are too long, and on replies of
+several lines; against small false daemons, one for each way in which a connection ends, or an answer is a refusal or not
+one; at paths where no daemon is; and beside a real daemon with a journal that is killed and started again in the middle,
+after which each outcome is in one notice, once. The languages' own tools have nothing to say of the sources.
 
     python3 -m tests.clients [LANGUAGE]...
 
@@ -21,6 +22,7 @@ from dataclasses import dataclass
 from pathlib import Path
 
 from tests.support.daemon_and_clients import PATIENCE, Daemon, answer, heard, is_listened_on, until
+from tests.support.faults import words as fault_words
 from tests.support.formats import sessions
 from tests.support.formats.logs import (
     CLOSED,
@@ -43,7 +45,8 @@ from vectors import frames
 
 DRIVERS = ROOT / "tests/support/clients"
 CLIENTS = ROOT / "clients"
-LIMITS = ("20", "20", "20", "20", "60")  # seconds to connect, send, for a worker, an answer and a request
+# Seconds to connect, send, for a worker, an answer and a request, and for that while no daemon was reached.
+LIMITS = ("20", "20", "20", "20", "60", "60")
 MOMENT, ARRIVAL = 1_700_000_000, 1_699_996_400
 LONGEST = 32_768  # bytes of a header or message
 HEADER, MESSAGE, EIGHT_BIT_MESSAGE, MESSAGE_OR_HEADER = 0, 1, 2, 3
@@ -54,18 +57,57 @@ END, SILENCE = "end", "silence"  # what a false daemon may do in place of an ans
 NAMES = {"original": "original_recipient", "mta": "remote_mta", "envelope": "envelope_id"}
 MESSAGES, RECIPIENTS = 12, 5  # of the run beside a daemon that is killed
 RESTARTS = 3
-# The most lines of each client's main file. 250 is the aim for all.
-LINES = {"python": 250, "c": 250, "go": 273, "rust": 295, "perl": 250}
-MAIN_FILES = {"perl": "Noticed.pm", "python": "noticed.py", "rust": "noticed.rs"}
+OF_LINES = re.compile(r" (?:diagnostic|reason)=(?:[0-9a-f]{2})*0[ad]")  # which clients send as one line
+LONGEST_PATH = 107  # bytes of a socket's path: sockaddr_un has 108, of which the last is 0 (unix(7))
+REACHED = 10  # seconds for a request while no daemon was ever reached
+OUTCOME_WORDS = 1  # the wording by the outcome
+REFUSALS = (*range(1, 11), *range(15, 31))  # of a Refused (noticed-protocol(5), "Fault numbers"), but for 44 and 46
+# Texts of several lines, and what is sent: RFC 5321 section 4.2.1 has the form of a reply. Libraries that join its lines
+# with LF, without their codes, leave the status (RFC 3463) in each.
+SAID = (
+    (b"550 5.1.1 no such user", b"550 5.1.1 no such user"),
+    (
+        b"550-5.1.1 The address\r\n550-5.1.1 does not exist.\r\n550 5.1.1 gsmtp",
+        b"550 5.1.1 The address does not exist. gsmtp",
+    ),
+    (
+        b"5.1.1 The email account does not exist.\n5.1.1 Please try ..\n5.1.1 gsmtp",
+        b"5.1.1 The email account does not exist. Please try .. gsmtp",
+    ),
+    (b"550 5.1.1 The account\n5.1.1 does not exist", b"550 5.1.1 The account does not exist"),
+    (b"550-no such\r\n550 user", b"550 no such user"),
+    (b"550-no such\r550 user", b"550 no such user"),
+    (b"554-\r\n554 5.7.1 no", b"554 5.7.1 no"),
+    (b"554-5.7.1 no\r\n554-\r\n554", b"554 5.7.1 no"),
+    (b"550 no\r\n", b"550 no"),
+    (b"\r\n\n550-no such\r\n\r\n550 user\n", b"550 no such user"),
+    (b"550-5.1.1 no such \t\r\n550 5.1.1  user", b"550 5.1.1 no such user"),
+    (b"550-5.1.1 no such user\r\n550 5.7.1 no right", b"550 5.1.1 no such user 5.7.1 no right"),
+    (b"550-first\r\n451 second", b"550 first 451 second"),
+    (b"5.1.1 one\n5.1.10 two", b"5.1.1 one 5.1.10 two"),
+    (b"5.1.10 one\n5.1.1 two", b"5.1.10 one 5.1.1 two"),
+    (b"5500 one\n5500 two", b"5500 one 5500 two"),
+    (b"650 one\n650 two", b"650 one 650 two"),
+    (b"3.1.1 one\n3.1.1 two", b"3.1.1 one 3.1.1 two"),
+    (b"no\nno such user", b"no no such user"),
+    (b"550-no such user", b"550-no such user"),
+    (b" a  b ", b" a  b "),
+    (b"\r\n", b""),
+    (b"\xc3\xbc\n\xc3\xbc", b"\xc3\xbc \xc3\xbc"),
+    (b"550-" + 500 * b"x" + b"\r\n550 " + 500 * b"y", b"550 " + 500 * b"x" + b" " + 295 * b"y"),
+    (900 * b"\n" + b"550 no", b"550 no"),
+)
 
 
 @dataclass
 class Language:
-    """A language: what it needs, and the commands that build its driver, as a function of a folder."""
+    """A language: what it needs, the commands that build its driver, as a function of a folder, and the tools that read
+    its sources without a word."""
 
     name: str
     tools: tuple
     build: object
+    readers: tuple
 
 
 def of_python(_) -> list:
@@ -92,8 +134,8 @@ def of_go(room: Path) -> list:
     shutil.copy(DRIVERS / "driver.go", room / "go/driver.go")
     module = f"module driver\n\ngo 1.19\n\nrequire noticed v0.0.0\n\nreplace noticed => {CLIENTS}/go\n"
     (room / "go/go.mod").write_text(module)
-    environment = {**os.environ, "GOFLAGS": "-mod=mod", "GOPROXY": "off", "GOCACHE": str(room / "gocache")}
-    built(["go", "build", "-o", str(room / "go/driver"), "."], cwd=room / "go", env=environment)
+    os.environ |= {"GOFLAGS": "-mod=mod", "GOPROXY": "off", "GOCACHE": str(room / "gocache")}
+    built(["go", "build", "-o", str(room / "go/driver"), "."], cwd=room / "go")
     return [str(room / "go/driver")]
 
 
@@ -105,13 +147,17 @@ def of_rust(room: Path) -> list:
     return [str(room / "driver")]
 
 
+STRICT = "-std=c99 -Wall -Wextra -Wpedantic -Wconversion -Werror -fsyntax-only".split()
+# (py_compile would leave a file)
+COMPILE = "import pathlib; compile(pathlib.Path('noticed.py').read_text(), 'noticed.py', 'exec')"
 LANGUAGES = [
-    Language("python", (), of_python),
-    Language("c", ("gcc",), of_c),
-    Language("go", ("go",), of_go),
-    Language("rust", ("rustc",), of_rust),
-    Language("perl", ("perl",), of_perl),
+    Language("python", (), of_python, ([sys.executable, "-W", "error", "-c", COMPILE],)),
+    Language("c", ("gcc",), of_c, (["gcc", *STRICT, "noticed.c"], ["g++", "-fsyntax-only", "-Wall", "noticed.h"])),
+    Language("go", ("go",), of_go, (["gofmt", "-l", "."], ["go", "vet", "./..."])),
+    Language("rust", ("rustc",), of_rust, (["rustfmt", "--edition", "2021", "--check", "noticed.rs"],)),
+    Language("perl", ("perl",), of_perl, (["perl", "-wc", "Noticed.pm"], ["podchecker", "Noticed.pm"])),
 ]
+QUIET = {"Noticed.pm syntax OK\n", "Noticed.pm pod syntax OK.\n"}
 
 
 def built(words: list, **how):
@@ -145,7 +191,7 @@ class Driver:
 
 
 def line_of(kind: str, number: int = 0, **fields) -> str:
-    """A line of a driver. A flush says any number, and the null return path by its name, unless a field is left out."""
+    """A line of a driver."""
     words = [f"{name}={value.hex() if isinstance(value, bytes) else value}" for name, value in fields.items()]
     return " ".join([kind, str(number), *words])
 
@@ -173,7 +219,8 @@ def append_frame(number: int, recipient: bytes = b"x@y", **fields) -> bytes:
 
 
 def flush_frame(number: int, expected=1, return_path: bytes = b"ann@example.com", **fields) -> bytes:
-    """The frame of a flush, in version 3."""
+    """The frame of a flush, in version 3, worded as clients do unless they are told."""
+    fields = {"wording": OUTCOME_WORDS} | fields
     return frames.flush(number, 1, b"Q1", return_path, MOMENT, ARRIVAL, expected=expected, version=3, **fields)
 
 
@@ -189,11 +236,12 @@ def requests_in(description: str):
         if kind == "flush":
             fields["return_path"] = fields["return_path"] or b"<>"
             fields.setdefault("expected", frames.ANY_COUNT)
+            fields.setdefault("wording", 0)
         yield line_of(kind, place if number is None else number, **fields)
 
 
 def vectors(checks: Checks, name: str, words: list):
-    """The requests of the examples that are of version 3, and all answers."""
+    """The requests of the examples that are of version 3, without texts of several lines, and all answers."""
     compared = 0
     with Driver(words, "encode") as driver:
         for it in examples():
@@ -201,7 +249,7 @@ def vectors(checks: Checks, name: str, words: list):
             if None in lines and it.name != "exchange-with-refusal":
                 continue
             for line, body in zip(lines, sessions.frames(it.bytes("frames"), False)):
-                if line and body[0] == 3:
+                if line and body[0] == 3 and not OF_LINES.search(line):
                     wanted = frames.frame(body).hex()
                     checks.equal(f"{name}: {it.name}: {line}", driver.say(line), wanted)
                     compared += 1
@@ -266,21 +314,35 @@ def bounds(checks: Checks, name: str, words: list):
         cut = append_frame(7, diagnostic=b"d" * 800, reason=b"r" * 800).hex()
         checks.equal(f"{name}: long texts", driver.say(append(7, **long)), cut)
         checks.equal(f"{name}: a text of 65,536 bytes", driver.say(append(7, extensions=b"x" * 65_536)), "invalid")
+        for wording in (0, OUTCOME_WORDS):
+            made = flush_frame(7, wording=wording).hex()
+            checks.equal(f"{name}: wording {wording}", driver.say(flush(7, wording=wording)), made)
+        for text, sent in SAID:
+            made = append_frame(7, diagnostic=sent, reason=sent).hex()
+            checks.equal(f"{name}: {text[:90]}", driver.say(append(7, diagnostic=text, reason=text)), made)
     if name != "rust":  # whose types have no flush without them
         with Driver(words, "encode") as driver:
             for lacks in ("return_path", "moment", "arrival"):
                 line = " ".join(it for it in flush(7).split() if not it.startswith(f"{lacks}="))
                 checks.equal(f"{name}: a flush without its {lacks}", driver.say(line), "invalid")
+    if name in ("perl", "python"):  # the others have no such field
+        with Driver(words, "encode") as driver:
+            for line in (append(7, diagnostics=b"550 no"), append(7, Action=1), flush(7, last_attempt=MOMENT)):
+                checks.equal(f"{name}: a name that is unknown: {line}", driver.say(line), "invalid")
+    if name == "perl":
+        made = [*words[:1], f"-I{CLIENTS}/perl", "-MNoticed", "-e", "Noticed->new('socket', wait => 1)"]
+        ran = subprocess.run(made, capture_output=True, text=True, check=False, timeout=PATIENCE)
+        checks.true(f"{name}: a limit that is unknown", ran.stderr.startswith("invalid: unknown wait at "))
 
 
 class Pretender:
     """A daemon that serves one connection after another. For each it has a list: what it does for each frame that
     comes, the greeting's among them. `read` has each connection's frames."""
 
-    def __init__(self, connections: list, after: float = 0.0):
+    def __init__(self, connections: list, after: float = 0.0, path: str = ""):
         self.connections, self.after, self.read = connections, after, []
         self.room = tempfile.TemporaryDirectory(prefix="noticed-")
-        self.path = f"{self.room.name}/socket"
+        self.path = path or f"{self.room.name}/socket"
         self.listener = socket.socket(socket.AF_UNIX, socket.SOCK_STREAM)
         self.listener.settimeout(PATIENCE)
         if not after:
@@ -322,9 +384,13 @@ class Pretender:
     def __enter__(self):
         return self
 
-    def __exit__(self, *_):
+    def close(self):
+        """Ends it once its connections have ended."""
         self.thread.join(PATIENCE)
         self.listener.close()
+
+    def __exit__(self, *_):
+        self.close()
         self.room.cleanup()
 
 
@@ -380,9 +446,9 @@ def endings(checks: Checks, name: str, words: list):
     for value in (44, 46):
         refused = [GREETED, (REFUSED, value)]
         talk(checks, f"{name}: refused {value}", words, only, [refused, refused, done], [(one,)] * 3)
-    for reply, value in ((TABLE_FULL, 0), (REFUSED, 9), (REFUSED, 4), (CLOSED, 0)):
-        said = [(append(), f"{reply} {value} -")]
-        talk(checks, f"{name}: answered {reply} {value}", words, said, [[GREETED, (reply, value)]], [(one,)])
+    for reply in (TABLE_FULL, CLOSED):
+        said = [(append(), f"{reply} 0 -")]
+        talk(checks, f"{name}: answered {reply}", words, said, [[GREETED, (reply, 0)]], [(one,)])
     for reply, value in ((NOTHING, 0), (NO_RETURN, 1), (DIFFERS, 2), (CLOSED, 0)):
         said = [(flush(), f"{reply} {value} -")]
         talk(checks, f"{name}: a flush is answered {reply}", words, said, [[GREETED, (reply, value)]], [(flush_frame,)])
@@ -404,6 +470,20 @@ def endings(checks: Checks, name: str, words: list):
     for kind, make, reply in (("discard", discard_frame, CLOSED), ("forget", forget_frame, NOT_CLOSED)):
         said = [(key(kind), f"{reply} 0 -")]
         talk(checks, f"{name}: a {kind} again", words, said, [[GREETED, END], [GREETED, (reply, 0)]], [(make,)] * 2)
+
+
+def refusals(checks: Checks, name: str, words: list):
+    """A refused request is an error with the words of the fault."""
+    said = [(append(), f"refused {number}: {fault_words()[number]}") for number in REFUSALS]
+    steps = [GREETED, *((REFUSED, number) for number in REFUSALS)]
+    talk(checks, f"{name}: refusals", words, said, [steps], [(append_frame,) * len(REFUSALS)])
+    for line, make in ((flush(), flush_frame), (key("discard"), discard_frame), (key("forget"), forget_frame)):
+        said = [(line, f"refused 26: {fault_words()[26]}")]
+        talk(checks, f"{name}: a refusal", words, said, [[GREETED, (REFUSED, 26)]], [(make,)])
+    wanted = [(append_frame,), (count,)]
+    lost = [(append(place=2), "unanswered")]
+    steps = [[GREETED, END], [GREETED, (REFUSED, 9)]]
+    talk(checks, f"{name}: a count that is refused", words, lost, steps, wanted)
 
 
 def places(checks: Checks, name: str, words: list):
@@ -429,7 +509,7 @@ def places(checks: Checks, name: str, words: list):
 
 def unreachable(checks: Checks, name: str, words: list):
     """No socket, one that nobody listens on, and one whose queue is full."""
-    limits = ("0.3", "1", "1", "1", "0.5")
+    limits = ("0.3", "1", "1", "1", "0.5", "0.5")
     with tempfile.TemporaryDirectory() as room, contextlib.ExitStack() as left:
         unheard = socket.socket(socket.AF_UNIX, socket.SOCK_STREAM)
         unheard.bind(f"{room}/unheard")
@@ -445,6 +525,41 @@ def unreachable(checks: Checks, name: str, words: list):
         for what in ("none", "unheard", "full"):
             with Driver(words, "carry", f"{room}/{what}", *limits) as driver:
                 checks.equal(f"{name}: {what}", [driver.say(append(place=0)), driver.say(flush())], ["unreachable"] * 2)
+
+
+def paths(checks: Checks, name: str, words: list):
+    """A path of 107 bytes has a daemon, a longer one none at once. While no daemon was reached a request has a limit of
+    its own, and once one was reached the longer one."""
+    with tempfile.TemporaryDirectory(prefix="noticed-") as room:
+        longest = f"{room}/{'s' * (LONGEST_PATH - len(room) - 1)}"
+        with Pretender([[GREETED, (LOGGED, 0)]], path=longest), Driver(words, "carry", longest, *LIMITS) as driver:
+            checks.equal(f"{name}: a path of {LONGEST_PATH} bytes", driver.say(append()), f"{LOGGED} 0 -")
+        began = time.monotonic()
+        with Driver(words, "carry", f"{longest}s", *LIMITS) as driver:
+            checks.equal(f"{name}: a longer one", [driver.say(append()), driver.say(flush())], ["path"] * 2)
+        checks.true(f"{name}: at once", time.monotonic() - began < 5)
+    with Pretender([[GREETED, (LOGGED, 0)]]) as daemon:
+        with Driver(words, "carry", daemon.path, "2", "2", "2", "2", "3", "0.2") as driver:
+            checks.equal(f"{name}: a daemon", [driver.say(append()), driver.say("close")], [f"{LOGGED} 0 -", "closed"])
+            daemon.close()
+            began = time.monotonic()
+            checks.equal(f"{name}: that is gone", driver.say(flush()), "unreachable")
+            checks.true(f"{name}: the longer limit", 1 < time.monotonic() - began < PATIENCE)
+
+
+class NeverReached(threading.Thread):
+    """A client with its own limits, which asks where no daemon is."""
+
+    def __init__(self, words: list):
+        super().__init__()
+        self.words, self.said, self.took = words, "", 0.0
+
+    def run(self):
+        with tempfile.TemporaryDirectory(prefix="noticed-") as room:
+            with Driver(self.words, "carry", f"{room}/none") as driver:
+                began = time.monotonic()
+                self.said = driver.say(append())
+                self.took = time.monotonic() - began
 
 
 def killed(checks: Checks, name: str, words: list):
@@ -506,12 +621,21 @@ def killed(checks: Checks, name: str, words: list):
         checks.equal(f"{name}: each outcome is in one notice, once", found, made)
 
 
+def read_over(checks: Checks, language: Language):
+    """The tools of a language read its client, as strictly as they can, and have nothing to say."""
+    for words in language.readers:
+        if not shutil.which(words[0]):
+            checks.skip(f"{language.name} as {words[0]} reads it")
+            continue
+        how = {"capture_output": True, "text": True, "check": False, "timeout": 600}
+        ran = subprocess.run(words, cwd=CLIENTS / language.name, **how)
+        said = "" if ran.stdout + ran.stderr in QUIET else ran.stdout + ran.stderr
+        checks.equal(f"{language.name}: {' '.join(words[:2])}", (ran.returncode, said), (0, ""))
+
+
 def main():
     checks = Checks("clients: those of clients/ on the examples, against false daemons, and beside one that is killed")
     named = sys.argv[1:]
-    for name, most in LINES.items():
-        lines = len((CLIENTS / name / MAIN_FILES.get(name, f"noticed.{name}")).read_text().splitlines())
-        checks.true(f"{name}: a client that is read in one go: {lines} lines", lines <= most)
     for it in LANGUAGES:
         lacking = [tool for tool in it.tools if not shutil.which(tool)]
         if named and it.name not in named:
@@ -521,8 +645,14 @@ def main():
             continue
         with tempfile.TemporaryDirectory(prefix="noticed-clients-") as room:
             words, began = it.build(Path(room)), time.monotonic()
-            for check in (vectors, answers, bounds, endings, places, unreachable, killed):
+            read_over(checks, it)
+            never = NeverReached(words)
+            never.start()
+            for check in (vectors, answers, bounds, endings, refusals, places, unreachable, paths, killed):
                 check(checks, it.name, words)
+            never.join(PATIENCE)
+            checks.equal(f"{it.name}: no daemon, with its own limits", never.said, "unreachable")
+            checks.true(f"{it.name}: after {never.took:.1f} seconds", REACHED / 2 < never.took < 2 * REACHED)
             print(f"  {it.name}: {time.monotonic() - began:.0f} seconds", flush=True)
     checks.done()
 

@@ -6,8 +6,11 @@
  *     struct noticed_outcome outcome = { .recipient = "bob@example.org", .action = NOTICED_FAILED, .status = "5.1.1" };
  *     struct noticed_notice notice = { .return_path = "ann@example.com", .moment = now, .arrival = arrived, .expected = 1 };
  *     noticed_init(&client, "/run/noticed/socket");
- *     if (noticed_append(&client, key, &outcome, 0, &answer) == NOTICED_OK && answer.reply == NOTICED_LOGGED)
+ *     enum noticed_error error = noticed_append(&client, key, &outcome, 0, &answer);
+ *     if (error == NOTICED_OK && answer.reply == NOTICED_LOGGED)
  *         error = noticed_flush(&client, key, &notice, &answer);
+ *     if (error != NOTICED_OK)
+ *         fprintf(stderr, "%s\n", noticed_words(error, &answer));
  *     noticed_close(&client);
  *
  * The fields are those of noticed-protocol(5), version 3: the daemon tests their values. A null pointer is an empty text.
@@ -30,8 +33,9 @@ enum { NOTICED_BOUNCE = 1, NOTICED_DEFER, NOTICED_TRACE }; /* services: for fail
 enum { NOTICED_FAILED = 1, NOTICED_DELAYED, NOTICED_DELIVERED, NOTICED_RELAYED, NOTICED_EXPANDED }; /* actions */
 enum { NOTICED_HEADER, NOTICED_MESSAGE, NOTICED_EIGHT_BIT_MESSAGE, /* the third: if the next server offers 8BITMIME */
        NOTICED_MESSAGE_OR_HEADER };                                   /* its header alone if it is too long */
-enum { NOTICED_BY_SERVICE, NOTICED_BY_OUTCOME };                      /* how words are chosen */
-enum { NOTICED_LONGEST_FRAME = 65536, NOTICED_LONGEST_HEADER = 32768, NOTICED_LONGEST_TEXT = 800, NOTICED_NO_PLACE = -1 };
+enum { NOTICED_BY_OUTCOME = 1, NOTICED_BY_SERVICE };                  /* how words are chosen; 0 too is by the outcome */
+enum { NOTICED_LONGEST_FRAME = 65536, NOTICED_LONGEST_HEADER = 32768, NOTICED_LONGEST_TEXT = 800,
+       NOTICED_LONGEST_PATH = 107, NOTICED_NO_PLACE = -1 };
 #define NOTICED_NULL_PATH "<>"  /* the null return path, which gets no notice; an empty path is an error */
 #define NOTICED_ANY UINT32_MAX  /* expected: any number of outcomes */
 
@@ -46,7 +50,7 @@ enum noticed_reply {
     NOTICED_SEALED = 7,     /* a notice of value outcomes is made */
     NOTICED_DISCARDED = 8,  /* the log of value outcomes is dropped */
     NOTICED_GONE = 9,       /* never sent */
-    NOTICED_REFUSED = 10,   /* nothing was changed; after 9 (no memory) try later; else value is the request's fault */
+    NOTICED_REFUSED = 10,   /* nothing was changed; the error is NOTICED_REFUSAL */
     NOTICED_FORGOTTEN = 11, /* the key is free */
     NOTICED_NOT_CLOSED = 12, /* the log is open, or was forgotten before */
     NOTICED_DIFFERS = 13    /* nothing was changed; the log has value outcomes: append what is missing, and flush */
@@ -57,7 +61,9 @@ enum noticed_error {
     NOTICED_INVALID,     /* too long, or a flush without a return path, moment or arrival */
     NOTICED_UNREACHABLE, /* no daemon in time: keep the message, and try again with the next run of your queue */
     NOTICED_UNANSWERED,  /* an append was sent and not answered: it may be logged */
-    NOTICED_DENIED       /* no permission to connect */
+    NOTICED_DENIED,      /* no permission to connect */
+    NOTICED_LONG_PATH,   /* no socket has so long a path */
+    NOTICED_REFUSAL      /* nothing was changed; answer.value is the number: after 9 try later, else correct the request */
 };
 
 struct noticed_key {
@@ -68,7 +74,7 @@ struct noticed_key {
 /* What happened to a recipient. A moment is seconds since 1970, 0 for none; extensions are lines that LF ends. */
 struct noticed_outcome {
     const char *recipient, *status, *original_recipient, *remote_mta;
-    const char *diagnostic, *reason; /* cut after NOTICED_LONGEST_TEXT bytes */
+    const char *diagnostic, *reason; /* several lines are sent as one, which is cut after NOTICED_LONGEST_TEXT bytes */
     const char *recipient_type, *original_type, *diagnostic_type, *extensions;
     uint64_t last_attempt, retry_until;
     uint8_t action;
@@ -90,16 +96,16 @@ struct noticed_answer {
     uint64_t serial; /* of a notice: a part of its Message-ID */
 };
 
-/* Milliseconds to send a request, until a worker is free, until an answer, for all tries of a request. A connect does
- * not wait. */
+/* Milliseconds to send a request, until a worker is free, until an answer, for all tries of a request, and for all of
+ * them while no daemon was ever reached. A connect does not wait. */
 struct noticed_limits {
-    int send, worker, answer, request;
+    int send, worker, answer, request, reach;
 };
 
 struct noticed_client {
     struct noticed_limits limits;
     const char *path; /* not copied */
-    int stream, is_silent;
+    int stream, is_silent, is_reached;
     uint32_t number;
     unsigned char frame[4 + NOTICED_LONGEST_FRAME];
 };
@@ -116,6 +122,9 @@ enum noticed_error noticed_flush(struct noticed_client *, struct noticed_key, co
 enum noticed_error noticed_discard(struct noticed_client *, struct noticed_key, struct noticed_answer *);
 /* Do it when no late outcome of the message can come. */
 enum noticed_error noticed_forget(struct noticed_client *, struct noticed_key, struct noticed_answer *);
+
+/* What an error means, in words; those of a refusal by its answer. */
+const char *noticed_words(enum noticed_error error, const struct noticed_answer *answer);
 
 /* Each writes a frame of at most 4 + NOTICED_LONGEST_FRAME bytes, and returns its size, or 0 if it is invalid. */
 size_t noticed_encode_append(unsigned char *to, uint32_t number, struct noticed_key, const struct noticed_outcome *);

@@ -3,7 +3,11 @@
 //	client, key := noticed.New("/run/noticed/socket"), noticed.Key{Service: noticed.Bounce, QueueID: "A1B2C3"}
 //	defer client.Close()
 //	answer, err := client.Append(key, noticed.Outcome{Recipient: "bob@example.org", Action: noticed.Failed, Status: "5.1.1"}, 0)
-//	answer, err = client.Flush(key, noticed.Notice{ReturnPath: "ann@example.com", Moment: now, Arrival: arrived, Expected: 1})
+//	if err == nil && answer.Reply == noticed.Logged {
+//		answer, err = client.Flush(key, noticed.Notice{ReturnPath: "ann@example.com", Moment: now, Arrival: arrived, Expected: 1})
+//	}
+//
+// The constants say what each answer means, and what to do. A request that the daemon refuses returns a RefusedError.
 //
 // The fields are those of noticed-protocol(5), version 3: the daemon tests their values. Open a client for one message,
 // then close it: it occupies a worker of the daemon. Goroutines cannot share one.
@@ -23,6 +27,8 @@ import (
 	"net"
 	"os"
 	"regexp"
+	"strings"
+	"syscall"
 	"time"
 )
 
@@ -34,8 +40,9 @@ const (
 	NullPath                                          = "<>"          // the null return path, which gets no notice
 	Any                                               = 1<<32 - 1     // Expected: any number of outcomes
 	Header, Message, EightBitMessage, MessageOrHeader = 0, 1, 2, 3    // Returned; third: for 8BITMIME; last: its header if too long
-	ByService, ByOutcome                              = 0, 1          // Wording: how words are chosen
+	ByOutcome, ByService                              = 1, 2          // Wording: how words are chosen; 0 too is by the outcome
 	LongestFrame, LongestHeader, LongestText          = 65_536, 32_768, 800
+	LongestPath                                       = 107 // bytes of the socket's path
 
 	Logged    = 1  // behind Value others. If that is below the place, the daemon lost outcomes: append them again
 	Closed    = 2  // the log takes no more. After a flush: the notice is made
@@ -46,7 +53,7 @@ const (
 	Sealed    = 7  // a notice of Value outcomes is made
 	Discarded = 8  // the log of Value outcomes is dropped
 	Gone      = 9  // never sent
-	Refused   = 10 // nothing was changed. After 9 (no memory) try later; another Value is the fault of the request
+	Refused   = 10 // nothing was changed; returned as a RefusedError
 	Forgotten = 11 // the key is free
 	NotClosed = 12 // the log is open, or was forgotten before
 	Differs   = 13 // nothing was changed. The log has Value outcomes: if too few, append what is missing, and flush
@@ -57,8 +64,56 @@ var (
 	ErrInvalid     = errors.New("the request cannot be encoded")
 	ErrUnreachable = errors.New("no daemon carried the request out in time")
 	ErrUnanswered  = errors.New("an append was sent and not answered: it may be logged")
-	emptyLine      = regexp.MustCompile(`(?m)^\r?\n`)
+	ErrPathTooLong = errors.New("the socket's path is longer than 107 bytes")
 )
+
+var (
+	emptyLine  = regexp.MustCompile(`(?m)^\r?\n`)
+	lineBreaks = regexp.MustCompile(`[\r\n]+`)
+	codes      = regexp.MustCompile(`^(?:([2-5]\d\d)(?:[ -] *|$))?(?:([245]\.\d{1,3}\.\d{1,3})(?:[ -]|$))?`) // 550 5.1.1
+)
+
+// RefusedError says that the daemon refused the request, which changed nothing. If Number is 9 try later; otherwise
+// correct the request.
+type RefusedError struct{ Number uint32 }
+
+func (e *RefusedError) Error() string {
+	words, isKnown := faults[e.Number]
+	if !isKnown {
+		words = "see noticed help faults"
+	}
+	return fmt.Sprintf("refused %d: %s", e.Number, words)
+}
+
+// faults has the words of the numbers that a refusal may have.
+var faults = map[uint32]string{
+	1:  "the final recipient is not an address",
+	2:  "the original recipient is neither empty nor an address",
+	3:  "the action is unknown, or the service's log takes none of it",
+	4:  "the status is not a status code",
+	5:  "the class of the status does not fit the action",
+	6:  "the remote system's name is neither empty nor a name",
+	7:  "the diagnostic is too long",
+	8:  "the reason is too long",
+	9:  "memory was refused",
+	10: "a time until which delivery is retried, for a recipient that is not delayed",
+	15: "the type of the final recipient is neither empty nor the name of a type",
+	16: "the type of the original recipient is malformed, or there is no original recipient",
+	17: "the type of the diagnostic is malformed, or there is no diagnostic",
+	18: "it is unknown whether the header field holds the header or the message",
+	19: "the wording of a notice is unknown",
+	20: "the extension fields are malformed",
+	21: "the version of a request is unknown",
+	22: "the kind of a request, or of an answer's reply, is unknown",
+	23: "a request ends before its fields do",
+	24: "bytes follow the last field of a request",
+	25: "the service is unknown",
+	26: "the queue id is malformed",
+	27: "a moment is after the year 9999",
+	28: "the returned header is too long",
+	29: "the return path is neither empty nor an address",
+	30: "the envelope id is neither empty nor valid",
+}
 
 // Key names a log.
 type Key struct {
@@ -66,7 +121,8 @@ type Key struct {
 	QueueID string
 }
 
-// Outcome is what happened to a recipient. A zero time is none; Extensions are lines that LF ends.
+// Outcome is what happened to a recipient. A zero time is none; Extensions are lines that LF ends. A Diagnostic or Reason
+// of several lines is sent as one line.
 type Outcome struct {
 	Recipient, Status, OriginalRecipient, RemoteMTA, Diagnostic, Reason string
 	Action                                                              byte
@@ -89,8 +145,9 @@ type Answer struct {
 	Serial int64
 }
 
-// Limits are those to connect, to send a request, until a worker is free, until an answer, for all tries of a request.
-type Limits struct{ Connect, Send, Worker, Answer, Request time.Duration }
+// Limits are those to connect, to send a request, until a worker is free, until an answer, for all tries of a request,
+// and for all of them while no daemon was ever reached.
+type Limits struct{ Connect, Send, Worker, Answer, Request, Reach time.Duration }
 
 func texts(to []byte, texts ...string) []byte {
 	for _, it := range texts {
@@ -106,10 +163,51 @@ func moment(to []byte, it time.Time) []byte {
 	return binary.BigEndian.AppendUint64(to, uint64(it.Unix()))
 }
 
+// oneLine makes one line of a text of several. Each line of a reply repeats the reply code (RFC 5321 section 4.2.1), and
+// often the status: both are kept once. Line ends become a space; the daemon would make each of their bytes a question mark.
+func oneLine(text string) string {
+	if !strings.ContainsAny(text, "\r\n") {
+		return text
+	}
+	code, status, parts := "", "", []string{}
+	for _, line := range lineBreaks.Split(text, -1) {
+		if line = strings.Trim(line, " \t"); line == "" {
+			continue
+		}
+		if len(parts) == 0 {
+			found := codes.FindStringSubmatch(line)
+			code, status = found[1], found[2]
+			parts = append(parts, code, behind(line, code))
+			continue
+		}
+		parts = append(parts, behind(behind(line, code), status))
+	}
+	said := ""
+	for _, part := range parts {
+		if said != "" && part != "" {
+			said += " "
+		}
+		said += part
+	}
+	return said
+}
+
+// behind returns a line without a code that it begins with.
+func behind(line, code string) string {
+	rest := strings.TrimPrefix(line, code)
+	switch {
+	case code == "" || rest == line || rest != "" && rest[0] != ' ' && rest[0] != '-':
+		return line
+	case rest == "":
+		return ""
+	}
+	return strings.TrimLeft(rest[1:], " ")
+}
+
 // EncodeAppend returns the frame of an append. Each Encode returns ErrInvalid if it is longer than a frame may be.
 func EncodeAppend(number uint32, key Key, it Outcome) ([]byte, error) {
 	for _, text := range []*string{&it.Diagnostic, &it.Reason} {
-		if len(*text) > LongestText {
+		if *text = oneLine(*text); len(*text) > LongestText {
 			*text = (*text)[:LongestText]
 		}
 	}
@@ -134,8 +232,19 @@ func EncodeFlush(number uint32, key Key, it Notice) ([]byte, error) {
 		it.ReturnPath = ""
 	}
 	to := texts(moment(moment(nil, it.Moment), it.Arrival), it.ReturnPath, it.EnvelopeID, it.Header)
-	to = append(binary.BigEndian.AppendUint32(to, it.Expected), it.Returned, it.Wording)
+	to = append(binary.BigEndian.AppendUint32(to, it.Expected), it.Returned, onWire(it.Wording))
 	return Encode(2, number, key, texts(to, it.Extensions))
+}
+
+// onWire returns the byte of a Wording, in which 0 is by the service.
+func onWire(wording byte) byte {
+	switch wording {
+	case 0:
+		return ByOutcome
+	case ByService:
+		return 0
+	}
+	return wording
 }
 
 // Encode returns the frame of a request of any kind: 1 append, 2 flush, 3 discard, 4 forget.
@@ -166,16 +275,17 @@ func Decode(from io.Reader) (uint32, Answer, error) {
 
 // Client carries requests out. Its methods return the answer, or one of the errors above, or os.ErrPermission.
 type Client struct {
-	Limits Limits
-	path   string
-	conn   net.Conn
-	number uint32
-	silent bool // why the last request has no answer: else the connection ended
+	Limits  Limits
+	path    string
+	conn    net.Conn
+	number  uint32
+	reached bool // whether a daemon ever was
+	silent  bool // why the last request has no answer: else the connection ended
 }
 
 // New returns a client of the daemon at this socket, with the limits that noticed-protocol(5) recommends.
 func New(path string) *Client {
-	limits := Limits{5 * time.Second, 30 * time.Second, time.Minute, 30 * time.Second, 5 * time.Minute}
+	limits := Limits{5 * time.Second, 30 * time.Second, time.Minute, 30 * time.Second, 5 * time.Minute, 10 * time.Second}
 	return &Client{Limits: limits, path: path}
 }
 
@@ -220,17 +330,30 @@ func (c *Client) ask(frame []byte, err error) (Answer, error) {
 	if err != nil {
 		return Answer{}, err
 	}
-	pause, until := 50*time.Millisecond, time.Now().Add(c.Limits.Request)
+	if len(c.path) > LongestPath {
+		return Answer{}, fmt.Errorf("%w: %s", ErrPathTooLong, c.path)
+	}
+	pause, began := 50*time.Millisecond, time.Now()
 	for {
 		answer, err := c.try(frame)
-		if err == nil && (answer.Reply != Refused || answer.Value != 44 && answer.Value != 46) {
+		if err == nil && answer.Reply != Refused {
 			return answer, nil
 		}
-		c.Close() // after 44 and 46 too: use another connection
+		if err == nil {
+			err = &RefusedError{answer.Value}
+			if answer.Value != 44 && answer.Value != 46 { // after these two another connection serves
+				return Answer{}, err
+			}
+		}
+		c.Close()
 		if errors.Is(err, os.ErrPermission) || frame[5] == 1 && errors.Is(err, ErrUnanswered) {
 			return Answer{}, err
 		}
-		if time.Now().Add(pause).After(until) {
+		limit := c.Limits.Request
+		if !c.reached && c.Limits.Reach < limit {
+			limit = c.Limits.Reach
+		}
+		if time.Since(began)+pause > limit {
 			return Answer{}, fmt.Errorf("%w: %s: %v", ErrUnreachable, c.path, err)
 		}
 		time.Sleep(pause)
@@ -243,6 +366,8 @@ func (c *Client) ask(frame []byte, err error) (Answer, error) {
 func (c *Client) try(frame []byte) (Answer, error) {
 	if c.conn == nil {
 		conn, err := net.DialTimeout("unix", c.path, c.Limits.Connect)
+		// EAGAIN: the queue of the socket is full, so a daemon listens
+		c.reached = c.reached || err == nil || errors.Is(err, syscall.EAGAIN) || errors.Is(err, os.ErrDeadlineExceeded)
 		if err != nil {
 			return Answer{}, err
 		}

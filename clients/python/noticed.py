@@ -2,8 +2,11 @@
 
     key = BOUNCE, "A1B2C3"
     with Client("/run/noticed/socket") as client:
-        client.append(key, Outcome("bob@example.org", FAILED, "5.1.1", diagnostic="550 no such user"), place=0)
-        client.flush(key, Notice("ann@example.com", moment=now, arrival=arrived, expected=1, header=header))
+        logged = client.append(key, Outcome("bob@example.org", FAILED, "5.1.1", diagnostic="550 no such user"), place=0)
+        if logged.reply == Reply.LOGGED:
+            made = client.flush(key, Notice("ann@example.com", moment=now, arrival=arrived, expected=1, header=header))
+
+Reply says what each answer means, and what to do. A request that the daemon refuses raises Refused.
 
 The fields are those of noticed-protocol(5), version 3: the daemon tests their values. A str is sent as UTF-8. Open a
 client for one message, then close it: it occupies a worker of the daemon. Threads cannot share one.
@@ -15,6 +18,7 @@ many outcomes you logged there before. When the connection has ended, the client
 the outcome is missing. Otherwise append raises Unanswered: discard and forget the log, then append all again."""
 import contextlib
 import enum
+import os
 import re
 import socket
 import struct
@@ -28,8 +32,9 @@ FAILED, DELAYED, DELIVERED, RELAYED, EXPANDED = 1, 2, 3, 4, 5  # actions
 NULL_PATH = "<>"  # the null return path, which gets no notice; an empty path is an error
 ANY = 0xFFFFFFFF  # expected: any number of outcomes
 HEADER, MESSAGE, EIGHT_BIT_MESSAGE, MESSAGE_OR_HEADER = range(4)  # third: for 8BITMIME; last: its header if too long
-BY_SERVICE, BY_OUTCOME = 0, 1  # `wording`: how words are chosen
+BY_SERVICE, BY_OUTCOME = 0, 1  # `wording`: how words are chosen; by the outcome they say why and what to do
 LONGEST_FRAME, LONGEST_HEADER, LONGEST_TEXT = 65_536, 32_768, 800  # bytes; a longer diagnostic or reason is cut
+LONGEST_PATH = 107  # bytes of the socket's path
 
 
 class Reply(enum.IntEnum):  # what an answer says, and what to do
@@ -42,7 +47,7 @@ class Reply(enum.IntEnum):  # what an answer says, and what to do
     SEALED = 7  # a notice of `value` outcomes is made
     DISCARDED = 8  # the log of `value` outcomes is dropped
     GONE = 9  # never sent
-    REFUSED = 10  # nothing was changed. After 9 (no memory) try later; another `value` is the fault of the request
+    REFUSED = 10  # nothing was changed; raises Refused
     FORGOTTEN = 11  # the key is free
     NOT_CLOSED = 12  # the log is open, or was forgotten before
     DIFFERS = 13  # nothing was changed. The log has `value` outcomes: if too few, append what is missing, and flush
@@ -56,6 +61,48 @@ class Unanswered(Exception):
     """An append was sent and not answered: it may be logged."""
 
 
+class PathTooLong(ValueError):
+    """No socket has so long a path."""
+
+
+class Refused(Exception):
+    """The daemon refused the request, which changed nothing. If `number` is 9 try later; otherwise correct the request."""
+
+    def __init__(self, number: int):
+        super().__init__(f"refused {number}: {FAULTS.get(number, 'see noticed help faults')}")
+        self.number = number
+
+
+FAULTS = {  # the numbers of a Refused
+    1: "the final recipient is not an address",
+    2: "the original recipient is neither empty nor an address",
+    3: "the action is unknown, or the service's log takes none of it",
+    4: "the status is not a status code",
+    5: "the class of the status does not fit the action",
+    6: "the remote system's name is neither empty nor a name",
+    7: "the diagnostic is too long",
+    8: "the reason is too long",
+    9: "memory was refused",
+    10: "a time until which delivery is retried, for a recipient that is not delayed",
+    15: "the type of the final recipient is neither empty nor the name of a type",
+    16: "the type of the original recipient is malformed, or there is no original recipient",
+    17: "the type of the diagnostic is malformed, or there is no diagnostic",
+    18: "it is unknown whether the header field holds the header or the message",
+    19: "the wording of a notice is unknown",
+    20: "the extension fields are malformed",
+    21: "the version of a request is unknown",
+    22: "the kind of a request, or of an answer's reply, is unknown",
+    23: "a request ends before its fields do",
+    24: "bytes follow the last field of a request",
+    25: "the service is unknown",
+    26: "the queue id is malformed",
+    27: "a moment is after the year 9999",
+    28: "the returned header is too long",
+    29: "the return path is neither empty nor an address",
+    30: "the envelope id is neither empty nor valid",
+}
+
+
 class Answer(NamedTuple):
     """An answer; that of a notice has its serial, which is part of the Message-ID."""
 
@@ -65,17 +112,20 @@ class Answer(NamedTuple):
 
 
 class Limits(NamedTuple):
-    """Seconds: to connect, to send a request, until a worker is free, until an answer, for all tries of a request."""
+    """Seconds: to connect, to send a request, until a worker is free, until an answer, for all tries of a request, and
+    for all of them while no daemon was ever reached."""
 
     connect: float = 5
     send: float = 30
     worker: float = 60
     answer: float = 30
     request: float = 300
+    reach: float = 10
 
 
 class Outcome(NamedTuple):
-    """What happened to a recipient. A moment is seconds since 1970; extensions are lines that LF ends."""
+    """What happened to a recipient. A moment is seconds since 1970; extensions are lines that LF ends. A diagnostic or
+    reason of several lines is sent as one line."""
 
     recipient: Text
     action: int
@@ -94,7 +144,7 @@ class Outcome(NamedTuple):
     def fields(self) -> bytes:
         """What an append has behind its key."""
         moments = [2**64 - 1 if it is None else it for it in (self.last_attempt, self.retry_until)]
-        said = [_bytes(it)[:LONGEST_TEXT] for it in (self.diagnostic, self.reason)]
+        said = [_one_line(it)[:LONGEST_TEXT] for it in (self.diagnostic, self.reason)]
         made = _texts(self.original_recipient, self.recipient) + struct.pack(">B", self.action)
         made += _texts(self.status, self.remote_mta, *said) + struct.pack(">QQ", *moments)
         return made + _texts(self.recipient_type, self.original_type, self.diagnostic_type, self.extensions)
@@ -110,7 +160,7 @@ class Notice(NamedTuple):
     envelope_id: Text = ""
     header: Text = ""
     returned: int = HEADER
-    wording: int = BY_SERVICE
+    wording: int = BY_OUTCOME
     extensions: Text = ""
 
     def fields(self) -> bytes:
@@ -129,6 +179,26 @@ class Notice(NamedTuple):
 
 def _bytes(value: Text) -> bytes:
     return value.encode() if isinstance(value, str) else value
+
+
+CODES = re.compile(rb"(?:([2-5]\d\d)(?:[ -] *|\Z))?(?:([245]\.\d{1,3}\.\d{1,3})(?:[ -]|\Z))?")  # 550 5.1.1
+
+
+def _one_line(text: Text) -> bytes:
+    """A text of several lines as one. Each line of a reply repeats the reply code (RFC 5321 section 4.2.1), and often the
+    status: both are kept once. Line ends become a space; the daemon would make each of their bytes a question mark."""
+    said = _bytes(text)
+    if not re.search(rb"[\r\n]", said):
+        return said
+    lines = [it for it in (line.strip(b" \t") for line in re.split(rb"[\r\n]+", said)) if it] or [b""]
+    code, status = CODES.findall(lines[0])[0]
+    first, *others = (_behind(it, code) for it in lines)
+    return b" ".join(it for it in (code, first, *(_behind(it, status) for it in others)) if it)
+
+
+def _behind(line: bytes, code: bytes) -> bytes:
+    """A line without a code that it begins with."""
+    return re.sub(rb"\A" + re.escape(code) + rb"(?:[ -] *|\Z)", b"", line) if code else line
 
 
 def _texts(*values: Text) -> bytes:
@@ -151,14 +221,21 @@ def decode(body: bytes) -> tuple[int, Answer]:
     return number, Answer(Reply(body[1]), value, serial if len(body) == 18 else None)
 
 
-class Client(contextlib.AbstractContextManager):
-    """Carries requests out. Its methods return the answer, or raise Unreachable, PermissionError, or as encode does."""
+class Client:
+    """Carries requests out. Its methods return the answer, or raise Refused, Unreachable, PermissionError, or as encode
+    does. PathTooLong if the path of the socket is."""
 
     def __init__(self, path: str, limits: Limits = Limits()):
+        if len(os.fsencode(path)) > LONGEST_PATH:
+            raise PathTooLong(f"the socket's path is longer than {LONGEST_PATH} bytes: {path}")
         self._path, self._limits, self._number = path, limits, 0
         self._stream: socket.socket | None = None
+        self._is_reached = False  # whether a daemon ever was
 
-    def __exit__(self, *_) -> None:
+    def __enter__(self) -> "Client":
+        return self
+
+    def __exit__(self, *_: object) -> None:
         self.close()
 
     def close(self) -> None:
@@ -176,7 +253,7 @@ class Client(contextlib.AbstractContextManager):
                 if place is None or isinstance(why.__cause__, TimeoutError):
                     raise
                 found = place + 2  # unless a daemon says
-                with contextlib.suppress(Unreachable):
+                with contextlib.suppress(Unreachable, Refused):
                     found = self.flush(key, Notice(NULL_PATH, 0, 0, ANY - 1)).value  # DIFFERS: no log has so many
                 if found == place + 1:
                     return Answer(Reply.LOGGED, place)
@@ -196,15 +273,17 @@ class Client(contextlib.AbstractContextManager):
         return self._ask(encode(4, 0, key))
 
     def _ask(self, frame: bytes, again: bool = True) -> Answer:
-        pause, until = 0.05, time.monotonic() + self._limits.request
+        pause, began = 0.05, time.monotonic()
         while True:
             try:
                 if not self._stream:
                     self._connect()
                 frame = frame[:6] + struct.pack(">I", self._number) + frame[10:]
                 answer = self._exchange(frame, self._limits.answer)
-                if answer[:2] not in ((Reply.REFUSED, 44), (Reply.REFUSED, 46)):  # use another connection
+                if answer.reply != Reply.REFUSED:
                     return answer
+                if answer.value not in (44, 46):  # after these two another connection serves
+                    raise Refused(answer.value)
                 self.close()
                 why: object = answer
             except (OSError, Unanswered) as failed:
@@ -212,7 +291,8 @@ class Client(contextlib.AbstractContextManager):
                 if isinstance(failed, PermissionError) or isinstance(failed, Unanswered) and not again:
                     raise
                 why = failed
-            if time.monotonic() + pause > until:
+            limit = self._limits.request if self._is_reached else min(self._limits.reach, self._limits.request)
+            if time.monotonic() + pause > began + limit:
                 raise Unreachable(f"{self._path}: {why}")
             time.sleep(pause)
             pause = min(2 * pause, 5)
@@ -220,7 +300,12 @@ class Client(contextlib.AbstractContextManager):
     def _connect(self) -> None:
         self._stream, self._number = socket.socket(socket.AF_UNIX, socket.SOCK_STREAM), 0
         self._stream.settimeout(self._limits.connect)
-        self._stream.connect(self._path)
+        try:
+            self._stream.connect(self._path)
+        except (BlockingIOError, TimeoutError):  # the queue of the socket is full: a daemon listens
+            self._is_reached = True
+            raise
+        self._is_reached = True
         try:
             # a frame that is refused: its answer says that a worker is there
             self._exchange(b"\0\0\0\1\0", self._limits.worker)

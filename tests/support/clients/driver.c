@@ -58,7 +58,7 @@ static void field(const char *name, char *value)
     if (strcmp(name, "arrival") == 0) notice.arrival = given;
     if (strcmp(name, "expected") == 0) notice.expected = (uint32_t)given;
     if (strcmp(name, "returned") == 0) notice.returned = (uint8_t)given;
-    if (strcmp(name, "wording") == 0) notice.wording = (uint8_t)given;
+    if (strcmp(name, "wording") == 0) notice.wording = given == 0 ? NOTICED_BY_SERVICE : (uint8_t)given;
     if (strcmp(name, "place") == 0) place = (int)given;
 }
 
@@ -112,7 +112,7 @@ static void decode(char *line)
 
 static void carry(char *line)
 {
-    static const char *const words[] = { "ok", "invalid", "unreachable", "unanswered", "denied" };
+    static const char *const words[] = { "ok", "invalid", "unreachable", "unanswered", "denied", "path" };
     struct noticed_answer answer;
     if (strcmp(line, "close") == 0) {
         noticed_close(&client);
@@ -126,6 +126,8 @@ static void carry(char *line)
                                               : noticed_forget(&client, key, &answer);
     if (error == NOTICED_OK)
         show(&answer);
+    else if (error == NOTICED_REFUSAL)
+        printf("refused %lu: %s\n", (unsigned long)answer.value, noticed_words(error, &answer));
     else
         puts(words[error]);
 }
@@ -133,12 +135,12 @@ static void carry(char *line)
 int main(int argc, char **argv)
 {
     static char line[400000];
-    if (argc == 8) {
+    if (argc > 2)
         noticed_init(&client, argv[2]);
-        int *limits[] = { &client.limits.send, &client.limits.worker, &client.limits.answer, &client.limits.request };
-        for (int at = 0; at < 4; at++)
-            *limits[at] = (int)(1000 * atof(argv[4 + at])); /* the first is to connect, which does not wait here */
-    }
+    int *limits[] = { &client.limits.send, &client.limits.worker, &client.limits.answer, &client.limits.request,
+                      &client.limits.reach };
+    for (int at = 4; at < argc; at++)
+        *limits[at - 4] = (int)(1000 * atof(argv[at])); /* the first is to connect, which does not wait here */
     while (fgets(line, sizeof line, stdin) != NULL) {
         line[strcspn(line, "\n")] = '\0';
         (*argv[1] == 'e' ? encode : *argv[1] == 'd' ? decode : carry)(line);

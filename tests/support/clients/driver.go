@@ -78,7 +78,9 @@ func requestOf(line string) request {
 		case "returned":
 			it.notice.Returned = byte(given)
 		case "wording":
-			it.notice.Wording = byte(given)
+			if it.notice.Wording = byte(given); given == 0 {
+				it.notice.Wording = noticed.ByService
+			}
 		case "place":
 			it.place = int(given)
 		}
@@ -138,9 +140,14 @@ func carry(client *noticed.Client, line string) string {
 	case "forget":
 		answer, err = client.Forget(it.key)
 	}
+	var refused *noticed.RefusedError
 	switch {
 	case err == nil:
 		return shown(answer)
+	case errors.As(err, &refused):
+		return refused.Error()
+	case errors.Is(err, noticed.ErrPathTooLong):
+		return "path"
 	case errors.Is(err, noticed.ErrInvalid):
 		return "invalid"
 	case errors.Is(err, noticed.ErrUnreachable):
@@ -157,12 +164,12 @@ func main() {
 	does := map[string]func(string) string{"encode": encode, "decode": decode}[os.Args[1]]
 	if os.Args[1] == "carry" {
 		client := noticed.New(os.Args[2])
-		limits := [5]time.Duration{}
-		for at := range limits {
-			seconds, _ := strconv.ParseFloat(os.Args[3+at], 64)
-			limits[at] = time.Duration(seconds * float64(time.Second))
+		to := &client.Limits
+		limits := []*time.Duration{&to.Connect, &to.Send, &to.Worker, &to.Answer, &to.Request, &to.Reach}
+		for at, word := range os.Args[3:] {
+			seconds, _ := strconv.ParseFloat(word, 64)
+			*limits[at] = time.Duration(seconds * float64(time.Second))
 		}
-		client.Limits = noticed.Limits{limits[0], limits[1], limits[2], limits[3], limits[4]}
 		does = func(line string) string { return carry(client, line) }
 	}
 	lines := bufio.NewScanner(os.Stdin)

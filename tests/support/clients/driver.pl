@@ -8,11 +8,11 @@ use Noticed;
 my %is_number = map { $_ => 1 }
     qw(service action last_attempt retry_until moment arrival expected returned wording place);
 my ($command, $path, @limits) = @ARGV;
-my $client;
+my ($client, $failed);
 if ($command eq 'carry') {
     my %limits;
-    @limits{qw(connect send worker answer request)} = @limits;
-    $client = Noticed->new($path, %limits);
+    @limits{ (qw(connect send worker answer request reach))[0 .. $#limits] } = @limits;
+    $client = eval { Noticed->new($path, %limits) } or ($failed) = $@ =~ /^(\w+)/;
 }
 $| = 1;
 
@@ -31,6 +31,7 @@ my %does = (
         return $answer ? "$number " . shown($answer) : 'invalid';
     },
     carry => sub {
+        return $failed if $failed;
         if ($_[0] eq 'close') { $client->close; return 'closed' }
         my ($kind, undef, %fields) = request($_[0]);
         return shown($client->$kind(%fields));
@@ -39,6 +40,6 @@ my %does = (
 while (my $line = <STDIN>) {
     chomp $line;
     my $said = eval { $does{$command}->($line) };
-    ($said) = $@ =~ /^(\w+)/ if !defined $said;
+    ($said) = $@ =~ /^(refused .*|\w+)/ if !defined $said;
     print "$said\n";
 }

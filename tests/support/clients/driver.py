@@ -1,6 +1,7 @@
-"""Has the client in Python do what tests/clients.py says: `encode`, `decode`, or `carry SOCKET` with five limits. A
+"""Has the client in Python do what tests/clients.py says: `encode`, `decode`, or `carry SOCKET` and limits. A
 line of standard input is a request, as KIND NUMBER and its fields NAME=VALUE with texts in hexadecimal, or for decode
 the hexadecimal bytes of a frame. For each a line has the result. The drivers in other languages do the same."""
+import contextlib
 import struct
 import sys
 from pathlib import Path
@@ -64,10 +65,14 @@ def carried(client: noticed.Client, line: str) -> str:
         return "unanswered"
     except PermissionError:
         return "denied"
+    except noticed.Refused as why:
+        return str(why)
 
 
+the_client = None
 if sys.argv[1] == "carry":
-    the_client = noticed.Client(sys.argv[2], noticed.Limits(*map(float, sys.argv[3:])))
-does = {"encode": encoded, "decode": decoded, "carry": lambda line: carried(the_client, line)}[sys.argv[1]]
+    with contextlib.suppress(noticed.PathTooLong):
+        the_client = noticed.Client(sys.argv[2], noticed.Limits(*map(float, sys.argv[3:])))
+does = {"encode": encoded, "decode": decoded, "carry": lambda line: carried(the_client, line) if the_client else "path"}[sys.argv[1]]
 for it in sys.stdin:
     print(does(it.strip()), flush=True)

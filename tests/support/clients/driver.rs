@@ -49,9 +49,15 @@ impl Request {
             envelope_id: self.text("envelope_id"),
             header: self.text("header"),
             returned: returned[self.number("returned").unwrap_or(0) as usize],
-            wording: if self.number("wording") == Some(1) { Wording::ByOutcome } else { Wording::ByService },
             extensions: self.text("extensions"),
-            ..Notice::new(self.text("return_path"), at("moment"), at("arrival"), at("expected") as u32)
+            ..self.worded(Notice::new(self.text("return_path"), at("moment"), at("arrival"), at("expected") as u32))
+        }
+    }
+    fn worded<'a>(&self, it: Notice<'a>) -> Notice<'a> {
+        match self.number("wording") {
+            None => it,
+            Some(0) => Notice { wording: Wording::ByService, ..it },
+            Some(_) => Notice { wording: Wording::ByOutcome, ..it },
         }
     }
 }
@@ -93,15 +99,17 @@ fn carry(client: &mut Client, line: &str) -> String {
         Err(Error::Unreachable(_)) => "unreachable".to_string(),
         Err(Error::Unanswered(_)) => "unanswered".to_string(),
         Err(Error::Denied(_)) => "denied".to_string(),
+        Err(Error::PathTooLong(_)) => "path".to_string(),
+        Err(why @ Error::Refused(_)) => why.to_string(),
     }
 }
 
 fn main() {
     let words: Vec<String> = std::env::args().collect();
     let mut client = Client::new(words.get(2).map(String::as_str).unwrap_or(""));
-    if words.len() > 7 {
-        let at = |at: usize| Duration::from_secs_f64(words[at].parse().unwrap());
-        client.limits = Limits { connect: at(3), send: at(4), worker: at(5), answer: at(6), request: at(7) };
+    let Limits { connect, send, worker, answer, request, reach } = &mut client.limits;
+    for (limit, word) in [connect, send, worker, answer, request, reach].into_iter().zip(words.iter().skip(3)) {
+        *limit = Duration::from_secs_f64(word.parse().unwrap());
     }
     for line in io::stdin().lock().lines().map(Result::unwrap) {
         let said = match words[1].as_str() {

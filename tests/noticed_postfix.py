@@ -373,6 +373,77 @@ def check_wrong(checks: Checks, it: Stock):
     it.restore(before)
 
 
+def ran(it: Stock, folder: Path, path: str, *words: str) -> tuple:
+    """Runs the script in a folder with this PATH: its status, and the lines that it wrote."""
+    how = {"stdout": subprocess.PIPE, "stderr": subprocess.STDOUT, "text": True, "env": {"PATH": path}}
+    done = subprocess.run(it.service.script(*words), cwd=folder, check=False, timeout=PATIENCE, **how)
+    return done.returncode, done.stdout.splitlines()
+
+
+def check_places(checks: Checks, it: Stock):
+    """A folder with a postconf of its own, which a PATH with an empty part names, and that Postfix's account can't
+    enter. Root runs Postfix's postconf, and all is right."""
+    folder = it.room / "planted"
+    folder.mkdir(mode=0o700)
+    (folder / "postconf").write_text(f"#!/bin/sh\ntouch {folder}/ran\n")
+    (folder / "postconf").chmod(0o755)
+    for path in ("", ":/usr/bin", "."):
+        status, lines = ran(it, folder, path, "check")
+        found = (status, beginning(lines, "wrong"), names_of(lines), (folder / "ran").exists())
+        checks.equal(f"check with PATH={path!r}", found, (0, [], ["maillog_file"], False))
+
+
+def check_pretender(checks: Checks, it: Stock):
+    """A process of another account that is named like the service is not taken for it."""
+    folder = it.room / "pretender"
+    folder.mkdir()
+    (folder / "postfix").write_text("import time\ntime.sleep(600)\n")
+    other = [PYTHON, "postfix", "--lifetime", "1", str(it.queue), HOST, "x"]
+    with subprocess.Popen([*as_account("nobody"), *other], cwd=folder) as running:
+        comes_true(lambda: b"--lifetime" in Path(f"/proc/{running.pid}/cmdline").read_bytes())
+        it.restart()
+        checks.equal("a pretender: check", it.script("check")[0], 0)
+        running.kill()
+
+
+def check_fifo(checks: Checks, it: Stock):
+    """A FIFO among the files of the templates, where root reads them, ends nobody's check."""
+    folder = Path(it.command("postconf", "-h", "data_directory").stdout.decode().strip()) / "noticed-templates"
+    folder.mkdir(exist_ok=True)
+    os.mkfifo(folder / "failure")
+    status, lines = it.script("check")
+    checks.equal("a FIFO: check", (status, names_of(lines)), (0, ["maillog_file", "bounce_template_file"]))
+    shutil.rmtree(folder)
+
+
+def check_broken(checks: Checks, it: Stock):
+    """Values that would break master.cf, and files without a newline at their end, to which postconf(1) glues what it
+    adds: nothing is changed."""
+    before = it.texts()
+    it.set(syslog_name="a{b")
+    changed = it.texts()
+    status, lines = it.script("enable")
+    wrong = [line for line in beginning(lines, "wrong") if line.startswith("syslog_name = a{b: ")]
+    checks.equal("a syslog_name with a brace", (status, len(wrong), it.texts()), (1, 1, changed))
+    it.restore(before)
+    (it.room / "etc/mailname").write_text(f"{ORIGIN}\n")
+    it.set(myorigin=str(it.room / "etc/mailname"), sender_canonical_maps="static:{x")
+    changed = it.texts()
+    status, lines = it.script("enable")
+    checks.equal("a table with a brace", (status, it.texts()), (1, changed))
+    checks.true(f"it says so: {lines[-1]}", "master.cf" in lines[-1])
+    it.restore(before)
+    for at, name in enumerate(FILES):
+        path = it.room / "etc" / name
+        for end in ("x_y = z" if at == 0 else "", "# a comment"):
+            path.write_text(before[at] + end if end else before[at].rstrip("\n"))
+            changed = it.texts()
+            status, lines = it.script("enable")
+            wrong = [line for line in beginning(lines, "wrong") if line.startswith(f"{path}: ")]
+            checks.equal(f"{name} that ends with {end!r}", (status, len(wrong), it.texts()), (1, 1, changed))
+        it.restore(before)
+
+
 def check_against(checks: Checks, it: Stock):
     """The hand-in takes a notice whatever main.cf says."""
     before = it.texts()
@@ -471,7 +542,7 @@ def check_disabled(checks: Checks, it: Stock, before: tuple):
     it.stop()
     status, lines = it.script("enable")
     checks.equal("enable without Postfix", (status, it.texts()), (1, given))
-    checks.true(f"it says so: {lines[-1]}", lines[-1].startswith("noticed-postfix: postfix status: "))
+    checks.equal("it says so", lines[-1], "noticed-postfix: Postfix isn't running: nothing was changed")
 
 
 def main():
@@ -484,7 +555,8 @@ def main():
         it.start()
         before = it.texts()
         parts = (check_before, check_account, check_enabled, check_hashing, check_named, check_wrong, check_against)
-        for check in (*parts, check_templates, check_filtered, check_origin, check_copies):
+        safe = (check_places, check_pretender, check_fifo, check_broken)
+        for check in (*parts, *safe, check_templates, check_filtered, check_origin, check_copies):
             check(checks, it)
         checks.equal("complaints of Postfix", it.complaints(), [])
         check_disabled(checks, it, before)

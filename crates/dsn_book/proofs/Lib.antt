@@ -1,5 +1,6 @@
 pub mod BookLemmas
 pub mod CaseLemmas
+pub mod ClosedKeysLemmas
 pub mod ClosingLemmas
 pub mod CrashLemmas
 pub mod EntryLemmas

@@ -1,4 +1,5 @@
 pub mod Book
+pub mod Closing
 pub mod Crash
 pub mod Entry
 pub mod Held

@@ -1,3 +1,4 @@
+pub mod Closing
 pub mod Entry
 pub mod Index
 pub mod Step

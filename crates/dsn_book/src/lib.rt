@@ -2,6 +2,7 @@
 #![tactic(auto)]
 
 mod book;
+mod closing;
 mod entry;
 mod index;
 mod keeper;
@@ -14,6 +15,7 @@ mod step;
 mod table;
 
 pub use book::Book;
+pub use closing::Closing;
 pub use entry::Entry;
 pub use keeper::Keeper;
 pub use limits::{Limits, MOST_ENTRIES, MOST_LOGS, MOST_REQUESTS};

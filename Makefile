@@ -24,8 +24,9 @@ EXAMPLE := vectors/one-bounce
 # The scripts of tests/. Those of QUIET run after the others, one at a time: they look at memory or time, end processes at random
 # moments, wait for seconds to pass, or listen at a port that they found to be free. Those of BOOTS want a Debian to boot.
 BOOTS   := boot boot_package boot_postfix
-QUIET   := clients hand_in serve_hand_in mailers stop idle status postfix_beside postfix_faults postfix_notices noticed_postfix \
-           journal_kills journal_stops fuzz_batch fuzz_serve forgetting memory postfix_large
+QUIET   := clients hand_in serve_hand_in resubmit mailers stop idle status postfix_beside postfix_faults postfix_notices \
+           noticed_postfix journal_full journal_kills journal_stops fuzz_batch fuzz_serve forgetting memory start_memory \
+           postfix_large
 LOUD    := $(filter-out __init__ $(BOOTS) $(QUIET),$(patsubst tests/%.py,%,$(wildcard tests/*.py)))
 
 SHELL := /bin/bash
@@ -166,7 +167,7 @@ install: $(BUILT)
 	for it in docs/{postfix,bounce-features,operating,troubleshooting,first-client}.md; do
 	    naming "$$it" "$(PREFIX)/share/doc/noticed/$${it##*/}"
 	done
-	for it in LICENSE CHANGELOG.md dist/noticed.conf vectors/one-bounce.frames; do
+	for it in LICENSE CHANGELOG.md dist/noticed.conf vectors/one-bounce.frames crates/dsn_report/specs/PlainWords.antt; do
 	    to 644 "$$it" "$(PREFIX)/share/doc/noticed/$${it##*/}"
 	done
 	printf '%s\n' "noticed $(VERSION)" "built with $$($(RT) version || echo an unknown kit)" | \

@@ -10,11 +10,10 @@ use Rattle.dsn_journal.specs.declared.disk.Disk
 use Rattle.dsn_outcome.specs.Letter.{Letter}
 use Rattle.dsn_smtp.specs.declared.hand_in_fault.HandInFault.{HandInFault}
 use Rattle.dsn_submission.specs.Submitter.{KeepsRefused, kept, not_kept, not_refused, TellsMark, same, told_on, lost, concluded, given_up_verdict, next_place, verdict_in, with_next_taken}
-use Rattle.dsn_submission.specs.Verdict.{verdict_if, is_of_server, reason_of}
+use Rattle.dsn_submission.specs.Verdict.{verdict_if, is_of_letter, is_of_server, reason_of}
 use Rattle.dsn_submission.specs.Waiting.{Queue, is_given_up, put_off_at, settled_at, taken}
 use Rattle.dsn_submission.specs.declared.verdict.Verdict.{Verdict}
 use Rattle.dsn_submission.specs.declared.verdict.Verdict.TheVariants.{Accepted, RefusedForGood, PutOff, ServerAway}
-use Rattle.dsn_smtp.specs.HandIn.{is_refused_for_good}
 use Rattle.dsn_hand_in.specs.JournalMarks.{RaisesMark, SaysMarkWithin}
 use Rattle.dsn_hand_in.specs.MailLaws.{BeginsMarked, IsMeant, BeginsEmpty, LeavesSettled}
 use Rattle.dsn_hand_in.specs.MailOutlet.{MailDeed, MailOutlet, Course, begins, comes, is_dropped, is_submitted, ends_session}
@@ -32,7 +31,7 @@ no_fault_accepted false false false is = cc
 accepted_unfaulted : {T : Type 0} (queue : Queue T) (now limit : ℕ) (fault : Option HandInFault) → verdict_in queue now limit fault ≡ Accepted → fault ≡ None
 accepted_unfaulted queue now limit None is = refl
 accepted_unfaulted queue now limit (Some fault) is =
-    absurd (no_fault_accepted (is_given_up queue now limit) (is_of_server fault) (is_refused_for_good fault) is)
+    absurd (no_fault_accepted (is_given_up queue now limit) (is_of_server fault) (is_of_letter fault) is)
 
 module _ {K : Type 0} (keeps : K → List ℕ → List ℕ → List ℕ → Bool → K → Type 0) (old new : K) (path message reply : List ℕ) where
   accepted_before : (first second : Verdict) → KeepsRefused keeps old new path message reply first second → second ≡ Accepted → first ≡ Accepted

@@ -2,7 +2,6 @@
 use Rattle.std.specs.Prelude.{ℕ, suc, Bool, true, false, List, [], ◌∷◌, ◌++◌, codes, decimal, Option, Some, None}
 use Rattle.std.specs.List.{flat_map}
 use Rattle.dsn_text.specs.FaultCode.{no_memory_code, outbox_write_code}
-use Rattle.dsn_text.specs.FaultWords.{fault_words}
 use Rattle.dsn_outcome.specs.Letter.{Letter}
 use Rattle.dsn_text.specs.Service.{service_letter}
 use Rattle.dsn_outcome.specs.declared.answer.Reply.{Reply}
@@ -42,10 +41,9 @@ answer_lines_from position [] = []
 answer_lines_from position (answer ∷ rest) =
     answer_line position answer ++ answer_lines_from (suc position) rest
 
--- the line of a fault: its number, and the number's words
+-- the line of a fault: its number
 unfoldable pub fault_line : ℕ → List ℕ
-fault_line code =
-    codes "fault " ++ decimal code ++ codes ": " ++ fault_words code ++ codes "\n"
+fault_line code = codes "fault " ++ decimal code ++ codes "\n"
 
 -- the words of a key: its service's letter and its queue id
 unfoldable pub key_words : Key → List ℕ

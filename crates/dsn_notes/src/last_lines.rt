@@ -55,7 +55,7 @@ fn write_fault<N: Drain>(notes: &mut N, writing: &mut UntilFailure, fault: Optio
         (fault_lines fault) }
 {
     if let Some(code) = fault {
-        writing.write(notes, fault_line(code).as_bytes());
+        writing.write(notes, fault_line(code).bytes());
     }
 }
 
@@ -65,7 +65,7 @@ fn write_outbox_fault<N: Drain>(notes: &mut N, writing: &mut UntilFailure, whole
         (outbox_lines whole) }
 {
     if !whole {
-        writing.write(notes, fault_line(fault_code::OUTBOX_WRITE).as_bytes());
+        writing.write(notes, fault_line(fault_code::OUTBOX_WRITE).bytes());
     }
 }
 
@@ -93,7 +93,7 @@ fn write_open<N: Drain>(
 {
     match logs {
         Ok(lines) => write_open_lines(notes, writing, lines.as_slice()),
-        Err(_) => writing.write(notes, fault_line(fault_code::NO_MEMORY).as_bytes()),
+        Err(_) => writing.write(notes, fault_line(fault_code::NO_MEMORY).bytes()),
     }
 }
 

@@ -5,4 +5,4 @@ mod last_lines;
 mod note_lines;
 
 pub use last_lines::{status_of, write_last_lines, write_open_lines};
-pub use note_lines::{FAULT_LINE_ROOM, answer_line, fault_line, push_key, unsent_line};
+pub use note_lines::{answer_line, fault_line, push_key, unsent_line};

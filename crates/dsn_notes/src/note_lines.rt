@@ -7,15 +7,9 @@ ghost use Rattle.dsn_notes.specs.inner.Lengths.{longest_counted, longest_place, 
 ghost use Rattle.dsn_notes.specs.Lengths.{longest_key, longest_key_start};
 ghost use Rattle.dsn_notes.specs.Notes.{answer_line, fault_line, unsent_line, open_line, key_words, reply_words, spoken_words};
 
-use arrayvec::ArrayString;
 use dsn_book::OpenLine;
 use dsn_frame::Spoken;
 use dsn_outcome::{Key, Letter, Reply, ShortText};
-use dsn_text::fault_words;
-use itoa::Buffer;
-
-/// Room for the line of a fault, in bytes: it has 109 at most.
-pub const FAULT_LINE_ROOM: usize = 128;
 
 /// Returns the line of an answer to the frame at a position of the input.
 #[inline(always)]
@@ -30,16 +24,14 @@ pub fn answer_line(position: u32, answer: Spoken) -> ShortText
     line
 }
 
-/// Returns the line of a fault: its number and the number's words.
-pub fn fault_line(code: u32) -> ArrayString<FAULT_LINE_ROOM>
-    ensures { result.bytes ≡ fault_line code }
+/// Returns the line of a fault, which has the number alone.
+pub fn fault_line(code: u32) -> ShortText
+    ensures { result ≡ fault_line code }
 {
-    let mut line = ArrayString::new();
-    line.push_str("fault ");
-    line.push_str(Buffer::new().format(code));
-    line.push_str(": ");
-    line.push_str(fault_words(code));
-    line.push_str("\n");
+    let mut line = ShortText::new();
+    line.push(b"fault ");
+    line.push_number(u64::from(code));
+    line.push(b"\n");
     line
 }
 

@@ -1,12 +1,10 @@
-//! The queue folder of a running Postfix as a mail system: its logs, its messages' files, its own
-//! services, and the event log.
+//! The queue folder of a running Postfix as a mail system: its logs, its messages' files and its own
+//! services.
 #![tactic(auto)]
 
-mod event_log;
 mod queue_folder;
 mod system_time;
 
-pub use event_log::EventLog;
 pub use queue_folder::{
     FolderHashing, LargeFiles, MOST_DEPTH, OtherDepth, PostfixSetup, PostfixSystem, PreviewSystem,
     QueueFault, QueueFolder, ascii_text, ask_own_service, asked_text, check_queues, depth_against,

@@ -6,6 +6,7 @@ use crate::log_command::{LogArguments, LogRequest};
 use crate::postfix_serving::PostfixServing;
 use crate::postfix_values::postfix_serving;
 use crate::preview_command::PreviewArguments;
+use crate::resubmit_command::ResubmitArguments;
 use crate::serve_values::serve_arguments;
 use crate::start_error::StartError;
 use crate::status_command::StatusView;
@@ -66,6 +67,8 @@ pub(crate) enum Command {
     },
     /// `hand-in [OPTION].. HAND-IN`.
     HandIn(HandInArguments),
+    /// `resubmit FOLDER HOST HAND-IN`.
+    Resubmit(ResubmitArguments),
     /// `postfix [OPTION].. QUEUE-FOLDER HOST HAND-IN`.
     Postfix(PostfixServing),
     /// `preview [OPTION].. QUEUE-FOLDER HOST ID`.
@@ -93,6 +96,8 @@ pub(crate) struct ServeArguments {
 pub(crate) struct ServeOptions {
     /// The place of the notices, and the folder of the journal.
     pub(crate) destination: Destination,
+    /// The size up to which the journal's file is lengthened, in MiB.
+    pub(crate) max_journal: u32,
     /// What the run's watch is asked to do.
     pub(crate) watch: WatchOptions,
 }
@@ -168,6 +173,7 @@ fn command_given(
             folder: owned(alloc, text_of(given, "FOLDER"))?,
         }),
         "hand-in" => Ok(Command::HandIn(HandInArguments::of(alloc, given)?)),
+        "resubmit" => Ok(Command::Resubmit(ResubmitArguments::of(alloc, given)?)),
         "faults" => Ok(Command::Faults),
         "preview" => Ok(Command::Preview(PreviewArguments::of(rt, given)?)),
         _ => Ok(Command::Postfix(postfix_serving(rt, given)?)),
@@ -244,17 +250,9 @@ pub(crate) fn queue_id_of(alloc: Global, given: &ArgMatches<'_>) -> Result<Queue
     }
 }
 
-/// The path of the socket.
+/// The path of the socket, as it is given: who connects or binds there tests it.
 pub(crate) fn socket_of(alloc: Global, given: &ArgMatches<'_>) -> Result<String, StartError> {
-    socket_in(alloc, text_of(given, "SOCKET"))
-}
-
-/// The path of a socket. An empty one would be bound to a name that every account gets to.
-pub(crate) fn socket_in(alloc: Global, path: &str) -> Result<String, StartError> {
-    if path.is_empty() || path.len() > LONGEST_PATH {
-        return Err(StartError::SocketPath);
-    }
-    owned(alloc, path)
+    owned(alloc, text_of(given, "SOCKET"))
 }
 
 /// A text of its own.

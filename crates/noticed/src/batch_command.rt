@@ -1,5 +1,6 @@
 //! The command `batch`.
 use crate::buffer::{ROOM, let_go};
+use crate::fault_note::NoteWriter;
 use crate::start_error::StartError;
 use dsn_outcome::Plain;
 use dsn_report::Site;
@@ -15,7 +16,7 @@ pub(crate) fn run_batch(rt: &HostRuntime, site: Site) -> Result<u8, StartError> 
         |_| StartError::NoMemory,
     )?;
     let mut input = Plain::new(reader);
-    let mut notes = Plain::new(rt.stderr());
+    let mut notes = Plain::new(NoteWriter::new(rt, None));
     let end = batch(
         rt.alloc(),
         &Limits::of_program(),

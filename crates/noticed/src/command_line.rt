@@ -22,6 +22,7 @@ pub(crate) fn command_line<'a>(alloc: Global, faults: &'a str) -> Result<Command
         .subcommand(status(alloc)?)?
         .subcommand(journal(alloc)?)?
         .subcommand(hand_in(alloc)?)?
+        .subcommand(resubmit(alloc)?)?
         .subcommand(postfix(alloc)?)?
         .subcommand(preview(alloc)?)?
         .subcommand(
@@ -48,6 +49,9 @@ fn serve<'a>(alloc: Global) -> Result<Command<'a>, AllocError> {
         .arg(flag(alloc, "inherited").help("Takes over the socket that the caller listens on"))?
         .arg(option(alloc, "journal", "FOLDER").help(
             "Keeps each request in FOLDER before it is answered",
+        ))?
+        .arg(option(alloc, "max-journal", "MIB").help(
+            "Up to which size the journal's file grows, in MiB, 1 to 4096 [default: 256]",
         ))?
         .arg(flag(alloc, "release-closed").help(
             "Releases the key that was closed longest ago if a new one finds no room",
@@ -134,7 +138,7 @@ fn status<'a>(alloc: Global) -> Result<Command<'a>, AllocError> {
 fn journal<'a>(alloc: Global) -> Result<Command<'a>, AllocError> {
     Command::new(alloc, "journal")
         .about("Prints what the journal of a folder holds, and changes nothing")
-        .arg(argument(alloc, "FOLDER").help("The folder of the journal"))
+        .arg(folder(alloc))
 }
 
 fn hand_in<'a>(alloc: Global) -> Result<Command<'a>, AllocError> {
@@ -148,6 +152,14 @@ fn hand_in<'a>(alloc: Global) -> Result<Command<'a>, AllocError> {
                 .default_value("432000")
                 .help("How long a notice is tried, 1 to 8640000"),
         )?
+        .arg(mail_server(alloc))
+}
+
+fn resubmit<'a>(alloc: Global) -> Result<Command<'a>, AllocError> {
+    Command::new(alloc, "resubmit")
+        .about("Submits the refused notices of a journal again, also while its daemon runs")
+        .arg(folder(alloc))?
+        .arg(host(alloc))?
         .arg(mail_server(alloc))
 }
 
@@ -212,6 +224,11 @@ fn with_settings<'a>(alloc: Global, command: Command<'a>) -> Result<Command<'a>,
 /// The argument QUEUE-FOLDER.
 fn queue_folder<'a>(alloc: Global) -> Arg<'a> {
     argument(alloc, "QUEUE-FOLDER").help("Postfix's queue folder")
+}
+
+/// The argument FOLDER.
+fn folder<'a>(alloc: Global) -> Arg<'a> {
+    argument(alloc, "FOLDER").help("The folder of the journal")
 }
 
 /// The argument HAND-IN.

@@ -6,12 +6,13 @@ use std::fs;
 use std::io::ErrorKind;
 
 /// The keys: the long names of the options and arguments of `serve`.
-const KEYS: [&str; 15] = [
+const KEYS: [&str; 16] = [
     "socket",
     "host",
     "agents",
     "max-use",
     "journal",
+    "max-journal",
     "outbox",
     "hand-in",
     "give-up",
@@ -46,18 +47,25 @@ impl ConfigFile {
     /// one: if it can't be read, or a line is malformed, has an unknown key, or one that was before.
     pub(crate) fn read(rt: &HostRuntime, path: &str) -> Result<ConfigFile, StartError> {
         let alloc = rt.alloc();
-        let text = match fs::read_to_string(rt, path) {
-            Ok(text) => text,
+        let bytes = match fs::read(rt, path) {
+            Ok(bytes) => bytes,
             Err(error) if error.kind() == ErrorKind::OutOfMemory => return Err(
                 StartError::NoMemory,
             ),
             Err(error) => return Err(StartError::at_file(alloc, path, &error)),
         };
+        let text = match str::from_utf8(&bytes) {
+            Ok(text) => text,
+            Err(error) => {
+                let line = lines_before(&bytes, error.valid_up_to()).saturating_add(1);
+                return Err(StartError::at_line(alloc, path, line, "is not UTF-8"));
+            }
+        };
         let mut file = ConfigFile {
             path: format!(in alloc; "{path}")?,
             settings: Vec::new(alloc),
         };
-        for (index, line) in text.as_str().lines().enumerate() {
+        for (index, line) in text.lines().enumerate() {
             file.add(alloc, line.trim(), index.saturating_add(1))?;
         }
         Ok(file)
@@ -110,4 +118,13 @@ impl ConfigFile {
             Err(_) => StartError::NoMemory,
         }
     }
+}
+
+/// How many lines end before this place.
+fn lines_before(bytes: &[u8], place: usize) -> usize {
+    bytes
+        .iter()
+        .take(place)
+        .filter(|byte| **byte == b'\n')
+        .count()
 }

@@ -2,9 +2,10 @@
 ghost use Rattle.std.specs.Prelude.{◌≡◌, ◌*◌};
 
 use crate::arguments::{number_of, owned, text_of};
-use crate::hand_in_files::{DoneFile, RefusedPlace};
+use crate::done_file::DoneFile;
 use crate::outbox_text::{OutboxPart, greeting_of, part_of};
 use crate::postfix_values::server_of;
+use crate::refused_file::RefusedPlace;
 use crate::start_error::StartError;
 use clap::ArgMatches;
 use dsn_smtp::{HandInFault, MailConnection, MailServer, ServerAddress};
@@ -89,7 +90,7 @@ struct HandIn<'a> {
     began: Instant,
     submitter: SocketSubmitter,
     server: MailServer<'a>,
-    refused: RefusedPlace,
+    refused: RefusedPlace<'a>,
     done: DoneFile<'a>,
     /// The serial of the first notice that is submitted.
     first: u64,
@@ -129,14 +130,26 @@ fn hand_in_outbox(
         Ok(first) => first,
         Err(error) => return Ok(print_fault(rt, "the file of --done", &error)),
     };
-    let refused = match refused_place(rt, done.path) {
-        Ok(refused) => refused,
-        Err(error) => return Ok(print_fault(rt, "the file of refused notices", &error)),
-    };
+    match refused_place(rt, done.path) {
+        Ok(refused) => submit_outbox(rt, &arguments.terms, host, first, done, refused, text),
+        Err(error) => Ok(print_fault(rt, "the file of refused notices", &error)),
+    }
+}
+
+/// Submits the notices of a text on these terms, as the host of this name, from the first on whose
+/// serial is `first`. The mark goes to `done`, and refused notices to `refused`. Returns the status.
+pub(crate) fn submit_outbox(
+    rt: &HostRuntime,
+    terms: &HandInTerms,
+    host: MtaName,
+    first: u64,
+    done: DoneFile<'_>,
+    refused: RefusedPlace<'_>,
+    text: &[u8],
+) -> Result<u8, StartError> {
     let Ok(began) = Instant::now(rt) else {
         return Err(StartError::NoMemory);
     };
-    let terms = &arguments.terms;
     let mut run = HandIn {
         rt,
         began,
@@ -153,7 +166,7 @@ fn hand_in_outbox(
 }
 
 /// Where refused notices go: beside the file of the mark, or to standard output.
-fn refused_place(rt: &HostRuntime, done: Option<&str>) -> io::Result<RefusedPlace> {
+fn refused_place<'a>(rt: &'a HostRuntime, done: Option<&str>) -> io::Result<RefusedPlace<'a>> {
     match done {
         Some(path) => {
             let path = format!(in rt.alloc(); "{path}.refused")?;
@@ -164,7 +177,7 @@ fn refused_place(rt: &HostRuntime, done: Option<&str>) -> io::Result<RefusedPlac
 }
 
 /// Prints an error of the system. Returns the status.
-fn print_fault(rt: &HostRuntime, what: &str, error: &io::Error) -> u8 {
+pub(crate) fn print_fault(rt: &HostRuntime, what: &str, error: &io::Error) -> u8 {
     let _ = eprintln!(rt; "{what}: {error}");
     FAULT
 }
@@ -282,7 +295,7 @@ impl<'a> HandIn<'a> {
     }
 
     /// Prints what became of a notice.
-    fn print_handled(&self, handled: &Handled) {
+    fn print_handled(&mut self, handled: &Handled) {
         let words = match handled.verdict {
             Verdict::Accepted => "accepted",
             Verdict::RefusedForGood => "refused",
@@ -304,7 +317,14 @@ impl<'a> HandIn<'a> {
             Some(_) => b"",
         };
         let reply = self.cleaned(reply_text(reply));
-        let _ = eprintln!(self.rt; "{words} {number} {path}: {reply}");
+        match self.server.unconnected.take() {
+            Some(error) => {
+                let _ = eprintln!(self.rt; "{words} {number} {path}: {error}");
+            }
+            None => {
+                let _ = eprintln!(self.rt; "{words} {number} {path}: {reply}");
+            }
+        }
     }
 
     /// A text with `?` in place of each byte that isn't printable.

@@ -1,8 +1,7 @@
 //! The command `journal`: prints what a journal's folder holds, also beside a running daemon.
 use crate::buffer::{ROOM, let_go};
-use crate::fault_note::print_fault_line;
+use crate::fault_note::print_worded_fault;
 use crate::journal_copies::{Copies, copy_files};
-use crate::journal_files::print_journal_fault;
 use crate::start_error::StartError;
 use dsn_outcome::Plain;
 use dsn_text::fault_code;
@@ -42,7 +41,7 @@ pub(crate) fn run_journal(rt: &HostRuntime, folder: &str) -> Result<u8, StartErr
     let_go(lines.into_inner());
     match end {
         Ok(()) => Ok(0),
-        Err(NotListed::Unread(error)) => Ok(print_journal_fault(rt, folder, &error)),
+        Err(NotListed::Unread(error)) => Ok(print_unread(rt, folder, &error)),
         Err(NotListed::Fault(fault)) => Ok(print_listing_fault(rt, folder, fault)),
     }
 }
@@ -82,10 +81,17 @@ fn is_other_later(end: &Result<(), NotListed>) -> bool {
     }
 }
 
+/// Prints that a file of the folder could not be read, and the system's error. Returns the status.
+fn print_unread(rt: &impl Eprint, folder: &str, error: &io::Error) -> u8 {
+    print_worded_fault(rt, fault_code::JOURNAL_FAILED);
+    let _ = eprintln!(rt; "{folder}: {error}");
+    FAULT
+}
+
 /// Prints why a folder wasn't listed, with its path if the fault is about its files. Returns the
 /// status.
 fn print_listing_fault(rt: &impl Eprint, folder: &str, fault: ListingFault) -> u8 {
-    print_fault_line(rt, fault.code());
+    print_worded_fault(rt, fault.code());
     if fault != ListingFault::NotWritten {
         let _ = eprintln!(rt; "{folder}: {fault}");
     }

@@ -3,14 +3,23 @@ use crate::fault_note::print_fault_line;
 use dsn_journal::{FileDisk, create_file, sync_folder};
 use dsn_text::fault_code;
 use noticed_lib::JournalFolder;
-use std::fs::File;
-use std::io::{Eprint, Error, ErrorKind};
+use std::fs::{File, TryLockError};
+use std::io::{Error, ErrorKind, Write};
 use std::os::unix::fs::OpenOptionsExt;
 use std::{fs, io};
 
 /// The size of the file of a new journal, in bytes.
 // Room for some 450,000 requests.
 const JOURNAL_SIZE: usize = 67_108_864;
+
+/// The size up to which the file of a journal is lengthened, in MiB, unless it is said.
+pub(crate) const MAX_JOURNAL: u32 = 256;
+
+/// The largest such size, in MiB.
+pub(crate) const MOST_MAX_JOURNAL: u32 = 4_096;
+
+/// How many bytes are written at once to a file that is lengthened.
+const PIECE: usize = 65_536;
 
 /// The size of the file of new marks, in bytes.
 const MARKS_SIZE: usize = 4_096;
@@ -78,6 +87,46 @@ fn is_unwritten(rt: &HostRuntime, path: &str) -> io::Result<bool> {
     Ok(fs::read(rt, path)?.iter().all(|byte| *byte == 0))
 }
 
+/// Lengthens the file of a journal by zeros, to twice its size and at most to `most` bytes, and
+/// syncs it. Returns its new size; `None` if it has that size. After an error it is as long as
+/// before, if the system allows it. One of the kind `WouldBlock` says that another process has it.
+///
+/// A crash leaves a file with some of the zeros, which is the journal that it was.
+pub(crate) fn lengthen_journal(rt: &HostRuntime, path: &str, most: u64) -> io::Result<Option<u64>> {
+    let file = File::options().append(true).open(rt, path)?;
+    match file.try_lock() {
+        Ok(()) => {}
+        Err(TryLockError::WouldBlock) => return Err(Error::from(ErrorKind::WouldBlock)),
+        Err(TryLockError::Error(error)) => return Err(error),
+    }
+    let size = file.metadata()?.len();
+    let longer = size.saturating_mul(2).min(most);
+    if longer <= size {
+        return Ok(None);
+    }
+    if let Err(error) = write_zeros(&file, longer - size) {
+        // A disk that is full has its room back.
+        let _ = file.set_len(size);
+        return Err(error);
+    }
+    Ok(Some(longer))
+}
+
+/// Appends this number of zeros to a file, and syncs it. So the disk has room for what is written in
+/// their place.
+fn write_zeros(file: &File, count: u64) -> io::Result<()> {
+    let zeros = [0; PIECE];
+    let mut writer = file;
+    for _ in 0..count / PIECE as u64 {
+        writer.write_all(&zeros)?;
+    }
+    let rest = usize::try_from(count % PIECE as u64)
+        .unwrap_or(0)
+        .min(PIECE);
+    writer.write_all(&zeros[..rest])?;
+    file.sync_all()
+}
+
 /// The error if one of two files is missing.
 fn not_found(words: &str) -> io::Error {
     Error::new(ErrorKind::NotFound, words)
@@ -107,17 +156,17 @@ pub(crate) fn open_outbox(rt: &HostRuntime, path: &str) -> io::Result<File> {
 }
 
 /// Prints that a file of a journal isn't available, and the system's error. Returns the status.
-pub(crate) fn print_journal_fault(rt: &impl Eprint, path: &str, error: &io::Error) -> u8 {
+pub(crate) fn print_journal_fault(rt: &HostRuntime, path: &str, error: &io::Error) -> u8 {
     print_fault(rt, fault_code::JOURNAL_FAILED, path, error)
 }
 
 /// Prints that the outbox isn't available, and the system's error. Returns the status.
-pub(crate) fn print_outbox_fault(rt: &impl Eprint, path: &str, error: &io::Error) -> u8 {
+pub(crate) fn print_outbox_fault(rt: &HostRuntime, path: &str, error: &io::Error) -> u8 {
     print_fault(rt, fault_code::OUTBOX_WRITE, path, error)
 }
 
 /// Prints a fault of a path.
-fn print_fault(rt: &impl Eprint, code: u32, path: &str, error: &io::Error) -> u8 {
+fn print_fault(rt: &HostRuntime, code: u32, path: &str, error: &io::Error) -> u8 {
     print_fault_line(rt, code);
     let _ = eprintln!(rt; "{path}: {error}");
     FAULT

@@ -1,4 +1,5 @@
 //! The socket of a run of `serve`: made, in place of one that a killed run left, or inherited.
+use crate::arguments::LONGEST_PATH;
 use os::FromRawFd;
 use std::io::{Error, ErrorKind};
 use std::os::unix::fs::FileTypeExt;
@@ -9,8 +10,13 @@ use std::{fs, io};
 /// The descriptor of an inherited socket, as in sd_listen_fds(3).
 const INHERITED: i32 = 3;
 
-/// Returns an error of the kind `AlreadyExists` if a file that is no socket has this path.
+/// Returns an error of the kind `InvalidInput` if no socket can have this path, and of the kind
+/// `AlreadyExists` if a file that is no socket has it.
 pub(crate) fn check_place(rt: &HostRuntime, path: &str) -> io::Result<()> {
+    // The system would bind an empty path to a name that every account gets to.
+    if path.is_empty() || path.len() > LONGEST_PATH {
+        return Err(Error::new(ErrorKind::InvalidInput, "the path must have 1 to 107 bytes"));
+    }
     match fs::symlink_metadata(rt, path) {
         Ok(file) if !file.file_type().is_socket() => Err(Error::new(
             ErrorKind::AlreadyExists,

@@ -1,6 +1,6 @@
 //! The commands `discard` and `forget`: each sends one request about one log to a daemon.
 use crate::arguments::{queue_id_of, socket_of, text_of};
-use crate::fault_note::print_fault_line;
+use crate::fault_note::print_worded_fault;
 use crate::socket_fault::print_socket_fault;
 use crate::start_error::StartError;
 use clap::ArgMatches;
@@ -86,7 +86,7 @@ pub(crate) fn run_log_request(
     match send_request(waiting, rt.alloc(), &mut stream, body) {
         Ok(answer) => Ok(print_answer(rt, request, answer)),
         Err(fault) => {
-            print_fault_line(rt, fault.code());
+            print_worded_fault(rt, fault.code());
             Ok(NOT_DONE)
         }
     }

@@ -6,10 +6,10 @@ mod batch_command;
 mod buffer;
 mod command_line;
 mod config_file;
+mod done_file;
 mod fault_list;
 mod fault_note;
 mod hand_in_command;
-mod hand_in_files;
 mod journal_command;
 mod journal_copies;
 mod journal_files;
@@ -21,6 +21,8 @@ mod postfix_command;
 mod postfix_serving;
 mod postfix_values;
 mod preview_command;
+mod refused_file;
+mod resubmit_command;
 mod run_file;
 mod send_command;
 mod serve_command;
@@ -34,6 +36,8 @@ mod status_metrics;
 mod status_socket;
 mod stop_command;
 mod template_files;
+mod usage;
+mod watched_server;
 
 use arguments::{Command, command_of};
 use batch_command::run_batch;
@@ -45,17 +49,16 @@ use journal_command::run_journal;
 use log_command::run_log_request;
 use postfix_command::run_postfix;
 use preview_command::run_preview;
+use resubmit_command::run_resubmit;
 use send_command::run_send;
 use serve_command::run_serve;
 use standard_streams::take_closed_streams;
 use start_error::StartError;
 use status_command::run_status;
+use std::alloc::{AllocError, Global};
 use std::process::ExitCode;
 use stop_command::run_stop;
-
-/// The line that wrong arguments print on standard error.
-const USAGE: &str =
-    "usage: noticed batch HOST | serve [--config FILE] [--inherited] [[--journal FOLDER] --outbox PATH | --journal FOLDER --hand-in HAND-IN [--give-up SECONDS]] [--release-closed] [--logs N] [--entries N] [--idle SECONDS] [--end-on-fault] [--log] SOCKET HOST AGENTS MAX-USE | stop SOCKET | send SOCKET | status [--open|--prometheus] SOCKET | discard SOCKET SERVICE ID | forget SOCKET SERVICE ID | journal FOLDER | hand-in [--done FILE] [--give-up SECONDS] HAND-IN | postfix [--lifetime SECONDS] [--bounce-size-limit BYTES] [--double-bounce ADDRESS] [--hash-queue-names NAMES] [--hash-queue-depth DEPTH] [--pass-on CLASSES] [--templates FOLDER] [--threaded] [--inherited] QUEUE-FOLDER HOST HAND-IN | preview [OPTIONS] QUEUE-FOLDER HOST ID";
+use usage::usage_line;
 
 fn main(rt: HostRuntime) -> ExitCode {
     let done = match begin(&rt) {
@@ -67,6 +70,7 @@ fn main(rt: HostRuntime) -> ExitCode {
         Ok(Command::Status { socket, view }) => run_status(&rt, &socket, view),
         Ok(Command::Journal { folder }) => run_journal(&rt, &folder),
         Ok(Command::HandIn(arguments)) => run_hand_in(&rt, arguments),
+        Ok(Command::Resubmit(arguments)) => run_resubmit(&rt, arguments),
         Ok(Command::Postfix(serving)) => run_postfix(&rt, &rt, serving),
         Ok(Command::Preview(arguments)) => run_preview(&rt, arguments),
         Ok(Command::Faults) => print_faults(&rt),
@@ -102,17 +106,17 @@ fn print_start_error(rt: &HostRuntime, start_error: &StartError) -> u8 {
             return 0;
         }
         StartError::CommandLine(error) => {
-            print_reason(rt, error);
+            if let Ok(text) = format!(in rt.alloc(); "{error}") {
+                print_line(rt, reason_in(text.as_str()));
+            }
         }
         StartError::Wrong(reason) => {
-            let _ = eprintln!(rt; "error: {reason}");
+            if let Ok(text) = format!(in rt.alloc(); "error: {reason}") {
+                print_line(rt, text.as_str());
+            }
         }
         StartError::NotText => {
             let _ = eprintln!(rt; "error: an argument is not UTF-8");
-        }
-        StartError::SocketPath => {
-            let _ = eprintln!(rt; "the path of the socket must have 1 to 107 bytes");
-            return 2;
         }
         StartError::NoMemory => {
             print_fault_line(rt, fault_code::NO_MEMORY);
@@ -123,25 +127,34 @@ fn print_start_error(rt: &HostRuntime, start_error: &StartError) -> u8 {
             return 1;
         }
     }
+    let _ = eprintln!(rt; "{}", usage_line(rt));
     let _ = eprintln!(rt; "try 'noticed help'");
-    let _ = eprintln!(rt; "{USAGE}");
     2
 }
 
-/// Prints what the parser of the command line says of an error.
-fn print_reason(rt: &HostRuntime, error: &clap::Error) {
-    match format!(in rt.alloc(); "{error}") {
-        Ok(text) => {
-            let _ = eprintln!(rt; "{}", reason_in(text.as_str()));
-        }
-        Err(_) => {}
-    }
-}
-
-/// The lines before the first empty line: behind it the parser has a usage of its own.
+/// What the parser of the command line says of an error, before its own usage.
 fn reason_in(text: &str) -> &str {
     match text.split_once("\n\n") {
         Some((reason, _usage)) => reason,
         None => text,
     }
+}
+
+/// Prints a text as one line.
+fn print_line(rt: &HostRuntime, text: &str) {
+    if let Ok(line) = joined(rt.alloc(), text) {
+        let _ = eprintln!(rt; "{line}");
+    }
+}
+
+/// The lines of a text in one, each after a space. An argument may have several.
+fn joined(alloc: Global, text: &str) -> Result<String, AllocError> {
+    let mut joined = String::new(alloc);
+    for line in text.lines() {
+        if !joined.is_empty() {
+            joined.push_str(" ")?;
+        }
+        joined.push_str(line.trim())?;
+    }
+    Ok(joined)
 }

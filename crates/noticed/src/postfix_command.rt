@@ -1,7 +1,7 @@
 //! The command `postfix`.
 //! It ends only by a signal, and has nothing to finish: Postfix repeats a request that isn't
 //! answered. So it needs no `stop`, and its sockets stay.
-use crate::fault_note::print_fault_line;
+use crate::fault_note::print_worded_fault;
 use crate::postfix_serving::PostfixServing;
 use crate::start_error::StartError;
 use dsn_postfix_queue::PostfixSetup;
@@ -32,7 +32,7 @@ pub(crate) fn run_postfix<R: Threads + Wait + Clock + Copy + Send + Sync + Drop 
     if served.is_err() {
         return Err(StartError::NoMemory);
     }
-    print_fault_line(rt, fault_code::CREW_REFUSED);
+    print_worded_fault(rt, fault_code::CREW_REFUSED);
     Ok(FAULT)
 }
 
@@ -52,7 +52,7 @@ fn listen(
 
 /// Prints why the Postfix isn't served. Returns the status.
 fn print_fault(rt: &HostRuntime, folder: &str, fault: &StartFault) -> u8 {
-    print_fault_line(rt, fault_code::SOCKET);
+    print_worded_fault(rt, fault_code::SOCKET);
     let _ = eprintln!(rt; "{folder}/{fault}");
     FAULT
 }

@@ -81,7 +81,7 @@ fn in_use() -> Error {
 }
 
 /// Whether an open file is the one at this path.
-fn is_at(rt: &HostRuntime, file: &File, path: &str) -> io::Result<bool> {
+pub(crate) fn is_at(rt: &HostRuntime, file: &File, path: &str) -> io::Result<bool> {
     let own = file.metadata()?;
     match fs::symlink_metadata(rt, path) {
         Ok(found) => Ok(found.dev() == own.dev() && found.ino() == own.ino()),

@@ -2,7 +2,7 @@
 //! answers to standard output.
 use crate::buffer::ROOM;
 use crate::fault_note::print_fault_line;
-use crate::socket_fault::print_socket_fault;
+use crate::socket_fault::note_socket_fault;
 use crate::start_error::StartError;
 use dsn_outcome::Plain;
 use noticed_lib::send;
@@ -23,7 +23,7 @@ pub(crate) fn run_send(
     )?;
     let connection = match UnixStream::connect(rt, socket) {
         Ok(connection) => connection,
-        Err(error) => return Ok(print_socket_fault(rt, socket, &error)),
+        Err(error) => return Ok(note_socket_fault(rt, false, socket, &error)),
     };
     let mut input = Plain::new(reader);
     let mut stream = Plain::new(connection);

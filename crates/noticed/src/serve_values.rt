@@ -1,10 +1,11 @@
 //! The values of `serve`, of its command line and its configuration file. The command line wins.
 use crate::arguments::{
     Destination, MOST_AGENTS, MOST_IDLE, MOST_USE, ServeArguments, ServeOptions, number_in, owned,
-    site_of, socket_in,
+    site_of,
 };
 use crate::config_file::ConfigFile;
 use crate::hand_in_command::{GIVE_UP, HandInTerms, MOST_GIVE_UP};
+use crate::journal_files::{MAX_JOURNAL, MOST_MAX_JOURNAL};
 use crate::postfix_values::server_of;
 use crate::start_error::StartError;
 use clap::ArgMatches;
@@ -57,7 +58,7 @@ impl ServeValues<'_, '_> {
                 limits: self.limits()?,
                 releases: self.flag("release-closed")?,
             },
-            socket: self.placed(socket, socket_in(self.alloc, socket.text))?,
+            socket: owned(self.alloc, socket.text)?,
             host: owned(self.alloc, host.text)?,
             options: self.options(agents)?,
         })
@@ -67,6 +68,9 @@ impl ServeValues<'_, '_> {
     fn options(&self, agents: u32) -> Result<ServeOptions, StartError> {
         Ok(ServeOptions {
             destination: self.destination()?,
+            max_journal: self
+                .number_if("max-journal", MOST_MAX_JOURNAL)?
+                .unwrap_or(MAX_JOURNAL),
             watch: WatchOptions {
                 idle_limit: self.number_if("idle", MOST_IDLE)?,
                 ends_on_fault: self.flag("end-on-fault")?,
@@ -216,12 +220,6 @@ impl ServeValues<'_, '_> {
                 file.path(),
                 line,
                 reason.as_str(),
-            )),
-            Err(StartError::SocketPath) => Err(StartError::at_line(
-                self.alloc,
-                file.path(),
-                line,
-                "socket must have 1 to 107 bytes",
             )),
             read => read,
         }

@@ -14,8 +14,6 @@ pub(crate) enum StartError {
     Wrong(String),
     /// An argument is not UTF-8.
     NotText,
-    /// The path of the socket is empty, or longer than the system takes.
-    SocketPath,
     /// The memory to begin was refused.
     NoMemory,
     /// A standard stream is closed, and its descriptor could not be taken.

@@ -6,11 +6,11 @@ use crate::status_metrics::value_in;
 use noticed_lib::{SocketWatch, Watch};
 use std::alloc::{AllocError, Global};
 use std::fmt::Write as _;
-use std::fs::{Files, Metadata};
-use std::io::{Eprint, Error, ErrorKind, Write};
+use std::fs::{Files, Metadata, Permissions};
+use std::io::{Error, ErrorKind, Write};
 use std::net::Shutdown;
 use std::os::fd::OwnedFd;
-use std::os::unix::fs::{FileTypeExt, MetadataExt};
+use std::os::unix::fs::{FileTypeExt, MetadataExt, PermissionsExt};
 use std::os::unix::net::{UnixListener, UnixStream};
 use std::sync::atomic::{AtomicBool, Ordering};
 use std::time::{Clock, Duration, SystemTime};
@@ -24,6 +24,9 @@ const PIECE: usize = 65_536;
 
 /// The list of the system's Unix sockets (proc_pid_net(5)).
 const SOCKETS: &str = "/proc/self/net/unix";
+
+/// The mode of the status socket: its owner's.
+const OWNER: u32 = 0o700;
 
 /// Which of its fields has a socket's state, from 0.
 const STATE_FIELD: usize = 5;
@@ -48,7 +51,7 @@ pub(crate) trait StatusSource {
     fn uptime(&self) -> Duration;
 }
 
-impl<R: Files + Eprint + Clock> StatusSource for SocketWatch<'_, R> {
+impl<R: Files + Clock> StatusSource for SocketWatch<'_, R> {
     fn lines(&self, alloc: Global) -> Result<String, AllocError> {
         self.status(alloc)
     }
@@ -84,6 +87,8 @@ impl<'a> StatusSocket<'a> {
     ) -> io::Result<StatusSocket<'a>> {
         remove_socket(rt, path)?;
         let listener = UnixListener::bind(rt, path)?;
+        // Whatever the process masks of a file's mode.
+        let _ = fs::set_permissions(rt, path, Permissions::from_mode(OWNER));
         let made = StatusSocket::over(rt, socket, listener, path);
         if made.is_err() {
             let _ = remove_socket(rt, path);

@@ -104,11 +104,10 @@ fn expect(
 
 #[test]
 fn devices_that_fail_in_mid_stream(rt: HostRuntime) -> Result<(), Fail> {
-    let notes = b"0 logged 0\nfault 14: a read failed\nopen B A1B2C3 1\n".as_slice();
+    let notes = b"0 logged 0\nfault 14\nopen B A1B2C3 1\n".as_slice();
     let left = (EMPTY, notes);
     expect(&rt, rt.alloc(), (60, usize::MAX), left, (true, 14, 1))?;
-    let notes =
-        b"0 logged 0\n1 sealed 1\nfault 31: the outbox could not be written\nunsent B A1B2C3\n".as_slice();
+    let notes = b"0 logged 0\n1 sealed 1\nfault 31\nunsent B A1B2C3\n".as_slice();
     let left = (ONE_NOTICE.get(..500).unwrap_or(b""), notes);
     expect(&rt, rt.alloc(), (usize::MAX, 500), left, (false, 0, 1))
 }

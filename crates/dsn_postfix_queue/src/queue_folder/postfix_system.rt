@@ -1,7 +1,6 @@
 //! A running Postfix as a mail system.
 ghost use Rattle.std.specs.Prelude.{None};
 
-use crate::event_log::EventLog;
 use crate::queue_folder::ascii::{ascii_text, asked_text};
 use crate::queue_folder::large_files::LargeFiles;
 use crate::queue_folder::log_file::{
@@ -17,6 +16,7 @@ use crate::queue_folder::queue_files::{
 };
 use crate::queue_folder::service_name::service_name;
 use dsn_device::{Connection, Plain};
+use dsn_event_log::EventLog;
 use dsn_postfix::{PostfixRequest, QueueName};
 use dsn_postfix_notices::{DeedFault, MailSystem, PassReason, queue_id_of};
 use dsn_smtp::{
@@ -124,10 +124,8 @@ impl<W: Wait + Clock> PostfixSystem<'_, W> {
             return;
         };
         let (told, notice) = (ascii_text(told.bytes()), ascii_text(notice.bytes()));
-        self.events.say(
-            self.waiting,
-            format_args!("{told}: {}: {notice}", self.kind),
-        );
+        self.events
+            .say(format_args!("{told}: {}: {notice}", self.kind));
     }
 
     /// Writes the line of a notice that wasn't accepted.
@@ -136,10 +134,7 @@ impl<W: Wait + Clock> PostfixSystem<'_, W> {
             return;
         };
         let (told, reply) = (ascii_text(told.bytes()), ascii_text(reply.last_text()));
-        self.events.say(
-            self.waiting,
-            format_args!("{told}: notice not accepted: {fault}: {reply}"),
-        );
+        self.events.say(format_args!("{told}: notice not accepted: {fault}: {reply}"));
     }
 
     /// Writes bounce(8)'s line if the request was about a notice that is dropped. Requires that the
@@ -147,10 +142,9 @@ impl<W: Wait + Clock> PostfixSystem<'_, W> {
     pub fn say_discarded(&self) {
         if self.is_discarded {
             let asked = asked_text(&self.asked);
-            self.events.say(
-                self.waiting,
-                format_args!("warning: {asked}: undeliverable postmaster notification discarded"),
-            );
+            self.events.say(format_args!(
+                "warning: {asked}: undeliverable postmaster notification discarded"
+            ));
         }
     }
 
@@ -180,10 +174,8 @@ impl<W: Wait + Clock> PostfixSystem<'_, W> {
     /// Writes the line of a request that is passed on.
     fn say_passed_on(&self, service: Service, why: &PassReason) {
         let (asked, name) = (asked_text(&self.asked), service_name(service));
-        self.events.say(
-            self.waiting,
-            format_args!("{asked}: {name}: passed on: {why}"),
-        );
+        self.events
+            .say(format_args!("{asked}: {name}: passed on: {why}"));
     }
 
     /// Whether a log of a message is where other settings would place it. Writes a line if so,
@@ -197,17 +189,13 @@ impl<W: Wait + Clock> PostfixSystem<'_, W> {
             return Ok(false);
         };
         let id = ascii_text(id.bytes());
-        self.events.say(
-            self.waiting,
-            format_args!("{id}: a log stands at {path}, where the options have none"),
-        );
+        self.events.say(format_args!("{id}: a log stands at {path}, where the options have none"));
         Ok(true)
     }
 
     /// Writes the line of an error about a path, an address or a service.
     fn say_error<D: Display + Drop>(&self, what: D, error: &io::Error) {
-        self.events
-            .say(self.waiting, format_args!("{what}: {error}"));
+        self.events.say(format_args!("{what}: {error}"));
     }
 
     /// The result of a deed, as requests see it. Writes a line if the deed failed, unless memory

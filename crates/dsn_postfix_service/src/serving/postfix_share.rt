@@ -1,7 +1,8 @@
 //! What the threads that serve a Postfix share.
 use crate::serving::service_queue::ServiceQueue;
+use dsn_event_log::EventLog;
 use dsn_postfix_notices::ServiceSettings;
-use dsn_postfix_queue::{EventLog, LargeFiles, PostfixSetup};
+use dsn_postfix_queue::{LargeFiles, PostfixSetup};
 use dsn_smtp::{KeptSessions, MailConnection};
 use dsn_text::Service;
 use std::alloc::{AllocError, Global};

@@ -7,11 +7,10 @@ use crate::serving::listeners::{Listeners, wake};
 use crate::serving::postfix_share::PostfixShare;
 use crate::serving::service_queue::{Client, WaitingClient};
 use dsn_device::{Connection, Plain};
+use dsn_event_log::EventLog;
 use dsn_postfix::{PostfixRequest, decode_postfix_request, logged_as};
 use dsn_postfix_notices::{ServiceSettings, queue_id_of};
-use dsn_postfix_queue::{
-    EventLog, PostfixSetup, PostfixSystem, ascii_text, asked_text, socket_name,
-};
+use dsn_postfix_queue::{PostfixSetup, PostfixSystem, ascii_text, asked_text, socket_name};
 use dsn_text::{QueueId, Service};
 use std::alloc::AllocError;
 use std::fmt::Display;
@@ -102,7 +101,7 @@ fn start_rounds<'s, 'a: 's, E: 's, R: Threads + Wait + Clock + Sync>(
             return;
         }
         if round == 0 {
-            say_start(waiting, share);
+            say_start(share);
         }
     }
 }
@@ -133,14 +132,14 @@ fn start_round<'s, 'a: 's, E: 's, R: Threads + Wait + Clock + Sync>(
 }
 
 /// Writes the line that the sockets are ready.
-fn say_start<R: Wait>(waiting: &R, share: &PostfixShare<'_>) {
+fn say_start(share: &PostfixShare<'_>) {
     let (root, host) = (
         share.place.queues.root,
         ascii_text(share.settings.site.host()),
     );
     share
         .events
-        .say(waiting, format_args!("listening in {root} for {host}"));
+        .say(format_args!("listening in {root} for {host}"));
 }
 
 /// Ends the run if a thread was refused in the first round. Otherwise writes a line that there are
@@ -153,7 +152,7 @@ fn end_without<R: Wait>(rt: &HostRuntime, waiting: &R, share: &PostfixShare<'_>,
         wake(rt, share.place.queues.root);
     } else {
         let line = format_args!("a thread was refused: {round} threads a service");
-        share.events.say(waiting, line);
+        share.events.say(line);
     }
 }
 
@@ -214,12 +213,12 @@ fn heard_client<'a, R: Wait>(
         Ok(stream) => match hear_client(rt.alloc(), Plain::new(Connection::new(stream))) {
             Ok(client) => Some(client),
             Err(fault) => {
-                say_unheard(waiting, service, share, fault);
+                say_unheard(service, share, fault);
                 None
             }
         },
         Err(error) => {
-            say_unheard(waiting, service, share, error);
+            say_unheard(service, share, error);
             None
         }
     };
@@ -267,7 +266,7 @@ fn refuse_one<R: Wait>(
         Err(_) => None,
     };
     if let Ok(status) = refuse_client(rt.alloc(), &mut client) {
-        say_unserved(waiting, service, share, asked, status);
+        say_unserved(service, share, asked, status);
     }
 }
 
@@ -313,9 +312,7 @@ fn end_stale_sessions<R: Wait>(rt: &HostRuntime, waiting: &R, share: &PostfixSha
 /// Waits after an accept that failed. Writes a line for the first failure in a row.
 fn wait_after<R: Wait>(rt: &HostRuntime, waiting: &R, error: &io::Error, share: &PostfixShare<'_>) {
     if share.note_failed_accept() {
-        share
-            .events
-            .say(waiting, format_args!("accept failed: {error}"));
+        share.events.say(format_args!("accept failed: {error}"));
     }
     thread::sleep(rt, Duration::from_millis(AFTER_FAILED_ACCEPT));
 }
@@ -349,33 +346,21 @@ fn answer_one<R: Wait + Clock>(
     system.end_turn();
     match answered {
         Ok(0) => system.say_discarded(),
-        Ok(status) => say_unserved(waiting, service, share, system.asked(), status),
-        Err(fault) => say_unheard(waiting, service, share, fault),
+        Ok(status) => say_unserved(service, share, system.asked(), status),
+        Err(fault) => say_unheard(service, share, fault),
     }
 }
 
 /// Writes the line of a client that wasn't served to the end.
-fn say_unheard<R: Wait, F: Display + Drop>(
-    waiting: &R,
-    service: Service,
-    share: &PostfixShare<'_>,
-    fault: F,
-) {
+fn say_unheard<F: Display + Drop>(service: Service, share: &PostfixShare<'_>, fault: F) {
     let name = socket_name(service);
-    share.events.say(waiting, format_args!("{name}: client not served: {fault}"));
+    share
+        .events
+        .say(format_args!("{name}: client not served: {fault}"));
 }
 
 /// Writes the line of a request that wasn't carried out.
-fn say_unserved<R: Wait>(
-    waiting: &R,
-    service: Service,
-    share: &PostfixShare<'_>,
-    asked: Option<QueueId>,
-    status: u32,
-) {
+fn say_unserved(service: Service, share: &PostfixShare<'_>, asked: Option<QueueId>, status: u32) {
     let (id, name) = (asked_text(&asked), socket_name(service));
-    share.events.say(
-        waiting,
-        format_args!("{id}: {name}: request not carried out: status {status}"),
-    );
+    share.events.say(format_args!("{id}: {name}: request not carried out: status {status}"));
 }

@@ -1,7 +1,7 @@
 -- Runs over a journal: a ledger that awaits nothing is one to begin with.
 use Rattle.std.proofs.Common.{◌≡◌, ◌⊎◌, inl, inr, ⊎_elim, ℕ, ◌+◌, ◌-◌, ◌^◌, ◌<◌, ◌≤◌, Bool, true, List, [], ◌∷◌, ◌++◌, length, arith, refl, sym, subst, ap, lt_of_not-le, ◌∙◌}
 use Rattle.std.specs.Prelude.{Err, IsErrOf, Ok, OnOk, Option, Some, None, Result, is_some, min}
-use Rattle.std.proofs.lemmas.Bool.{false≢true}
+use Rattle.std.proofs.lemmas.Bool.{cases_lt, false≢true}
 use Rattle.std.proofs.Math.Nat.{min-eq_left}
 use Rattle.std.proofs.lemmas.List.{append-nil}
 use Rattle.dsn_outcome.specs.History.{Limits, Exchange, answers_to, sealed_letters}
@@ -26,7 +26,7 @@ use Rattle.dsn_report.specs.Site.{Site}
 use Rattle.dsn_device.specs.declared.drain.Drain.{Ghosts as Drain}
 use Rattle.dsn_journal.specs.Marks.{IsForeignToMarks, IsTooShortForMarks, LeavesTheMark, Marks, SayMark, SayNoMark}
 use Rattle.dsn_ledger.specs.Posting.{AreToPost}
-use Rattle.dsn_ledger.specs.Staying.{MayStay}
+use Rattle.dsn_ledger.specs.Staying.{MayGoOn, MayStay}
 use Rattle.dsn_journal.specs.Moments.{LeavesOnly}
 use Rattle.dsn_ledger.specs.Opening.{IsLeftByOpening}
 use Rattle.dsn_journal.specs.Records.{StandsForSome, encoded, recovered}
@@ -41,11 +41,19 @@ use Rattle.dsn_ledger.proofs.KeptBooks.{has_kept, nothing_kept, some_kept}
 use Rattle.dsn_ledger.proofs.LedgersInPlace.{headed}
 use Rattle.dsn_ledger.proofs.ReplayLimits.{one_replay, replay_header, replay_in_place, replay_opened}
 use Rattle.dsn_journal.proofs.Moments.{joined, started, weaker}
-use Rattle.noticed_lib.specs.inner.Daemon.{BeginsAnew}
-use Rattle.noticed_lib.specs.daemon.Journaled.{IsFolderOpened, IsLedgerBegun, IsNotBegun, IsOnlyOpened, IsPostedFirst, LeavesMarksOpened, LeavesStart, StartsWith, StaysAtStart, marking_drain, not_replaced, too_many_letters}
+use Rattle.noticed_lib.specs.inner.Daemon.{BeginsAnew, NeedsMoreRoom}
+use Rattle.noticed_lib.specs.daemon.Journaled.{IsFolderOpened, IsLedgerBegun, IsNotBegun, IsOnlyOpened, IsPostedFirst, LeavesMarksOpened, LeavesStart, SealTooMany, StartsWith, StaysAtStart, marking_drain, not_replaced, too_many_letters}
 use Rattle.dsn_text.specs.FaultCode.{journal_full_code}
 use Rattle.dsn_ledger.specs.JournalFolder.{AreMarksRefusedFor, IsOnlyRead, IsOpenedToRaise}
 use Rattle.dsn_ledger.specs.declared.opening.Opened.{Opened}
+
+-- a file by whose records too many letters were sealed is refused, whatever the cause is
+refused_with_many : (limits : Limits) (file : List ℕ) (waiting : List Letter) (cause : KeepError) (code : ℕ) → code ≡ keep_error_code cause → (cause ≡ Unsettled → ⊥)
+    → SealTooMany limits file → IsNotBegun limits file waiting code
+refused_with_many limits file waiting Unsettled code code_is settled many = absurd (settled refl)
+refused_with_many limits file waiting (Journal Memory) code code_is settled many = not_replaced (Journal Memory) code_is settled (λ is. absurd (cc is))
+refused_with_many limits file waiting (Journal Failed) code code_is settled many = not_replaced (Journal Failed) code_is settled (λ is. absurd (cc is))
+refused_with_many limits file waiting (Journal Full) code code_is settled many = too_many_letters code_is many
 
 -- letters before no others are all of them
 pub none_left : {A : Type 0} (all done rest : List A) → all ≡ done ++ rest → length rest ≡ 0 → done ≡ all
@@ -211,31 +219,39 @@ module _ {D : Type 0} (disk : Disk.Ghosts D) (limits : Limits) (mark : ℕ) (jou
     crash = crash;
   }
 
-  -- why its journal was not replaced
+  seal_too_many : base_limit ≤ opened.ledger.base + opened.ledger.book.book.sealed → SealTooMany limits (disk.seen journal)
+  seal_too_many many = record {
+    own = opened.ledger.book.book.limits;
+    replayed = is.own;
+    base = opened.ledger.base;
+    history = stands.history;
+    said = stands.said;
+    many = subst (λ n. base_limit ≤ opened.ledger.base + n) stands.stands.represents.sealed many;
+  }
+
+  pub too_many_for : (waiting : List Letter) (code : ℕ) → code ≡ journal_full_code → base_limit ≤ opened.ledger.base + opened.ledger.book.book.sealed → IsNotBegun limits (disk.seen journal) waiting code
+  too_many_for waiting code code_is many = too_many_letters code_is (seal_too_many many)
+
+  -- why its journal was not replaced. If there is no room for the shorter one, and the run may not go on with this one,
+  -- the limits are other ones, or too many letters were sealed
   pub not_replaced_for : (waiting : List Letter) (cause : KeepError) (code : ℕ) → code ≡ keep_error_code cause → (cause ≡ Unsettled → ⊥)
-      → (cause ≡ Journal Full → length (disk.seen opened.ledger.journal.disk) < length (encoded (compacted (raised limits opened.ledger.book) opened.ledger.base waiting)))
+      → (cause ≡ Journal Full → NeedsMoreRoom disk limits opened.ledger waiting)
+      → (cause ≡ Journal Full → MayGoOn limits opened.ledger → ⊥)
       → IsNotBegun limits (disk.seen journal) waiting code
-  not_replaced_for waiting cause code code_is settled longer =
+  not_replaced_for waiting cause code code_is settled longer stopped =
+      ⊎_elim
+      (λ few.
       not_replaced cause code_is settled
       (λ full. record {
         book = opened.ledger.book;
         base = opened.ledger.base;
         replayed = is.own;
+        other = λ same. stopped full (record { limits_are = same; few = few });
         stands = stands;
         longer = subst (λ n. n < length (encoded (compacted (raised limits opened.ledger.book) opened.ledger.base waiting))) is.size (longer full);
-      })
-
-  pub too_many_for : (waiting : List Letter) (code : ℕ) → code ≡ journal_full_code → base_limit ≤ opened.ledger.base + opened.ledger.book.book.sealed → IsNotBegun limits (disk.seen journal) waiting code
-  too_many_for waiting code code_is many =
-      too_many_letters code_is
-      (record {
-        own = opened.ledger.book.book.limits;
-        replayed = is.own;
-        base = opened.ledger.base;
-        history = stands.history;
-        said = stands.said;
-        many = subst (λ n. base_limit ≤ opened.ledger.base + n) stands.stands.represents.sealed many;
-      })
+      }))
+      (λ many. refused_with_many limits (disk.seen journal) waiting cause code code_is settled (seal_too_many many))
+      (cases_lt (opened.ledger.base + opened.ledger.book.book.sealed) base_limit)
 
 -- the letters that a poster was given first, over an outbox that marks them
 pub posted_is : {D M W : Type 0} (disk : Disk.Ghosts D) (marks_disk : Disk.Ghosts M) (drain : Drain W) (site : Site) (limits : Limits) (journal : D) (marks : M) (outbox : W) (opened : Marks M) (letters : List Letter) (marked : MarkedOutbox W M) (poster : Outgoing (MarkedOutbox W M))

@@ -125,13 +125,14 @@ pub record SealTooMany (limits : Limits) (file : List ℕ) : Type 0 where
   pub said : SayHistory own base (with_header own (recovered file)) history
   pub many : base_limit ≤ base + length (sealed_letters history)
 
--- a file that has no room for the shorter records, under the run's limits and with the letters that
--- wait, that would take the place of its own
+-- a file made under other limits than the run's, that has no room for the shorter records, under the
+-- run's limits and with the letters that wait, that would take the place of its own
 pub record HasNoRoomForShorter (limits : Limits) (file : List ℕ) (waiting : List Letter)
     : Type 0 where
   pub book : ReleasingBook
   pub base : ℕ
   pub replayed : AreReplayedUnder limits (recovered file) book.book.limits
+  pub other : book.book.limits ≢ limits
   pub stands : StandsForFile book base (with_header book.book.limits (recovered file))
   pub longer : length file < length (encoded (compacted (raised limits book) base waiting))
 

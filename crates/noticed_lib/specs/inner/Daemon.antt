@@ -1,5 +1,5 @@
 -- The start of a daemon over a journal, and the notes of a run.
-use Rattle.std.specs.Prelude.{List, ◌≡◌, ℕ, ◌+◌, ◌<◌, ◌≤◌, Bool, false, Option, ◌⊎◌}
+use Rattle.std.specs.Prelude.{List, length, ◌≡◌, ℕ, ◌+◌, ◌<◌, ◌≤◌, Bool, false, Option, ◌⊎◌}
 use Rattle.dsn_book.specs.declared.open_line.OpenLine.{OpenLine}
 use Rattle.dsn_crew.specs.Crew.{most_ports}
 use Rattle.dsn_crew.specs.KeeperHistory.{BeginsWith}
@@ -9,6 +9,7 @@ use Rattle.dsn_crew.specs.declared.crew_cause.CrewCause.{CrewCause}
 use Rattle.dsn_crew.specs.declared.crew_cause.CrewCause.TheVariants.{PortCount, Refused}
 use Rattle.dsn_device.specs.UntilFailure.{WritesUntilFailure}
 use Rattle.dsn_device.specs.declared.drain.Drain.{Ghosts as Drain}
+use Rattle.dsn_ledger.specs.Compacted.{compacted, raised}
 use Rattle.dsn_ledger.specs.EarlierRuns.{of_earlier_run}
 use Rattle.dsn_ledger.specs.Header.{MayBeRaised}
 use Rattle.dsn_ledger.specs.InPlace.{IsLedgerInPlaceOf}
@@ -16,7 +17,7 @@ use Rattle.dsn_ledger.specs.JournalFolder.{IsOpenedToRaise}
 use Rattle.dsn_ledger.specs.KeptBook.{ledger_keeper}
 use Rattle.dsn_ledger.specs.OpenLedger.{Ledger}
 use Rattle.dsn_ledger.specs.declared.opening.Opened.{Opened}
-use Rattle.dsn_journal.specs.Records.{recovered}
+use Rattle.dsn_journal.specs.Records.{encoded, recovered}
 use Rattle.dsn_journal.specs.declared.disk.Disk
 use Rattle.dsn_outcome.specs.History.{Limits, Exchange}
 use Rattle.dsn_outcome.specs.Letter.{Letter}
@@ -39,6 +40,12 @@ pub record IsOpenedFrom {D : Type 0} (disk : Disk.Ghosts D) (limits : Limits) (j
   pub opened : Opened D
   pub is : IsOpenedToRaise disk limits mark journal (record opened { ledger = ledger })
   pub allowed : MayBeRaised limits limits
+
+-- a ledger whose file has no room for the shorter records, under these limits and with these letters that wait
+abbrev pub NeedsMoreRoom : {D : Type 0} → Disk.Ghosts D → Limits → Ledger D → List Letter → Type 0
+NeedsMoreRoom disk limits ledger waiting =
+    length (disk.seen ledger.journal.disk)
+    < length (encoded (compacted (raised limits ledger.book) ledger.base waiting))
 
 -- the notes of a run: what these agents did, whether the outbox is whole, these letters, and the
 -- logs that this history leaves open. Each line was written, up to one that could not be written

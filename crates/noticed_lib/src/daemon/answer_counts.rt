@@ -2,10 +2,10 @@
 use dsn_outcome::Reply;
 use std::sync::atomic::{AtomicU64, Ordering};
 
-/// How many replies there are.
-const REPLIES: usize = 12;
+/// How many replies there are, with the refusal.
+const REPLIES: usize = 13;
 
-/// How many requests were carried out since a run began, by their replies.
+/// How many requests were carried out since a run began, by their replies, and how many were refused.
 #[derive(Drop)]
 pub(crate) struct AnswerCounts {
     logged: AtomicU64,
@@ -20,6 +20,7 @@ pub(crate) struct AnswerCounts {
     not_closed: AtomicU64,
     differs: AtomicU64,
     goodbyes: AtomicU64,
+    refused: AtomicU64,
 }
 
 impl AnswerCounts {
@@ -38,12 +39,18 @@ impl AnswerCounts {
             not_closed: AtomicU64::new(0),
             differs: AtomicU64::new(0),
             goodbyes: AtomicU64::new(0),
+            refused: AtomicU64::new(0),
         }
     }
 
     /// Counts a reply.
     pub(crate) fn count(&self, reply: Reply) {
         self.counter(reply).fetch_add(1, Ordering::SeqCst);
+    }
+
+    /// Counts a request that was refused.
+    pub(crate) fn refuse(&self) {
+        self.refused.fetch_add(1, Ordering::SeqCst);
     }
 
     /// How many requests sealed a notice.
@@ -75,6 +82,7 @@ impl AnswerCounts {
             ),
             ("answered_differs", self.differs.load(Ordering::SeqCst)),
             ("answered_goodbyes", self.goodbyes.load(Ordering::SeqCst)),
+            ("answered_refused", self.refused.load(Ordering::SeqCst)),
         ]
     }
 

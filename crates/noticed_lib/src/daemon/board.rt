@@ -1,7 +1,7 @@
 //! The counters of a run, which its threads write and whoever asks for its status reads.
 //! Nothing that is proved reads them.
 use crate::daemon::answer_counts::AnswerCounts;
-use crate::daemon::journal_use::JournalUse;
+use crate::daemon::journal_use::{JournalLine, JournalUse};
 use crate::daemon::key_gauge::{KeyChange, KeyCounts, KeyGauge};
 use crate::daemon::open_logs::{OpenLog, OpenLogs};
 use crate::daemon::request_counts::RequestCounts;
@@ -33,6 +33,7 @@ pub(crate) struct Board {
     journal_used: AtomicU64,
     /// How many bytes the journal's file has; 0 without a journal.
     journal_size: AtomicU64,
+    pub(crate) journal_line: JournalLine,
     /// The number of the last fault; 0 for none.
     fault: AtomicU32,
     /// The system's number of its error; 0 for none.
@@ -53,6 +54,7 @@ impl Board {
             submissions: SubmissionCounts::new(),
             journal_used: AtomicU64::new(0),
             journal_size: AtomicU64::new(0),
+            journal_line: JournalLine::new(),
             fault: AtomicU32::new(0),
             fault_error: AtomicI32::new(0),
             open: Mutex::new(OpenLogs::new(alloc)),

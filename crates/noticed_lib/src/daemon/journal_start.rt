@@ -1,20 +1,23 @@
 //! The start of a run over a journal: the parts that don't depend on where its letters go.
-ghost use Rattle.std.specs.Prelude.{◌≡◌, ◌++◌, List, [], true, IfErr, IfOk, IsOk};
+ghost use Rattle.std.specs.Prelude.{◌≡◌, ◌⊎◌, ◌↔◌, ◌++◌, List, [], true, IfErr, IfOk, IsOk};
 ghost use Rattle.dsn_outcome.specs.Letter.{Letter};
 ghost use Rattle.dsn_journal.specs.Records.{recovered};
+ghost use Rattle.dsn_journal.specs.declared.journal_error.JournalError.TheVariants.{Full};
 ghost use Rattle.dsn_ledger.specs.Compacted.{compacted, raised};
 ghost use Rattle.dsn_ledger.specs.OpenLedger.{AwaitsRequests};
 ghost use Rattle.dsn_ledger.specs.Posting.{AreToPostUnderSome};
-ghost use Rattle.dsn_ledger.specs.Staying.{MayStay};
-ghost use Rattle.noticed_lib.specs.inner.Daemon.{BeginsAnew, IsOpenedFrom};
+ghost use Rattle.dsn_ledger.specs.declared.keep_error.KeepError.TheVariants as not_kept_for;
+ghost use Rattle.dsn_ledger.specs.Staying.{MayGoOn, MayStay};
+ghost use Rattle.dsn_text.specs.FaultCode.{no_memory_code};
+ghost use Rattle.noticed_lib.specs.inner.Daemon.{BeginsAnew, IsOpenedFrom, NeedsMoreRoom};
 ghost use Rattle.noticed_lib.specs.daemon.Journaled.{IsLedgerBegun, IsNotBegun, LeavesStart};
 
 use crate::daemon::watch::Watch;
 use crate::daemon::watched_keeper::report_held;
 use dsn_book::Limits;
 use dsn_crew::Outlet;
-use dsn_journal::{MarkCount, Replaceable};
-use dsn_ledger::{KeptBook, Ledger, ledgers_have_earlier_histories};
+use dsn_journal::{JournalError, MarkCount, Replaceable};
+use dsn_ledger::{KeepError, KeptBook, Ledger, ledgers_have_earlier_histories};
 use dsn_outcome::Letter;
 use dsn_text::fault_code;
 use std::alloc::Global;
@@ -64,15 +67,16 @@ pub(crate) fn hand_first<O: Outlet>(outlet: O, letters: Vec<Letter>) -> O
 
 /// Begins a run under these limits with a ledger that was opened for it. The journal stays as it is
 /// if [`Ledger::may_stay`] says so; otherwise it is replaced by a shorter one under the limits, which
-/// keeps the letters that wait. The watch is notified of the keys that are held. Returns what keeps
-/// the run's requests, whose letters are marked as the count says. Closed keys make room if
-/// `releases` is true.
+/// keeps the letters that wait. If there is no room for that one, the journal also stays as it is,
+/// provided that [`Ledger::may_go_on`] says so. The watch is notified of the keys that are held.
+/// Returns what keeps the run's requests, whose letters are marked as the count says. Closed keys
+/// make room if `releases` is true.
 ///
 /// A crash before the journal is replaced leaves one under the old limits, so a later start does the
 /// same.
 ///
 /// The numbers of its errors are those of a journal that could not be replaced, and 71 if 2^63
-/// letters or more were sealed.
+/// letters or more were sealed. Under the journal's own limits, want of room is no error.
 pub(crate) fn begin_ledger<D: Replaceable, C: MarkCount + Drop, H: Watch>(
     alloc: Global,
     ledger: Ledger<D>,
@@ -93,8 +97,14 @@ pub(crate) fn begin_ledger<D: Replaceable, C: MarkCount + Drop, H: Watch>(
         → IfOk result (λ keeper. keeper ≡ record ledger { releases = releases }) }
     ensures begins { MayStay D.Disk limits ledger → IsOk result }
     ensures shorter { (MayStay D.Disk limits ledger → ⊥)
-        → IfOk result (λ keeper. recovered (D.seen keeper.journal.disk)
-        ≡ compacted (raised limits ledger.book) ledger.base waiting.now) }
+        → IfOk result (λ keeper. (recovered (D.seen keeper.journal.disk)
+        ≡ compacted (raised limits ledger.book) ledger.base waiting.now)
+        ⊎ ((keeper ≡ record ledger { releases = releases })
+        × NeedsMoreRoom D.Disk limits ledger waiting.now)) }
+    ensures goes_on { MayGoOn limits ledger → NeedsMoreRoom D.Disk limits ledger waiting.now
+        → IfOk result (λ keeper. keeper ≡ record ledger { releases = releases }) }
+    ensures full { MayGoOn limits ledger → NeedsMoreRoom D.Disk limits ledger waiting.now
+        → IfErr result (λ not. not.code ≡ no_memory_code) }
     ensures refused { IfErr result (λ not. (journal : D)
         → IsOpenedFrom D.Disk limits journal ledger
         → IsNotBegun limits (D.seen journal) waiting.now not.code) }
@@ -105,6 +115,7 @@ pub(crate) fn begin_ledger<D: Replaceable, C: MarkCount + Drop, H: Watch>(
     let mut ledger = ledger;
     // Replacing the file writes and syncs all of it, which takes most of a start.
     if !ledger.may_stay(limits) {
+        let may_go_on = ledger.may_go_on(limits);
         match ledger.raise(alloc, waiting, limits) {
             Ok(true) => {}
             Ok(false) => {
@@ -114,15 +125,32 @@ pub(crate) fn begin_ledger<D: Replaceable, C: MarkCount + Drop, H: Watch>(
                 });
             }
             Err(error) => {
-                return Err(NotBegun {
-                    code: error.code(),
-                    left: ledger.into_disk(),
-                });
+                // If letters that wait fill the file, a refused start would submit none of them, and
+                // no later start would have room.
+                if !goes_on_after(may_go_on, error) {
+                    return Err(NotBegun {
+                        code: error.code(),
+                        left: ledger.into_disk(),
+                    });
+                }
             }
         }
     }
     report_held(watch, ledger.book().entries());
     Ok(keeper_over(alloc, ledger, releases, count))
+}
+
+/// Whether a run goes on with a journal that was not replaced, by this error: if it may, and there is
+/// no room for the shorter one.
+fn goes_on_after(may_go_on: bool, error: KeepError) -> bool
+    ensures { (result ≡ true) ↔ ((may_go_on ≡ true) × (error ≡ not_kept_for.Journal Full)) }
+{
+    match error {
+        KeepError::Journal(JournalError::Full) => may_go_on,
+        KeepError::Journal(JournalError::Memory | JournalError::Failed) | KeepError::Unsettled => {
+            false
+        }
+    }
 }
 
 /// What keeps requests on this ledger, whose letters are marked as the count says. Closed keys make

@@ -2,6 +2,7 @@
 use crate::daemon::journal_use::JournalUse;
 use crate::daemon::request_counts::RequestKind;
 use crate::daemon::watch::Watch;
+use dsn_book::NotKept;
 use dsn_outcome::{Key, Reply};
 use dsn_submission::Verdict;
 use std::io;
@@ -36,6 +37,14 @@ impl Watch for NoWatch {
         false
     }
 
+    fn has_waiting(&self) -> bool {
+        false
+    }
+
+    fn makes_room(&self) -> bool {
+        false
+    }
+
     fn logs(&self) -> bool {
         false
     }
@@ -52,9 +61,15 @@ impl Watch for NoWatch {
 
     fn accept_failed(&self, _error: &io::Error) {}
 
+    fn uses_are_over(&self) {}
+
+    fn start_failed(&self, _code: u32) {}
+
     fn connection_refused(&self) {}
 
     fn client_cut_off(&self, _seconds: u32, _in_frame: bool) {}
+
+    fn request_refused(&self, _code: u32) {}
 
     fn may_hold(&self, _keys: u32) {}
 
@@ -62,11 +77,15 @@ impl Watch for NoWatch {
 
     fn uses(&self, _journal: JournalUse) {}
 
+    fn unkept(&self, _why: NotKept) {}
+
     fn carried_out(&self, _asked: Option<(RequestKind, Key)>, _reply: Reply) {}
 
     fn notice_written(&self, _line: &str) {}
 
     fn notice_submitted(&self, _line: &str, _verdict: Verdict, _reply: &str) {}
+
+    fn server_unreached(&self, _error: &io::Error) {}
 
     fn notices_wait(&self, _notices: usize) {}
 

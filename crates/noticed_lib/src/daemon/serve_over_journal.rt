@@ -85,7 +85,10 @@ pub(crate) fn serve_ports_over<
             let (end, journal) = run_outbox(rt, alloc, start, ports, gate, watch, notes);
             JournaledEnd::of(end, journal)
         }
-        Err(not) => write_not_started(alloc, not, notes),
+        Err(not) => {
+            watch.start_failed(not.code);
+            write_not_started(alloc, not, notes)
+        }
     }
 }
 

@@ -104,6 +104,7 @@ pub(crate) fn serve_ports_to_server<
         Err(not) => {
             let NotBegun { code, left } = not;
             let JournalFolder { journal, marks } = left;
+            watch.start_failed(code);
             let not = NotStarted {
                 code,
                 outbox: terms,
@@ -119,6 +120,7 @@ pub(crate) fn serve_ports_to_server<
     let keeper = match begin_ledger(alloc, ledger, &letters, limits, releases, &count, watch) {
         Ok(keeper) => keeper,
         Err(not) => {
+            watch.start_failed(not.code);
             let not = NotStarted {
                 code: not.code,
                 outbox: terms,

@@ -111,6 +111,7 @@ impl<'a, H: Watch + Sync> Port for SocketPort<'a, H> {
             self.watch.disconnected();
         }
         if self.left == 0 {
+            self.watch.uses_are_over();
             return Next::Done;
         }
         self.left -= 1;

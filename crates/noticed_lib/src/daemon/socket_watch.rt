@@ -8,14 +8,19 @@ use crate::daemon::service_manager::ServiceManager;
 use crate::daemon::severity::{Severity, is_journal_stream};
 use crate::daemon::status_text::{RunCounts, status_text};
 use crate::daemon::watch::{TICK, Watch};
+use dsn_book::NotKept;
+use dsn_event_log::EventLog;
 use dsn_outcome::{Key, Reply};
 use dsn_submission::Verdict;
 use dsn_text::{fault_code, fault_words};
+use libc::net::{POLLIN, poll};
+use libc::types::pollfd;
 use std::alloc::{AllocError, AllocGlobal, Global};
+use std::fmt::Display;
 use std::fs::Files;
-use std::io::{Eprint, ErrorKind};
+use std::io::ErrorKind;
 use std::net::Shutdown;
-use std::os::fd::OwnedFd;
+use std::os::fd::{AsRawFd, OwnedFd};
 use std::os::unix::fs::MetadataExt;
 use std::os::unix::net::{UnixListener, UnixStream};
 use std::rt::Env;
@@ -37,6 +42,9 @@ const BETWEEN_LOOKS: u64 = 100;
 /// The moment at which all agents got busy, if some aren't.
 const NEVER: u64 = u64::MAX;
 
+/// The system's number of the error of a connection that took too long.
+const TIMED_OUT: i32 = 110;
+
 /// The device and the inode that no file has.
 const NO_FILE: (u64, u64) = (0, 0);
 
@@ -47,7 +55,7 @@ pub struct WatchOptions {
     pub idle_limit: Option<u32>,
     /// Whether the run is to end once its outbox could not be written.
     pub ends_on_fault: bool,
-    /// Whether a line is written on standard error for what happens, when it happens.
+    /// Whether the event log has a line for what happens, when it happens.
     pub logs: bool,
     /// How many agents the run has.
     pub agents: u32,
@@ -72,6 +80,8 @@ pub struct SocketWatch<'a, R> {
     rt: &'a R,
     paths: WatchedPaths<'a>,
     options: WatchOptions,
+    /// The event log, if lines are wanted.
+    events: Option<&'a EventLog>,
     /// Whether each line of the event log begins with its severity.
     has_severities: bool,
     /// The device and the inode of the socket's file.
@@ -84,30 +94,44 @@ pub struct SocketWatch<'a, R> {
     manager: Option<ServiceManager>,
     /// When the watch was made.
     began: Instant,
+    /// How many agents still take connections.
+    serving: AtomicU32,
     /// How many agents have a connection.
     busy: AtomicU32,
     /// After how many seconds all of them got one; [`NEVER`] if some have none, or once it is logged.
     all_busy_since: AtomicU64,
+    /// Whether a client waited to be accepted while all were busy, when that was looked at last, and
+    /// no connection has made room for it since.
+    has_waiting: AtomicBool,
     /// How many frames have begun.
     frames: AtomicU64,
+    /// The second after the watch was made in which a refused request was logged last, counted from 1.
+    refused_at: AtomicU64,
+    /// How many refused requests were not logged since.
+    refused_unlogged: AtomicU64,
+    /// The system's number of the error of the last connection to the mail server, if that failed; 0
+    /// for none.
+    unreached: AtomicI32,
     /// How many milliseconds after the watch was made the run's files are looked at next.
     next_look: AtomicU64,
     ending: AtomicBool,
-    /// The system's number of the first error of an accept; 0 for none.
-    accept_error: AtomicI32,
+    /// Whether a request found no room in the journal.
+    lacks_room: AtomicBool,
     board: Board,
 }
 
-impl<'a, R: Files + Eprint + Clock + Env + AllocGlobal> SocketWatch<'a, R> {
+impl<'a, R: Files + Clock + Env + AllocGlobal> SocketWatch<'a, R> {
     /// The watch over the socket and the run's file at these paths; it gives the socket's accepts a
-    /// time limit. If a file is gone already the run ends at once. Returns an error if the system
-    /// doesn't answer for a file, has no descriptor left, or has no clock.
+    /// time limit. What happens is logged if there is an event log. If a file is gone already the run
+    /// ends at once. Returns an error if the system doesn't answer for a file, has no descriptor left,
+    /// or has no clock.
     pub fn new(
         rt: &'a R,
         alloc: Global,
         listener: &UnixListener,
         paths: WatchedPaths<'a>,
         options: WatchOptions,
+        events: Option<&'a EventLog>,
         manager: Option<ServiceManager>,
     ) -> io::Result<SocketWatch<'a, R>> {
         let socket_file = identity_at(rt, paths.socket)?;
@@ -118,36 +142,40 @@ impl<'a, R: Files + Eprint + Clock + Env + AllocGlobal> SocketWatch<'a, R> {
             rt,
             paths,
             options,
-            has_severities: options.logs && is_journal_stream(rt),
+            events,
+            has_severities: events.is_some() && is_journal_stream(rt),
             socket_file,
             run_file,
             listening,
             manager,
             began: Instant::now(rt)?,
+            serving: AtomicU32::new(options.agents),
             busy: AtomicU32::new(0),
             all_busy_since: AtomicU64::new(NEVER),
+            has_waiting: AtomicBool::new(false),
             frames: AtomicU64::new(0),
+            refused_at: AtomicU64::new(0),
+            refused_unlogged: AtomicU64::new(0),
+            unreached: AtomicI32::new(0),
             next_look: AtomicU64::new(0),
             ending: AtomicBool::new(false),
-            accept_error: AtomicI32::new(0),
+            lacks_room: AtomicBool::new(false),
             board: Board::new(alloc),
         })
     }
 }
 
-impl<R: Files + Eprint + Clock> SocketWatch<'_, R> {
-    /// The first error of an accept, if one failed.
-    pub fn accept_error(&self) -> Option<io::Error> {
-        match self.accept_error.load(Ordering::SeqCst) {
-            0 => None,
-            number => Some(io::Error::from_raw_os_error(number)),
-        }
+impl<R: Files + Clock> SocketWatch<'_, R> {
+    /// Whether a request found no room in the journal.
+    pub fn lacks_room(&self) -> bool {
+        self.lacks_room.load(Ordering::SeqCst)
     }
 
     /// The lines of the run's status, each a name, a space and a value (noticed-serve(8)). Returns
     /// an error if there is no memory for them.
     pub fn status(&self, alloc: Global) -> Result<String, AllocError> {
         let run = RunCounts {
+            is_ending: self.is_ending(),
             agents: self.options.agents,
             busy: self.busy.load(Ordering::SeqCst),
             uptime: self.elapsed().as_secs(),
@@ -158,22 +186,58 @@ impl<R: Files + Eprint + Clock> SocketWatch<'_, R> {
     /// Logs how many notices wait for the mail server, if any do.
     pub fn log_waiting(&self) {
         let waiting = self.board.submissions.waiting();
-        if waiting > 0 && self.options.logs {
-            let prefix = self.prefix(Severity::Info);
-            let _ = eprintln!(self.rt; "{prefix}notices waiting for the mail server: {waiting}");
+        if waiting > 0 {
+            self.note(
+                Severity::Info,
+                format_args!("notices waiting for the mail server: {waiting}"),
+            );
+        }
+    }
+
+    /// Logs by how much the journal's file has grown, or why it hasn't.
+    pub fn log_growth(&self, grown: &io::Result<Option<u64>>) {
+        match grown {
+            Ok(Some(size)) => self.note(
+                Severity::Info,
+                format_args!("the journal has grown to {size} bytes"),
+            ),
+            Ok(None) => self.note(
+                Severity::Warning,
+                "the journal did not grow: it has max-journal",
+            ),
+            Err(error) => self.note(
+                Severity::Warning,
+                format_args!("the journal did not grow: {error}"),
+            ),
         }
     }
 
     /// Logs how many keys are in use, if a line is due `now` seconds after the watch was made.
     fn look_at_keys(&self, now: u64) {
         let keys = self.board.key_counts();
-        if self.board.keys.is_line_due(&keys, now) && self.options.logs {
-            let _ = eprintln!(self.rt;
-                "{}{} of {} keys are in use, {} of them with an open log",
-                self.prefix(Severity::Warning),
-                keys.in_use(),
-                keys.limit,
-                keys.open
+        if self.board.keys.is_line_due(&keys, now) {
+            let (used, limit, open) = (keys.in_use(), keys.limit, keys.open);
+            self.note(
+                Severity::Warning,
+                format_args!("{used} of {limit} keys are in use, {open} of them with an open log"),
+            );
+        }
+    }
+
+    /// Logs how full the journal is, if a line is due.
+    fn look_at_journal(&self, journal: JournalUse) {
+        let waiting = self.board.submissions.waiting();
+        if !self.board.journal_line.may_be_due(journal, waiting) {
+            return;
+        }
+        let now = self.elapsed().as_secs();
+        if self.board.journal_line.is_due(now) {
+            let JournalUse { used, size } = journal;
+            self.note(
+                Severity::Warning,
+                format_args!(
+                    "the journal is nearly full: {used} of {size} bytes, notices waiting: {waiting}"
+                ),
             );
         }
     }
@@ -216,6 +280,25 @@ impl<R: Files + Eprint + Clock> SocketWatch<'_, R> {
         }
     }
 
+    /// Finds out whether a client waits to be accepted while all agents are busy. Without a limit of
+    /// idle time none is looked for: a session goes on for as long as its client likes.
+    fn look_at_clients(&self) {
+        if self.options.idle_limit.is_some() {
+            let waits = self.are_all_busy() && is_readable(&self.listening);
+            self.has_waiting.store(waits, Ordering::SeqCst);
+        }
+    }
+
+    /// Whether each agent that takes connections has one.
+    fn are_all_busy(&self) -> bool {
+        self.busy.load(Ordering::SeqCst) >= self.serving.load(Ordering::SeqCst)
+    }
+
+    /// One agent less takes connections.
+    fn lose_agent(&self) {
+        self.serving.fetch_sub(1, Ordering::SeqCst);
+    }
+
     /// Logs, once, that all agents have been busy for long.
     fn look_at_agents(&self) {
         let since = self.all_busy_since.load(Ordering::SeqCst);
@@ -233,10 +316,10 @@ impl<R: Files + Eprint + Clock> SocketWatch<'_, R> {
         }
     }
 
-    /// Writes a line, if lines are wanted.
-    fn note(&self, severity: Severity, line: &str) {
-        if self.options.logs {
-            let _ = eprintln!(self.rt; "{}{line}", self.prefix(severity));
+    /// Adds a line to the event log, if there is one.
+    fn note<D: Display + Drop>(&self, severity: Severity, line: D) {
+        if let Some(events) = self.events {
+            events.say(format_args!("{}{line}", self.prefix(severity)));
         }
     }
 
@@ -274,7 +357,26 @@ fn identity_at<R: Files>(rt: &R, path: &str) -> io::Result<(u64, u64)> {
     }
 }
 
-impl<R: Files + Eprint + Clock> Watch for SocketWatch<'_, R> {
+/// Why requests were not kept, in words.
+fn reason_of(why: NotKept) -> &'static str {
+    match why {
+        NotKept::Memory => fault_words(fault_code::NO_MEMORY),
+        NotKept::Full => fault_words(fault_code::JOURNAL_FULL),
+        NotKept::Failed => fault_words(fault_code::JOURNAL_FAILED),
+    }
+}
+
+/// Whether a client waits to be accepted at a socket.
+fn is_readable(listening: &UnixStream) -> bool {
+    let mut sockets = [pollfd {
+        fd: listening.as_raw_fd(),
+        events: POLLIN,
+        revents: 0,
+    }];
+    poll(&mut sockets, 0) > 0
+}
+
+impl<R: Files + Clock> Watch for SocketWatch<'_, R> {
     ghost may_end = { λ _. Unit {0} };
 
     fn looks_up(&self) -> bool {
@@ -300,6 +402,7 @@ impl<R: Files + Eprint + Clock> Watch for SocketWatch<'_, R> {
     fn look(&self) {
         if !self.is_ending() && self.is_look_due() {
             self.look_at_files();
+            self.look_at_clients();
         }
         if let Some(manager) = &self.manager {
             manager.report_work(self.elapsed());
@@ -311,8 +414,16 @@ impl<R: Files + Eprint + Clock> Watch for SocketWatch<'_, R> {
         self.ending.load(Ordering::SeqCst)
     }
 
+    fn has_waiting(&self) -> bool {
+        self.has_waiting.load(Ordering::SeqCst)
+    }
+
+    fn makes_room(&self) -> bool {
+        self.has_waiting.swap(false, Ordering::SeqCst)
+    }
+
     fn logs(&self) -> bool {
-        self.options.logs
+        self.events.is_some()
     }
 
     fn log(&self, line: &str) {
@@ -321,16 +432,24 @@ impl<R: Files + Eprint + Clock> Watch for SocketWatch<'_, R> {
 
     fn connected(&self) {
         self.board.connected();
-        let before = self.busy.fetch_add(1, Ordering::SeqCst);
-        if before.saturating_add(1) == self.options.agents {
+        // The client that waited may be this one.
+        self.has_waiting.store(false, Ordering::SeqCst);
+        self.busy.fetch_add(1, Ordering::SeqCst);
+        if self.are_all_busy() {
             let now = self.elapsed().as_secs();
-            self.all_busy_since.store(now, Ordering::SeqCst);
+            let _ = self
+                .all_busy_since
+                .compare_exchange(NEVER, now, Ordering::SeqCst, Ordering::SeqCst);
         }
     }
 
     fn disconnected(&self) {
+        let were_all_busy = self.are_all_busy();
         self.busy.fetch_sub(1, Ordering::SeqCst);
-        self.all_busy_since.store(NEVER, Ordering::SeqCst);
+        // A client that waits takes the agent at once.
+        if !were_all_busy || !is_readable(&self.listening) {
+            self.all_busy_since.store(NEVER, Ordering::SeqCst);
+        }
     }
 
     fn frame_began(&self) {
@@ -341,6 +460,7 @@ impl<R: Files + Eprint + Clock> Watch for SocketWatch<'_, R> {
     }
 
     fn start_refused(&self) {
+        self.lose_agent();
         self.board.refused(fault_code::CREW_REFUSED);
         self.note(
             Severity::Warning,
@@ -349,15 +469,21 @@ impl<R: Files + Eprint + Clock> Watch for SocketWatch<'_, R> {
     }
 
     fn accept_failed(&self, error: &io::Error) {
+        self.lose_agent();
         self.board.failed(fault_code::SOCKET, error);
-        let number = error.raw_os_error().unwrap_or(0);
-        let _ = self
-            .accept_error
-            .compare_exchange(0, number, Ordering::SeqCst, Ordering::SeqCst);
-        if self.options.logs {
-            let prefix = self.prefix(Severity::Error);
-            let _ = eprintln!(self.rt; "{prefix}accept failed: {error}");
-        }
+        self.note(Severity::Error, format_args!("accept failed: {error}"));
+    }
+
+    fn uses_are_over(&self) {
+        self.lose_agent();
+    }
+
+    fn start_failed(&self, code: u32) {
+        self.board.refused(code);
+        self.note(
+            Severity::Error,
+            format_args!("fault {code}: {}", fault_words(code)),
+        );
     }
 
     fn connection_refused(&self) {
@@ -366,10 +492,29 @@ impl<R: Files + Eprint + Clock> Watch for SocketWatch<'_, R> {
 
     fn client_cut_off(&self, seconds: u32, in_frame: bool) {
         self.board.cut_off();
-        if self.options.logs {
-            let why = if in_frame { "no whole frame" } else { "silent" };
-            let prefix = self.prefix(Severity::Warning);
-            let _ = eprintln!(self.rt; "{prefix}client cut off: {why} for {seconds} s");
+        let why = if in_frame { "no whole frame" } else { "silent" };
+        self.note(
+            Severity::Warning,
+            format_args!("client cut off: {why} for {seconds} s"),
+        );
+    }
+
+    fn request_refused(&self, code: u32) {
+        self.board.answers.refuse();
+        // One line a second: else who may connect fills the event log.
+        let second = self.elapsed().as_secs().saturating_add(1);
+        if self.refused_at.swap(second, Ordering::SeqCst) == second {
+            self.refused_unlogged.fetch_add(1, Ordering::SeqCst);
+            return;
+        }
+        let words = fault_words(code);
+        let line = format_args!("request refused: {code}: {words}");
+        match self.refused_unlogged.swap(0, Ordering::SeqCst) {
+            0 => self.note(Severity::Warning, line),
+            more => self.note(
+                Severity::Warning,
+                format_args!("{line}; {more} more before it"),
+            ),
         }
     }
 
@@ -384,6 +529,22 @@ impl<R: Files + Eprint + Clock> Watch for SocketWatch<'_, R> {
 
     fn uses(&self, journal: JournalUse) {
         self.board.uses(journal);
+        self.look_at_journal(journal);
+    }
+
+    fn unkept(&self, why: NotKept) {
+        let code = why.code();
+        self.board.refused(code);
+        let (words, reason) = (fault_words(code), reason_of(why));
+        self.note(
+            Severity::Error,
+            format_args!("fault {code}: {words}: {reason}"),
+        );
+        if why == NotKept::Full {
+            self.lacks_room.store(true, Ordering::SeqCst);
+        }
+        // Each agent would otherwise stay with an idle client, or accept one more, before it ends.
+        self.end("ending: the next start goes on with what was kept");
     }
 
     fn carried_out(&self, asked: Option<(RequestKind, Key)>, reply: Reply) {
@@ -416,15 +577,29 @@ impl<R: Files + Eprint + Clock> Watch for SocketWatch<'_, R> {
 
     fn notice_submitted(&self, line: &str, verdict: Verdict, reply: &str) {
         self.board.submissions.count(verdict);
-        if self.options.logs {
-            let (severity, became) = match verdict {
-                Verdict::Accepted => (Severity::Info, "accepted"),
-                Verdict::RefusedForGood => (Severity::Warning, "refused"),
-                Verdict::PutOff => (Severity::Info, "put off"),
-                Verdict::ServerAway => (Severity::Warning, "not taken now"),
-            };
-            let _ = eprintln!(self.rt; "{}{line} {became}: {reply}", self.prefix(severity));
+        let (severity, became) = match verdict {
+            Verdict::Accepted => (Severity::Info, "accepted"),
+            Verdict::RefusedForGood => (Severity::Warning, "refused"),
+            Verdict::PutOff => (Severity::Info, "put off"),
+            Verdict::ServerAway => (Severity::Warning, "not taken now"),
+        };
+        let unreached = self.unreached.swap(0, Ordering::SeqCst);
+        if !reply.is_empty() {
+            self.note(severity, format_args!("{line} {became}: {reply}"));
+        } else if unreached != 0 {
+            let error = io::Error::from_raw_os_error(unreached);
+            self.note(severity, format_args!("{line} {became}: {error}"));
+        } else {
+            self.note(severity, format_args!("{line} {became}: no reply"));
         }
+    }
+
+    fn server_unreached(&self, error: &io::Error) {
+        let number = match error.kind() {
+            ErrorKind::TimedOut => TIMED_OUT,
+            _ => error.raw_os_error().unwrap_or(0),
+        };
+        self.unreached.store(number, Ordering::SeqCst);
     }
 
     fn submission_stopped(&self, why: &str) {
@@ -437,11 +612,12 @@ impl<R: Files + Eprint + Clock> Watch for SocketWatch<'_, R> {
 
     fn outbox_failed(&self, error: &io::Error) {
         self.board.failed(fault_code::OUTBOX_WRITE, error);
-        if self.options.logs {
-            let code = fault_code::OUTBOX_WRITE;
-            let (prefix, words) = (self.prefix(Severity::Error), fault_words(code));
-            let _ = eprintln!(self.rt; "{prefix}fault {code}: {words}: {error}");
-        }
+        let code = fault_code::OUTBOX_WRITE;
+        let words = fault_words(code);
+        self.note(
+            Severity::Error,
+            format_args!("fault {code}: {words}: {error}"),
+        );
         if self.options.ends_on_fault {
             self.end("ending: the outbox could not be written");
         }

@@ -6,10 +6,11 @@ use dsn_text::fault_words;
 use std::alloc::{AllocError, Global};
 use std::fmt::Write;
 
-/// How many agents a run has, how many of them have a connection, and for how many seconds it goes
-/// on.
+/// How many agents a run has, how many of them have a connection, for how many seconds it goes on, and
+/// whether it is ending.
 #[derive(Clone, Copy)]
 pub(crate) struct RunCounts {
+    pub(crate) is_ending: bool,
     pub(crate) agents: u32,
     pub(crate) busy: u32,
     pub(crate) uptime: u64,
@@ -24,6 +25,7 @@ pub(crate) fn status_text(
 ) -> Result<String, AllocError> {
     let mut text = String::new(alloc);
     let keys = board.key_counts();
+    writeln!(text, "state {}", state_of(keys.limit, run.is_ending))?;
     add(&mut text, "uptime_seconds", run.uptime)?;
     add(&mut text, "agents", u64::from(run.agents))?;
     add(&mut text, "agents_busy", u64::from(run.busy))?;
@@ -42,6 +44,18 @@ pub(crate) fn status_text(
     add_fault(&mut text, board)?;
     add_open_logs(&mut text, board.open_logs(alloc), run.uptime)?;
     Ok(text)
+}
+
+/// The state of a run. Its keeper says how many keys it may hold once the journal is read: until then
+/// all other counts are 0.
+fn state_of(keys_limit: u32, is_ending: bool) -> &'static str {
+    if is_ending {
+        "ending"
+    } else if keys_limit == 0 {
+        "starting"
+    } else {
+        "serving"
+    }
 }
 
 /// Adds a line.

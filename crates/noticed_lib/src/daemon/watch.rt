@@ -3,6 +3,7 @@ ghost use Rattle.std.specs.Prelude.{◌≡◌, true};
 
 use crate::daemon::journal_use::JournalUse;
 use crate::daemon::request_counts::RequestKind;
+use dsn_book::NotKept;
 use dsn_outcome::{Key, Reply};
 use dsn_submission::Verdict;
 use std::io;
@@ -40,6 +41,14 @@ pub trait Watch {
     fn is_ending(&self) -> bool
         ensures { result ≡ true → may_end self.now };
 
+    /// Whether a client waited to be accepted, while each agent that takes connections had one, when
+    /// the run was looked after last.
+    fn has_waiting(&self) -> bool;
+
+    /// Whether the connection that asks is to make room for a client that waits. Of several that ask
+    /// one is told so.
+    fn makes_room(&self) -> bool;
+
     /// Whether a line is wanted for what happens.
     fn logs(&self) -> bool;
 
@@ -61,12 +70,21 @@ pub trait Watch {
     /// Reports that a connection could not be accepted.
     fn accept_failed(&self, error: &io::Error);
 
+    /// Reports that an agent has had all its connections.
+    fn uses_are_over(&self);
+
+    /// Reports that the run doesn't begin, with the number of the fault.
+    fn start_failed(&self, code: u32);
+
     /// Reports that a connection was refused, since the run is ending.
     fn connection_refused(&self);
 
     /// Reports that a client was cut off after this number of seconds: of silence, or in the middle
     /// of a frame.
     fn client_cut_off(&self, seconds: u32, in_frame: bool);
+
+    /// Reports that a request was answered with the number of its refusal.
+    fn request_refused(&self, code: u32);
 
     /// Reports how many keys the run may hold.
     fn may_hold(&self, keys: u32);
@@ -77,6 +95,9 @@ pub trait Watch {
     /// Reports how much of the journal's file has records.
     fn uses(&self, journal: JournalUse);
 
+    /// Reports that requests could not be kept, and why. The run ends by it.
+    fn unkept(&self, why: NotKept);
+
     /// Reports that a request was carried out: what it asked of which log, unless it was a goodbye,
     /// and its reply.
     fn carried_out(&self, asked: Option<(RequestKind, Key)>, reply: Reply);
@@ -86,8 +107,11 @@ pub trait Watch {
     fn notice_written(&self, line: &str);
 
     /// Reports that a notice was submitted to the mail server: the line for it, if lines are
-    /// wanted, the verdict, and the server's reply.
+    /// wanted, the verdict, and the server's reply, which is empty if there was none.
     fn notice_submitted(&self, line: &str, verdict: Verdict, reply: &str);
+
+    /// Reports why no connection to the mail server was made.
+    fn server_unreached(&self, error: &io::Error);
 
     /// Reports how many notices wait for the mail server now.
     fn notices_wait(&self, notices: usize);

@@ -83,6 +83,9 @@ impl<K: Keeper + HasJournal, O: Observer> Keeper for Watched<K, O> {
     fn keep(&mut self, requests: &[Request]) -> Result<(), NotKept> {
         let kept = self.keeper.keep(requests);
         self.report_use();
+        if let Err(why) = kept {
+            self.observer.unkept(why);
+        }
         kept
     }
 

@@ -62,8 +62,7 @@ impl<H: Watch> Submissions for WatchedSubmissions<'_, H> {
     }
 }
 
-/// The first line of a reply, with `?` in place of each byte that isn't printable; words if there is
-/// none.
+/// The first line of a reply, with `?` in place of each byte that isn't printable.
 fn reply_line(reply: &[u8]) -> ArrayString<REPLY_ROOM> {
     let mut line = ArrayString::new();
     for byte in reply.iter().take_while(|byte| **byte != b'\r') {
@@ -74,9 +73,6 @@ fn reply_line(reply: &[u8]) -> ArrayString<REPLY_ROOM> {
         };
         // What finds no room is left out.
         let _ = line.try_push(char::from(shown));
-    }
-    if line.is_empty() {
-        let _ = line.try_push_str("no reply");
     }
     line
 }

@@ -8,4 +8,4 @@ returns-in-Ok g c = rw (c.in-Ok.is, ← c.as_slice.ensures.value) c.write_open_l
 pub returns-in-Err : goal.returns-in-Err
 unfolding open_lines
 returns-in-Err g c =
-    rw (c.in-Err.is, ← c.fault_line.ensures, ← c.deref.ensures.0, ← c.as_bytes.ensures.value) c.write.ensures
+    rw (c.in-Err.is, ← c.fault_line.ensures, ← c.bytes.ensures.same) c.write.ensures

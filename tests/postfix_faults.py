@@ -161,11 +161,12 @@ def killed(serves, kills: int, checks: Checks, name: str, most) -> tuple:
 
 def kills(checks: Checks, serves, full: bool):
     """Killed at load: none is lost, and few are told twice: those of the notices that were taken at a kill, of two in
-    hand at most, and whose log was still there. A notice of these messages tells of up to three."""
+    hand at most, and whose log was still there. A notice of these messages tells of up to three, so a kill makes six at
+    most."""
     count = 50 if full else 12
     twice, _ = killed(None, count, checks, "bounce(8)", None)
     if serves:
-        killed(serves, count, checks, "noticed", max(twice, 3 * count))
+        killed(serves, count, checks, "noticed", max(twice, 6 * count))
 
 
 def hand_in_fails(checks: Checks, serves, full: bool):

@@ -1,27 +1,31 @@
-"""Checks wrong arguments (status 2, no standard output, the reason, where to find help and the usage line on standard error),
-unusual correct ones, the help and the version."""
+"""Checks wrong arguments (status 2, no standard output, the reason, the usage line and where to find help on standard
+error), unusual correct ones, the help and the version."""
 
 import re
 import tempfile
 from pathlib import Path
 
-from tests.support.faults import fault_line
+from tests.support.faults import fault_line, worded
 from tests.support.running import ROOT, VECTORS, Checks, Ran, empty_outbox, run
 
 FAULT_CODES = ROOT / "crates/dsn_text/src/fault_code.rt"
 
-USAGE = (
-    b"usage: noticed batch HOST"
-    b" | serve [--config FILE] [--inherited] [[--journal FOLDER] --outbox PATH | --journal FOLDER --hand-in HAND-IN [--give-up SECONDS]] [--release-closed] [--logs N] [--entries N] [--idle SECONDS] [--end-on-fault] [--log] SOCKET HOST AGENTS MAX-USE"
-    b" | stop SOCKET | send SOCKET | status [--open|--prometheus] SOCKET"
-    b" | discard SOCKET SERVICE ID | forget SOCKET SERVICE ID | journal FOLDER"
-    b" | hand-in [--done FILE] [--give-up SECONDS] HAND-IN"
-    b" | postfix [--lifetime SECONDS] [--bounce-size-limit BYTES] [--double-bounce ADDRESS]"
-    b" [--hash-queue-names NAMES]"
-    b" [--hash-queue-depth DEPTH] [--pass-on CLASSES] [--templates FOLDER] [--threaded] [--inherited] QUEUE-FOLDER HOST HAND-IN"
-    b" | preview [OPTIONS] QUEUE-FOLDER HOST ID\n"
-)
-PATH = b"the path of the socket must have 1 to 107 bytes\n"
+# the usage line of `batch`, `serve` and `send`, and of a command that isn't known
+FRAMES = b"usage: noticed batch HOST | serve SOCKET HOST AGENTS MAX-USE | send SOCKET\n"
+# those of the other commands
+OTHERS = {
+    "stop": b"usage: noticed stop SOCKET\n",
+    "status": b"usage: noticed status [--open|--prometheus] SOCKET\n",
+    "discard": b"usage: noticed discard SOCKET SERVICE ID\n",
+    "forget": b"usage: noticed forget SOCKET SERVICE ID\n",
+    "journal": b"usage: noticed journal FOLDER\n",
+    "hand-in": b"usage: noticed hand-in [--done FILE] [--give-up SECONDS] HAND-IN\n",
+    "resubmit": b"usage: noticed resubmit FOLDER HOST HAND-IN\n",
+    "postfix": b"usage: noticed postfix [OPTIONS] QUEUE-FOLDER HOST HAND-IN\n",
+    "preview": b"usage: noticed preview [OPTIONS] QUEUE-FOLDER HOST ID\n",
+    "faults": b"usage: noticed faults\n",
+}
+HINT = b"try 'noticed help'\n"
 HOST = "mx.example.net"
 SOCKET = "/nonexistent/noticed.socket"
 JOURNAL = ["--journal", "/nonexistent"]
@@ -322,9 +326,8 @@ REASONS = {
     b"error: an argument is not UTF-8": ["batch", b"\xff"],
     b"error: unexpected argument '--hlep' found": ["batch", "--hlep"],
     b"error: unrecognized subcommand 'bounce'": ["bounce", HOST],
-    b"error: the following required arguments were not provided:\n  <HOST>": ["batch"],
+    b"error: the following required arguments were not provided: <HOST>": ["batch"],
 }
-HINT = b"\ntry 'noticed help'\n"
 
 # files that are no templates, and what is wrong with each
 HEAD = b"Charset: utf-8\nFrom: a\nSubject: b\n\n"
@@ -344,7 +347,7 @@ NO_TEMPLATES = {
 # words that ask for something to read, and what it begins with and has
 READ = {
     "noticed --help": (["--help"], b"Logs outcomes of deliveries", b"\nUsage: noticed <COMMAND>\n"),
-    "noticed -h": (["-h"], b"Logs outcomes of deliveries", b"\n  postfix  Serves a Postfix in place of bounce(8)\n"),
+    "noticed -h": (["-h"], b"Logs outcomes of deliveries", b"\n  postfix   Serves a Postfix in place of bounce(8)\n"),
     "noticed help": (["help"], b"Logs outcomes of deliveries", b"\n  batch    "),
     "noticed help serve": (
         ["help", "serve"],
@@ -384,6 +387,14 @@ def wrong_of_postfix() -> dict:
     return wrong
 
 
+def refused(words: list, reason: bytes) -> bytes:
+    """What standard error has for wrong arguments: the reason in one line, the usage line of the command, which is that
+    of the commands over frames if these words can't be read or name none, and where to find help."""
+    is_text = all(isinstance(it, str) for it in words)
+    usage = OTHERS.get(words[0], FRAMES) if words and is_text else FRAMES
+    return reason + b"\n" + usage + HINT
+
+
 def check_templates(checks: Checks):
     """A file that is no template is wrong, with its path and the reason; a folder that isn't there is wrong too."""
     with tempfile.TemporaryDirectory() as folder:
@@ -391,11 +402,11 @@ def check_templates(checks: Checks):
         for number, (text, why) in enumerate(NO_TEMPLATES.items()):
             path = Path(folder, ("failure", "delay", "success", "verify")[number % 4])
             path.write_bytes(text)
-            wanted = Ran(b"", f"error: {path}: {why}".encode() + HINT + USAGE, 2)
+            wanted = Ran(b"", refused(words, f"error: {path}: {why}".encode()), 2)
             checks.equal(f"a template {text[:30]}..: {why}", run(words, b""), wanted)
             path.unlink()
     why = f"error: {folder}: No such file or directory (os error 2)"
-    checks.equal("templates of a folder that isn't there", run(words, b""), Ran(b"", why.encode() + HINT + USAGE, 2))
+    checks.equal("templates of a folder that isn't there", run(words, b""), Ran(b"", refused(words, why.encode()), 2))
 
 
 def main():
@@ -410,10 +421,11 @@ def main():
     wrong |= wrong_of_postfix()
     for what, words in wrong.items():
         ran = run(words, given)
-        reason, hint, usage = ran.notes.partition(HINT)
-        checks.equal(what, (ran.outbox, reason[:7], hint, usage, ran.status), (b"", b"error: ", HINT, USAGE, 2))
+        reason = ran.notes.partition(b"\n")[0]
+        checks.equal(what, (ran.outbox, ran.notes, ran.status), (b"", refused(words, reason), 2))
+        checks.true(f"{what}: a reason", reason.startswith(b"error: ") and len(reason) > 20)
     for reason, words in REASONS.items():
-        checks.equal(reason.decode(), run(words, given), Ran(b"", reason + HINT + USAGE, 2))
+        checks.equal(reason.decode(), run(words, given), Ran(b"", refused(words, reason), 2))
     check_templates(checks)
     for what, (words, begins, has) in READ.items():
         ran = run(words, given)
@@ -424,17 +436,21 @@ def main():
     codes = [int(it) for it in re.findall(r"^pub const \w+: u32 = (\d+);$", FAULT_CODES.read_text(), re.M)]
     checks.equal("each number is listed once, in order", listed, sorted(codes))
     for path in NO_PATHS:
-        for words in (["serve", path, HOST, "2", "1"], ["stop", path], ["send", path]):
-            checks.equal(f"{words[0]} with a path of {len(path)} bytes", run(words, given), Ran(b"", PATH, 2))
+        for words in (["serve", path, HOST, "2", "1"], ["send", path]):
+            checks.equal(f"{words[0]} with a path of {len(path)} bytes", run(words, given), Ran(b"", fault_line(61), 1))
+        logged = run(["serve", "--log", path, HOST, "2", "1"])
+        wanted = fault_line(61) + f"{path}: the path must have 1 to 107 bytes\n".encode()
+        checks.equal(f"serve --log with a path of {len(path)} bytes", logged, Ran(b"", wanted, 1))
     why = "No such file or directory (os error 2)"
+    cause = f"{SOCKET}: {why}\n".encode()
     for what, words in RIGHT.items():
-        path = SOCKET if SOCKET in words else words[-1]
-        checks.equal(what, run(words, given), Ran(b"", fault_line(61) + f"{path}: {why}\n".encode(), 1))
+        wanted = worded(61) + cause if words[0] == "stop" else fault_line(61) + cause * ("--log" in words)
+        checks.equal(what, run(words, given), Ran(b"", wanted, 1))
     for what, words in RIGHT_OF_POSTFIX.items():
         checks.equal(
             f"postfix with {what}",
             run(["postfix", *words], given),
-            Ran(b"", fault_line(61) + f"{QUEUE}/private: {why}\n".encode(), 1),
+            Ran(b"", worded(61) + f"{QUEUE}/private: {why}\n".encode(), 1),
         )
     for host in ODD_HOSTS:
         checks.equal(f"batch {host[:20]}", run(["batch", host]), Ran(empty_outbox(host), b"", 0))

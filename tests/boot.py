@@ -193,7 +193,9 @@ def check_by_hand(checks: Checks, it: Machine):
     typed = "".join(command.text for command in it.page.commands if command.prompt == "$")
     typed = typed.replace("A1B2C3", "HAND")  # a key that isn't closed in this run
     said = it.said("runuser", "-u", "agent", "--", "sh", "-c", f"cd /tmp\n{typed}")
-    checks.equal("by hand", said, "0 logged 0\n1 sealed 1")
+    answers = [line.partition(", serial")[0] for line in said.splitlines()]
+    wanted = ["Answer(reply=<Reply.LOGGED: 1>, value=0", "Answer(reply=<Reply.SEALED: 7>, value=1"]
+    checks.equal("by hand", answers, wanted)
     checks.true("its notice comes", it.gets(b"HAND"))
     it.sent(frames.forget(0, 1, b"A1B2C3") + append(1, b"A1B2C3"))
     ran = it.shell(it.page.take("noticed discard ", "noticed forget "))
@@ -209,26 +211,21 @@ def check_by_hand(checks: Checks, it: Machine):
 
 
 def check_refused(checks: Checks, it: Machine):
-    """A notice that was refused is submitted again by the page's commands."""
-    it.run("systemctl", "stop", "noticed.socket", "noticed")
+    """A notice that was refused is submitted again by the page's command, while the daemon runs; the daemon's account
+    owns the file of later ones."""
     letter = OUTBOX.partition(b"\r\n")[2].removesuffix(b"QUIT\r\n").replace(b"A1B2C3", b"KEPT")
     it.file(KEPT).write_bytes(b"NOOP 550 no\r\n" + letter)
-    checks.equal("submitted again", it.shell(it.page.take("cd /var/lib", "{ ")).returncode, 0)
+    checks.equal("submitted again", it.shell(it.page.take("noticed resubmit")).returncode, 0)
     checks.equal("the mail server has it", len(it.taken(b"KEPT")), 1)
-    it.shell(f"cd {STATE}/journal; : > refused; rm again again.refused").check_returncode()
-    it.run("systemctl", "start", "noticed.socket", "noticed")
+    checks.equal("its file's owner", it.said("stat", "-c", "%U %a", KEPT), "noticed 600")
 
 
 def check_kept(checks: Checks, it: Machine):
-    """A backup, a longer journal, and an upgrade: an open log stands over these."""
+    """A backup and an upgrade: an open log stands over these."""
     checks.equal("an outcome", it.sent(open_log(2)), b"0 logged 0\n")
     it.run("mkdir", "/root/backup")
     ran = it.shell(it.page.take("cp -p ", "noticed journal BACKUP").replace("BACKUP", "/root/backup"))
     checks.true(f"a backup: {ran.stderr}", not ran.returncode and b"open D OPEN2 1\n" in ran.stdout)
-    size = it.file(f"{STATE}/journal/journal").stat().st_size
-    ran = it.shell(it.page.take("systemctl stop ", "head -c ", "systemctl start "))
-    checks.equal("a longer journal", (ran.returncode, ran.stderr), (0, b""))
-    checks.equal("its size", it.file(f"{STATE}/journal/journal").stat().st_size, size + 2**26)
     it.page.take("make install")
     make_install(it)
     ran = it.shell(it.page.take("systemctl daemon-reload && systemctl restart"))

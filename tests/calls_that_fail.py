@@ -7,7 +7,7 @@ import tempfile
 from pathlib import Path
 from typing import Optional
 
-from tests.support.daemon_and_clients import Daemon, conversation, flush, line, socket_fault
+from tests.support.daemon_and_clients import Daemon, conversation, flush, line
 from tests.support.faults import fault_line
 from tests.support.formats import sessions
 from tests.support.formats.logs import REFUSED, Limits, Logs
@@ -147,7 +147,7 @@ def check_accept(checks: Checks, library: Path):
     given = (VECTORS / "one-bounce.frames").read_bytes()
     checks.equal("an interrupted accept", serve(library, given, "accept:4", 1, errno.EINTR), served(given))
     with Daemon(1, 1, env=failing(library, "accept:4", 1, errno.EMFILE)) as daemon:
-        notes = line(0, 0, 0) + socket_fault(daemon.path, "Too many open files (os error 24)")
+        notes = line(0, 0, 0) + fault_line(61)
         checks.equal("an accept that fails", daemon.end(), Ran(outbox(HOST.encode(), []), notes, 1))
 
 

@@ -3,7 +3,7 @@ which is named with the file. And dist/noticed.conf, which the unit uses."""
 import tempfile
 from pathlib import Path
 
-from tests.support.daemon_and_clients import FRAMES, OUTBOX, Daemon, socket_fault
+from tests.support.daemon_and_clients import FRAMES, OUTBOX, Daemon, logged_fault
 from tests.support.faults import fault_line
 from tests.support.running import DIST, HOST, Checks, run
 
@@ -13,13 +13,14 @@ ALL = {
     "agents": "2",
     "max-use": "1",
     "journal": "/nonexistent/journal",
+    "max-journal": "1024",
     "outbox": "/dev/null",
     "release-closed": "no",
     "logs": "65536",
     "entries": "1000",
     "idle": "300",
     "end-on-fault": "yes",
-    "log": "no",
+    "log": "yes",
     "inherited": "no",
 }
 # a wrong line, and what is said of it
@@ -31,10 +32,10 @@ WRONG = {
     "agents = 17": "AGENTS must be 1 to 16, not '17'",
     "max-use = 01": "MAX-USE must be 1 to 1000000, not '01'",
     "logs = 65537": "logs must be 1 to 65536, not '65537'",
+    "max-journal = 4097": "max-journal must be 1 to 4096, not '4097'",
     "idle = 5m": "idle must be 1 to 86400, not '5m'",
     "host = a_b": "HOST must be 1 to 255 letters, digits, dots and hyphens, not 'a_b'",
     "log = true": "log must be yes or no, not 'true'",
-    "socket = " + "s" * 108: "socket must have 1 to 107 bytes",
 }
 
 
@@ -46,7 +47,7 @@ def text_of(values: dict) -> str:
 def reason_of(words: list) -> tuple:
     """The reason that is given for wrong arguments, without the hint and the usage line, and the status."""
     ran = run(words)
-    return ran.notes.decode().partition("\ntry 'noticed help'\n")[0], ran.status
+    return ran.notes.decode().partition("\nusage: ")[0], ran.status
 
 
 def wrong(checks: Checks, file: Path):
@@ -57,7 +58,7 @@ def wrong(checks: Checks, file: Path):
         file.write_text("# a comment\n\n" + line + "\n" + text_of({it: ALL[it] for it in ALL if it != key}))
         checks.equal(line[:40], reason_of(words), (f"error: {file}:3: {why}", 2))
     file.write_text(text_of(ALL) + "host = other\n")
-    checks.equal("a key twice", reason_of(words), (f"error: {file}:14: has a key that was set before: 'host'", 2))
+    checks.equal("a key twice", reason_of(words), (f"error: {file}:15: has a key that was set before: 'host'", 2))
     for key in ("socket", "host", "agents", "max-use"):
         file.write_text(text_of({it: ALL[it] for it in ALL if it != key}))
         checks.equal(f"no {key}", reason_of(words), (f"error: {file}: {key} is not set", 2))
@@ -73,17 +74,17 @@ def wrong(checks: Checks, file: Path):
     checks.true("a mail server without a port", reason_of(words)[0].startswith(f"error: {file}:1: HAND-IN must be "))
     file.unlink()
     checks.equal("no file", reason_of(words), (f"error: {file}: No such file or directory (os error 2)", 2))
-    file.write_bytes(b"host = \xff\n")
-    checks.equal("no text", reason_of(words)[1], 2)
+    file.write_bytes(b"# one\nhost = \xff\n")
+    checks.equal("no text", reason_of(words), (f"error: {file}:2: is not UTF-8", 2))
 
 
 def right(checks: Checks, file: Path):
     """The file alone, and the command line above it."""
-    file.write_text("\t" + text_of(ALL).replace("journal = ", "# ").replace(" = ", "=", 1))
+    file.write_text("\t" + text_of(ALL).replace("\njournal = ", "\n# ").replace(" = ", "=", 1))
     words = ["serve", "--config", str(file)]
     why = "No such file or directory (os error 2)"
-    checks.equal("each key", run(words).notes, socket_fault(ALL["socket"], why))
-    checks.equal("another socket", run([*words, "/nonexistent/s"]).notes, socket_fault("/nonexistent/s", why))
+    checks.equal("each key", run(words).notes, logged_fault(ALL["socket"], why))
+    checks.equal("another socket", run([*words, "/nonexistent/s"]).notes, logged_fault("/nonexistent/s", why))
     checks.equal("wrong agents", reason_of([*words, "/s", HOST, "17"])[0], "error: AGENTS must be 1 to 16, not '17'")
     checks.equal("a wrong option", reason_of([*words, "--idle", "0"])[0], "error: idle must be 1 to 86400, not '0'")
     file.write_text(text_of({"agents": "1", "max-use": "1", "log": "yes"}))

@@ -18,7 +18,7 @@ from tests.support.daemon_and_clients import (
     closed_pipe,
     flush,
     line,
-    socket_fault,
+    logged_fault,
 )
 from tests.support.preloading import built, compare_ends, each_refused, preloading
 from tests.support.faults import fault_line
@@ -30,14 +30,14 @@ NO_SOCKET = "is no socket, and is left alone"
 NOT_THERE = "No such file or directory (os error 2)"
 NO_FOLDER = "Not a directory (os error 20)"
 TOO_MANY = "Too many open files (os error 24)"
-TOO_LONG = Ran(b"", b"the path of the socket must have 1 to 107 bytes\n", 2)
+NO_PLACE = Ran(b"", fault_line(61), 1)
 UNBEGUN = Ran(b"", fault_line(9), 1)
 REFUSED = Ran(b"", fault_line(42), 1)
 
 
 def unbound(path: str, why: str) -> Ran:
-    """The end of a daemon that couldn't have its socket."""
-    return Ran(b"", socket_fault(path, why), 1)
+    """The end of a daemon with --log that couldn't have its socket."""
+    return Ran(b"", logged_fault(path, why), 1)
 
 
 def sockets(checks: Checks):
@@ -53,16 +53,16 @@ def sockets(checks: Checks):
             "a folder under a file": (f"{taken}/socket", NO_FOLDER),
         }
         for what, (path, why) in paths.items():
-            checks.equal(what, run(["serve", path, HOST, "2", "1"], timeout=PATIENCE), unbound(path, why))
+            checks.equal(what, run(["serve", "--log", path, HOST, "2", "1"], timeout=PATIENCE), unbound(path, why))
         for length in (0, 108, 300):
             path = (longest + "s" * 193)[:length]
-            checks.equal(f"a path of {length} bytes", run(["serve", path, HOST, "2", "1"], timeout=PATIENCE), TOO_LONG)
+            checks.equal(f"a path of {length} bytes", run(["serve", path, HOST, "2", "1"], timeout=PATIENCE), NO_PLACE)
         checks.equal("the file is as it was", taken.read_bytes(), b"kept")
         with Daemon(1, 1, longest) as daemon:
             daemon.listens()
             checks.equal(
                 "a second daemon on it",
-                run(["serve", longest, HOST, "1", "1"], timeout=PATIENCE),
+                run(["serve", "--log", longest, HOST, "1", "1"], timeout=PATIENCE),
                 unbound(longest, IN_USE),
             )
             checks.equal("a path of 107 bytes", daemon.send(), Ran(NOTES, b"", 0))
@@ -137,12 +137,14 @@ def descriptors(count: int):
 def few_descriptors(checks: Checks):
     """One for the socket alone, which takes two; none for a connection beside these; and one for two agents. The ports
     that failed are told once. The socket of the status takes two as well, or there is none."""
-    with Daemon(2, 1, preexec_fn=descriptors(4)) as daemon:
+    with Daemon(2, 1, options=["--log"], preexec_fn=descriptors(4)) as daemon:
+        checks.equal("one for the socket", daemon.end(), unbound(daemon.path, TOO_MANY))
+    with Daemon(2, 1, options=["--log"], preexec_fn=descriptors(5)) as daemon:
         checks.equal("one for the socket", daemon.end(), unbound(daemon.path, TOO_MANY))
     with Daemon(2, 1, preexec_fn=descriptors(5)) as daemon:
-        checks.equal("one for the socket", daemon.end(), unbound(daemon.path, TOO_MANY))
+        checks.equal("the same without a log", daemon.end(), Ran(b"", fault_line(61), 1))
     with Daemon(2, 1, preexec_fn=descriptors(6)) as daemon:
-        notes = line(0, 0, 0) + line(1, 0, 0) + socket_fault(daemon.path, TOO_MANY)
+        notes = line(0, 0, 0) + line(1, 0, 0) + fault_line(61)
         checks.equal("none for a connection", daemon.end(), Ran(empty_outbox(), notes, 1))
     with Daemon(2, 1, options=["--log"], preexec_fn=descriptors(7)) as daemon:
         begun = f"listening on {daemon.path} for {HOST}: 2 agents, 1 connections each\n"
@@ -151,7 +153,7 @@ def few_descriptors(checks: Checks):
         # (an agent that begins once the client was served would find the descriptor free again)
         checks.equal("one for two agents, the other", daemon.said(len(said)), said)
         checks.equal("one for two agents, the client", daemon.send(), Ran(NOTES, b"", 0))
-        ended, fault = daemon.end(), socket_fault(daemon.path, TOO_MANY)
+        ended, fault = daemon.end(), fault_line(61)
         checks.true(
             "its notes", ended.notes.endswith((line(0, 2) + line(1, 0, 0) + fault, line(0, 0, 0) + line(1, 2) + fault))
         )

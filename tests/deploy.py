@@ -123,12 +123,10 @@ def served(checks: Checks):
         three_runs(checks, room, server, page)
         checks.equal("the one that was refused isn't tried again", server.tries[b"M2@example.com"], 1)
         server.refused = ()
-        again = page.take("cd /var/lib/noticed/journal", "{ ").replace("localhost:25", server.address)
-        again = again.replace("/var/lib/noticed", str(room)).replace("noticed hand-in", f"{program()} hand-in")
+        again = page.take("noticed resubmit").replace("localhost:25", server.address)
+        again = again.replace("/var/lib/noticed", str(room)).replace("noticed resubmit", f"{program()} resubmit")
         ran = subprocess.run(["sh", "-e", "-c", again], capture_output=True, check=False)
-        checks.equal(
-            "submitted again by hand", (ran.returncode, (room / "journal/again.refused").read_bytes()), (0, b"")
-        )
+        checks.equal("submitted again by hand", (ran.returncode, (room / "journal/refused").read_bytes()), (0, b""))
         wanted = [b"M1@example.com", b"M2@example.com", b"ann@example.com"]
         checks.equal("each notice came once", sorted(it for it, _ in server.taken), wanted)
         for message in ("M1", "M2"):

@@ -86,6 +86,25 @@ def check_put_off(checks: Checks, outbox: bytes):
     checks.equal("all are put off once: messages", taken_by(server), wanted_of(outbox))
 
 
+def check_client_refused(checks: Checks, outbox: bytes):
+    """A 5yz to RCPT that isn't a mailbox's (550 to 553) refuses the client, and no notice is refused for good by it."""
+    for reply in (b"554 5.7.1 client host rejected", b"530 5.7.0 authentication required", b"521 no mail here"):
+        server = MailServer(greylists=1)
+        server.put_off = reply
+        ran = run(["hand-in", server.address], outbox)
+        about = reply[:3].decode()
+        checks.equal(f"{about}: status", (ran.status, ran.outbox), (0, b""))
+        put_off = [f"put off {at} {PATHS[at - 1].decode()}: {reply.decode()}" for at in (1, 2, 3)]
+        checks.equal(f"{about}: lines", lines_of(ran), put_off + accepted(1, 2, 3))
+        checks.equal(f"{about}: messages", taken_by(server), wanted_of(outbox))
+    for reply in (b"550 no such user", b"551 not local", b"552 5.2.2 over quota", b"553 no such name"):
+        server = MailServer(greylists=1)
+        server.put_off = reply
+        ran = run(["hand-in", server.address], outbox)
+        wanted = [f"refused {at} {PATHS[at - 1].decode()}: {reply.decode()}" for at in (1, 2, 3)]
+        checks.equal(f"{reply[:3].decode()}: each is refused", (ran.status, lines_of(ran)), (0, wanted))
+
+
 def check_hang_up(checks: Checks, outbox: bytes):
     """One at which the server hangs up doesn't keep the others."""
     server = StrictServer(hangs_up=["RCPT"])
@@ -179,7 +198,9 @@ def check_away(checks: Checks, outbox: bytes):
     coming.join()
     checks.equal("the server comes later: status", ran.status, 0)
     checks.equal("the server comes later: messages", taken_by(servers[0]), wanted_of(outbox))
-    checks.true("the server comes later: said", lines_of(ran)[0].startswith("not taken now 1 "))
+    said = lines_of(ran)[0]
+    checks.true("the server comes later: said", said.startswith("not taken now 1 "))
+    checks.true("and why", "Connection refused" in said or "No such file" in said)
 
 
 def check_done(checks: Checks, outbox: bytes, room: Path):
@@ -285,6 +306,7 @@ def main():
     check_taken(checks, outbox)
     check_refused(checks, outbox)
     check_put_off(checks, outbox)
+    check_client_refused(checks, outbox)
     check_hang_up(checks, outbox)
     check_strict(checks, outbox)
     check_lost_reply(checks, outbox)

@@ -20,7 +20,7 @@ from tests.support.daemon_and_clients import (
     flush,
     heard,
     is_ended,
-    socket_fault,
+    logged_fault,
     until,
 )
 from tests.support.private_postfix import HANDS_ON
@@ -213,22 +213,22 @@ def empty_connections(checks: Checks):
 def refused(checks: Checks):
     """No socket, one at another path, and a file that is no socket aren't taken; a second run isn't begun."""
     with Kept() as kept:
-        words = ["serve", "--inherited", kept.path, HOST, "1", "1"]
-        bad = socket_fault(kept.path, "Bad file descriptor (os error 9)")
+        words = ["serve", "--inherited", "--log", kept.path, HOST, "1", "1"]
+        bad = logged_fault(kept.path, "Bad file descriptor (os error 9)")
         checks.equal("no socket", run(words, timeout=PATIENCE), Ran(b"", bad, 1))
         other = kept.folder / "other"
         held = [sys.executable, "-c", HANDS_ON, str(kept.listener.fileno()), program()]
         how = {"stdin": subprocess.DEVNULL, "capture_output": True, "check": False, "timeout": PATIENCE}
         ended = subprocess.run(
-            [*held, "serve", "--inherited", str(other), HOST, "1", "1"], pass_fds=[kept.listener.fileno()], **how
+            [*held, "serve", "--inherited", "--log", str(other), HOST, "1", "1"], pass_fds=[kept.listener.fileno()], **how
         )
-        wanted = socket_fault(str(other), "the inherited socket is not at this path")
+        wanted = logged_fault(str(other), "the inherited socket is not at this path")
         checks.equal("another path", (ended.returncode, ended.stderr), (1, wanted))
         kept.start()
         with kept.connect() as client:
             checks.equal("a run", asked(client, append(0)), answer(1))
         ended = subprocess.run([*held, *words], pass_fds=[kept.listener.fileno()], **how)
-        wanted = socket_fault(kept.path, "another daemon has this socket")
+        wanted = logged_fault(kept.path, "another daemon has this socket")
         checks.equal("a second run", (ended.returncode, ended.stderr), (1, wanted))
         with kept.connect() as client:
             checks.equal("the first goes on", asked(client, append(0)), answer(1, 0, 1))

@@ -15,7 +15,7 @@ import tempfile
 from pathlib import Path
 
 from tests.support.daemon_and_clients import Daemon, answer, append, asked, flush, line
-from tests.support.faults import fault_line
+from tests.support.faults import fault_line, worded
 from tests.support.formats import journal
 from tests.support.formats.logs import Limits
 from tests.support.preloading import built, preloading
@@ -192,6 +192,11 @@ def files(checks: Checks, room: Path):
     checks.equal("a longer journal stays as long", len(place.file("journal")), 2 * SIZE)
 
 
+def not_listed(place: Path, words: str, code: int = 72) -> Ran:
+    """The end of `noticed journal` of a folder that it couldn't list."""
+    return Ran(b"", worded(code) + f"{place}: {words}\n".encode(), 1)
+
+
 def listed(place: Place) -> Ran:
     """What `noticed journal` says of the folder."""
     return run(["journal", place.folder])
@@ -213,7 +218,7 @@ def short_marks(checks: Checks, room: Path):
             checks.equal(f"{about}: the outbox", place.outbox.read_bytes(), b"")
             files = (place.file("journal"), place.file("marks"))
             checks.equal(f"{about}: the files stay", files, (begun, has))
-        wanted = not_opened(place.folder, "the file of marks is too short for a mark", 71)
+        wanted = not_listed(place.folder, "the file of marks is too short for a mark", 71)
         checks.equal(f"marks of {len(has)} bytes, listed", listed(place), wanted)
     (place.folder / "marks").write_bytes(bytes(25))
     with place.daemon() as it:
@@ -233,7 +238,7 @@ def missing(checks: Checks, room: Path):
         kept = {it: place.file(it) for it in NEW}
         (place.folder / name).unlink()
         checks.equal(f"without {name}", place.run(), not_opened(place.folder, words))
-        checks.equal(f"without {name}, listed", listed(place), not_opened(place.folder, gone))
+        checks.equal(f"without {name}, listed", listed(place), not_listed(place.folder, gone))
         left = {it.name: it.read_bytes() for it in place.folder.iterdir()}
         checks.equal(f"without {name}: the other file stays alone", left, {it: kept[it] for it in NEW if it != name})
         (place.folder / name).write_bytes(kept[name])
@@ -308,9 +313,9 @@ def lost_bytes(checks: Checks, room: Path):
         (place.folder / "journal").write_bytes(file)
         found = listed(place)
         if not journal.records(file):
-            wanted = not_opened(place.folder, "the file isn't a journal's", 73)
+            wanted = not_listed(place.folder, "the file isn't a journal's", 73)
         elif journal.counted_behind(file) >= 16:
-            wanted = not_opened(place.folder, "a byte among the journal's records was lost", 75)
+            wanted = not_listed(place.folder, "a byte among the journal's records was lost", 75)
             reported += 1
         else:
             wanted = Ran(found.outbox, b"", 0)
@@ -329,7 +334,7 @@ def lost_bytes(checks: Checks, room: Path):
         at = sum(map(len, map(journal.spelled, marks[:kept]))) + 3
         file = journal.at_rest(marks, MARKS)
         (place.folder / "marks").write_bytes(file[:at] + b"\0" + file[at + 1 :])
-        checks.equal(f"a byte of mark {kept} made 0", listed(place), not_opened(place.folder, words, code))
+        checks.equal(f"a byte of mark {kept} made 0", listed(place), not_listed(place.folder, words, code))
 
 
 def torn_forgets(checks: Checks, room: Path):

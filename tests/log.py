@@ -1,15 +1,19 @@
 """Checks `serve --log`: a line on standard error for what happens, when it happens, before the notes; and
 `serve --end-on-fault`: a daemon whose outbox can't be written ends at once, in order. Without them neither."""
+import fcntl
 import os
+import re
+import socket
 import tempfile
+import threading
 import time
 
-from tests.support.daemon_and_clients import OUTBOX, Daemon, answer, append, asked, flush, is_ended, line
-from tests.support.faults import fault_line
+from tests.support.daemon_and_clients import OUTBOX, Daemon, answer, append, asked, flush, is_ended, line, until
+from tests.support.faults import fault_line, worded
 from tests.support.running import HOST, Checks, run
 
 LOG = ("--log",)
-FULL = fault_line(31, "No space left on device (os error 28)")
+FULL = worded(31, "No space left on device (os error 28)")
 
 CUT_OFF = b"client cut off: silent for 1 s\n"
 
@@ -127,6 +131,83 @@ def busy(checks: Checks):
         checks.equal("one line, once 30 seconds are over", daemon.end().notes.count(line_of_log), 1)
 
 
+def unread(checks: Checks):
+    """A standard error that nobody reads stops nobody: what finds no room is dropped and counted."""
+    reading, writing = os.pipe()
+    fcntl.fcntl(writing, fcntl.F_SETPIPE_SZ, 4096)
+    with Daemon(2, 10, options=LOG, stderr=writing) as daemon, open(reading, "rb") as pipe:
+        os.close(writing)
+        with daemon.connect() as client:
+            client.settimeout(5)
+            for at in range(1500):
+                name = b"M%d" % at
+                answered = asked(client, append(2 * at, name) + flush(2 * at + 1, name), 2)
+                if len(answered) < 28:
+                    break
+            checks.equal("1500 pairs of requests", answered, answer(1, 2998) + answer(7, 2999, 1))
+        told = b""
+        while b"lines were dropped\n" not in told and (more := pipe.read1()):
+            told += more
+        running = threading.Thread(target=run, args=(["stop", daemon.path],))
+        running.start()
+        told += pipe.read()
+        running.join()
+        dropped = sum(int(it) for it in re.findall(rb"^(\d+) lines were dropped$", told, re.MULTILINE))
+        lines = told.splitlines(keepends=True)
+        checks.equal("each line is there or counted", dropped + sum(it.startswith(b"notice") for it in lines), 1500)
+        ends = ([line(0, 3000), line(1, 0, 0)], [line(0, 0, 0), line(1, 3000)])
+        checks.true(f"the notes follow: {lines[-2:]}", lines[-2:] in ends)
+
+
+def unread_end(checks: Checks):
+    """A run whose standard error nobody reads ends all the same."""
+    reading, writing = os.pipe()
+    fcntl.fcntl(writing, fcntl.F_SETPIPE_SZ, 4096)
+    with Daemon(1, 10, options=LOG, stderr=writing) as daemon, open(reading, "rb"):
+        os.close(writing)
+        with daemon.connect() as client:
+            for at in range(200):
+                name = b"M%d" % at
+                asked(client, append(2 * at, name) + flush(2 * at + 1, name), 2)
+        checks.equal("unread: the stop", run(["stop", daemon.path], timeout=60).status, 0)
+        checks.equal("unread: the status", daemon.end().status, 1)
+
+
+def refused_requests(checks: Checks):
+    """A refused request has a line with its number and words, one a second at most; the next has how many had none."""
+    with Daemon(1, 3, options=LOG) as daemon:
+        begun = start(daemon, 1, 3)
+        told = begun + b"request refused: 26: the queue id is malformed\n"
+        with daemon.connect() as client:
+            for number in range(5):
+                checks.equal("refused", asked(client, append(number, b"K-1")), answer(10, number, 26))
+            checks.equal("one line at once", daemon.said(len(told))[: len(told)], told)
+            time.sleep(2)
+            asked(client, append(5, recipient=b"<"))
+        run(["stop", daemon.path])
+        told = daemon.end().notes
+        more = re.findall(rb"request refused: (?:1|26): .+; (\d+) more before it\n", told)
+        lines = told.count(b"request refused: ")
+        checks.equal("each is logged or counted", lines + sum(map(int, more)), 6)
+
+
+def unreached_server(checks: Checks):
+    """A mail server that isn't there is named by its cause, not by a missing reply."""
+    with tempfile.TemporaryDirectory() as room, socket.socket() as unheard:
+        unheard.bind(("127.0.0.1", 0))
+        for server, why in (
+            (f"127.0.0.1:{unheard.getsockname()[1]}", b"Connection refused (os error 111)"),
+            (f"{room}/none", b"No such file or directory (os error 2)"),
+        ):
+            folder = tempfile.mkdtemp(dir=room)
+            with Daemon(1, 3, options=(*LOG, "--journal", folder, "--hand-in", server)) as daemon:
+                with daemon.connect() as client:
+                    asked(client, append(0) + flush(1), 2)
+                wanted = b"notice B.Q1.0 to <ann@example.com> not taken now: " + why + b"\n"
+                checks.true(f"{why.decode()}", until(lambda: wanted in daemon.said(0), 20))
+                run(["stop", daemon.path])
+
+
 def full_outbox(checks: Checks):
     """The fault has a line at once; the run goes on, as without a log."""
     with open("/dev/full", "wb") as full, Daemon(1, 1, options=LOG, stdout=full) as daemon:
@@ -168,7 +249,20 @@ def ends_on_a_fault(checks: Checks):
 
 def main():
     checks = Checks("log: a line for what happens, when it happens; an end at once where the outbox can't be written")
-    for check in (notices, each_notice, other_hosts, stops, severities, busy, full_outbox, ends_on_a_fault):
+    for check in (
+        notices,
+        each_notice,
+        other_hosts,
+        stops,
+        severities,
+        busy,
+        unread,
+        unread_end,
+        refused_requests,
+        unreached_server,
+        full_outbox,
+        ends_on_a_fault,
+    ):
         check(checks)
     checks.done()
 

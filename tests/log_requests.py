@@ -2,7 +2,7 @@
 wrongly."""
 from tests.send import Answering, fault
 from tests.support.daemon_and_clients import Daemon, answer, append, asked, flush, frames, socket_fault
-from tests.support.faults import fault_line
+from tests.support.faults import worded
 from tests.support.running import Checks, Ran, run
 
 DISCARDED = b"discarded %d: the log is closed, and these outcomes are lost\n"
@@ -49,13 +49,13 @@ def sent(checks: Checks):
 def faults(checks: Checks):
     """Other answers, and none."""
     for about, text, wanted in (
-        ("refused", answer(10, 0, 21), Ran(b"refused 21" + fault_line(21)[8:], b"", 1)),
+        ("refused", answer(10, 0, 21), Ran(b"refused 21" + worded(21)[8:], b"", 1)),
         ("table full", answer(3), Ran(b"table full: no key can be added\n", b"", 1)),
         ("logged", answer(1), Ran(b"the answer is not one to this request\n", b"", 1)),
         ("the other's answer", answer(11), Ran(b"the answer is not one to this request\n", b"", 1)),
-        ("no byte", b"", fault(48)),
-        ("an answer for another place", answer(8, 5), fault(46)),
-        ("a part of an answer", answer(8)[:6], fault(13)),
+        ("no byte", b"", Ran(b"", worded(48), 1)),
+        ("an answer for another place", answer(8, 5), Ran(b"", worded(46), 1)),
+        ("a part of an answer", answer(8)[:6], Ran(b"", worded(13), 1)),
     ):
         with Answering([text], reads_on=True) as daemon:
             checks.equal(about, run(["discard", daemon.path, "bounce", "K1"]), wanted)

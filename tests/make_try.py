@@ -22,8 +22,10 @@ for name in sorted(it for it in os.listdir(sys.argv[3]) if not it.endswith(".arg
 print("cases=2 ended=2 proved=no", file=sys.stderr)
 """
 ANSWERS = [
-    "flush . bounce A1B2C3 return=ann@example.com moment=1700000000 arrival=1699996400\n    -> sealed 2\n",
-    "flush . defer D4E5F6 return=sue@example.com moment=1700000000 arrival=1699996400\n    -> sealed 1\n"
+    "flush . bounce A1B2C3 return=ann@example.com moment=1700000000 arrival=1699996400 wording=outcome\n"
+    "    -> sealed 2\n",
+    "flush . defer D4E5F6 return=sue@example.com moment=1700000000 arrival=1699996400 wording=outcome\n"
+    "    -> sealed 1\n"
     "append . defer D4E5F6 kim@example.net delayed 4.4.1\n    -> closed\n",
 ]
 

@@ -23,6 +23,7 @@ TOOLS = {"dh": "debhelper", "objcopy": "binutils", "lintian": "lintian"}
 MOMENT = 1_700_000_000  # of the copies' one commit
 NOT_COPIED = {".git", "out", "crates", "mutants", "bench", "tests"}
 SOURCE = "crates/noticed/src/command_line.rt"  # the one place of the version
+SENTENCES = "crates/dsn_report/specs/PlainWords.antt"  # those of a notice, which noticed-notice(5) names
 COPIES = {  # umask, age of the files in seconds, and what else may differ
     "one": (0o022, 0, {"LC_ALL": "C", "TZ": "UTC"}),
     "other": (0o077, 10**8, {"LC_ALL": "C.UTF-8", "TZ": "Pacific/Auckland"}),
@@ -46,8 +47,9 @@ def copied(room: Path, name: str) -> Path:
     for it in ROOT.iterdir():
         if it.name not in NOT_COPIED:
             (shutil.copytree if it.is_dir() else shutil.copy)(it, copy / it.name)
-    (copy / SOURCE).parent.mkdir(parents=True)
-    shutil.copy(ROOT / SOURCE, copy / SOURCE)
+    for it in (SOURCE, SENTENCES):
+        (copy / it).parent.mkdir(parents=True)
+        shutil.copy(ROOT / it, copy / it)
     for it in copy.rglob("*"):
         os.utime(it, (MOMENT - age, MOMENT - age))
     dated = {f"GIT_{who}_DATE": f"@{MOMENT} +0000" for who in ("AUTHOR", "COMMITTER")}
@@ -108,7 +110,8 @@ def installed(kind: str) -> set:
     zipped = ".gz" if kind == "deb" else ""
     zsh = "vendor-completions" if kind == "deb" else "site-functions"
     licence = {"deb": ["copyright", "changelog.gz"], "archive": ["LICENSE", "CHANGELOG.md"]}[kind]
-    doc = {f"share/doc/noticed/{it}" for it in ("BUILD", "operating.md", "postfix.md", "bounce-features.md", *licence)}
+    guides = ("operating.md", "postfix.md", "bounce-features.md", "PlainWords.antt")
+    doc = {f"share/doc/noticed/{it}" for it in ("BUILD", *guides, *licence)}
     own = {"bin/noticed", "sbin/noticed-postfix", "share/noticed/clients/python/noticed.py", f"share/zsh/{zsh}/_noticed"}
     own |= {"share/bash-completion/completions/noticed", "lib/sysusers.d/noticed.conf", "lib/tmpfiles.d/noticed.conf"}
     return units | doc | own | {it + zipped for it in pages}
@@ -171,10 +174,19 @@ def check_archive(checks: Checks, archive: Path, room: Path):
     checks.true("archive: licence", (root / "share/doc/noticed/LICENSE").read_text().startswith("MIT License\n"))
 
 
+COMMANDS = "batch serve stop send discard forget status journal hand-in resubmit postfix preview faults".split()
+OPTIONS = {
+    "serve": "config inherited journal max-journal release-closed logs entries hand-in give-up outbox idle end-on-fault log",
+    "status": "open prometheus",
+    "hand-in": "done give-up",
+    "resubmit": "",
+    "postfix": "lifetime bounce-size-limit double-bounce hash-queue-names hash-queue-depth pass-on templates threaded "
+    "inherited",
+}
+
+
 def check_completions(checks: Checks, room: Path):
-    """The completions offer every command and option of the usage, and no other option."""
-    usage = re.search(r'"usage: noticed (.*)";', (ROOT / "crates/noticed/src/main.rt").read_text())[1]
-    commands = {it.split()[0]: set(re.findall(r"--[a-z-]+", it)) for it in re.split(r" \| (?=[a-z])", usage)}
+    """The completions offer every command, and every option of these commands and no other."""
     (room / "bin").mkdir()
     (room / "bin/noticed").symlink_to(program())
     environment = {**os.environ, "PATH": f"{room}/bin:{os.environ['PATH']}"}
@@ -188,10 +200,10 @@ def check_completions(checks: Checks, room: Path):
             ran = subprocess.run(given, env=environment, capture_output=True, text=True, check=False, timeout=60)
             return set(ran.stdout.split())
 
-        checks.equal(f"{shell}: commands that it lacks", set(commands) - offered("noticed", ""), set())
-        for command in ("serve", "status", "postfix", "hand-in"):
+        checks.equal(f"{shell}: commands that it lacks", set(COMMANDS) - offered("noticed", ""), set())
+        for command, options in OPTIONS.items():
             found = offered("noticed", command, "--") - {"--help"}
-            checks.equal(f"{shell}: options of {command}", found, commands[command])
+            checks.equal(f"{shell}: options of {command}", found, {f"--{it}" for it in options.split()})
         wanted = {"check", "enable", "test", "disable", "run"}
         checks.equal(f"{shell}: noticed-postfix", offered("noticed-postfix", ""), wanted)
 

@@ -5,7 +5,8 @@ each name and file that it has in code is in the crates. The manual pages have t
 the program prints, and why a run ends. The bytes of the examples in noticed-protocol(5) and noticed-journal(5) are
 right, the words of a fault are those that the program lists, mandoc(1) and man(1) find nothing in a manual page, each
 page or section that a source cites is there, and each file that a page names by its path. docs/bounce-features.md
-counts its rows, and has the settings that dist/noticed-postfix reads, and what docs/postfix.md says is passed on."""
+counts its rows, and has the settings that dist/noticed-postfix reads, and what docs/postfix.md says is passed on. The
+logic of the kit is the one that pages name."""
 import os
 import re
 import runpy
@@ -19,10 +20,11 @@ from tests.support.faults import words
 from tests.support.formats import journal
 from tests.support.formats.logs import Limits
 from tests.support.formats.sessions import WORDS
-from tests.support.running import DIST, ROOT, VECTORS, Checks
+from tests.support.running import DIST, ROOT, VECTORS, Checks, run
 
 PAGES = [ROOT / "README.md", *sorted(it for it in (ROOT / "docs").iterdir() if it.suffix in (".md", ".5", ".8"))]
-MANUAL = {"serve": "noticed-serve.8", "postfix": "noticed-postfix.8"}  # of a command; of others noticed.8
+# of a command; of others noticed.8
+MANUAL = {"serve": "noticed-serve.8", "postfix": "noticed-postfix.8", "preview": "noticed-postfix.8"}
 ENDING = re.compile(r'self\.end\("([^"]+)"\)')
 OPTION = re.compile(r"--[a-z][a-z-]*")
 HEX = re.compile(r"^(?:[0-9a-f]{2})+(?: (?:[0-9a-f]{2})+)*")
@@ -41,7 +43,7 @@ CITED = re.compile(r"\b(noticed(?:-[a-z]+)?)\((\d)\)")
 SECTION = re.compile(r'postfix-internals\.md, "([^"]+)"')
 COMMENT = re.compile(r"\n *(?://[/!]?|--|#|\*) *")  # the end of a comment's line, and the mark of the next
 CLAUSE = re.compile(r"^    ensures (\w+) \{", re.M)
-USAGE = re.compile(r'"usage: noticed (.*)";')
+USAGE = re.compile(r'"usage: noticed (.*)"')
 PATH = re.compile(r"(?<![\w/.])(?:crates|tests|clients|docs|examples|bench|mutants|vectors)/[\w./-]*\w")
 FAULT = re.compile(r"`(?:fault )?(\d+): ([^`]+)`")
 NOT_KEPT = re.compile(r"/(?:[A-Z]+|out)(?:/|\.py$|$)")  # any file, as examples/FILE, or one that is built
@@ -148,15 +150,15 @@ def check_testing(checks: Checks, writes: bool):
 
 
 def check_usage(checks: Checks):
-    """The usage: the arguments of each command are in noticed(8), and its options in its page."""
-    usage = USAGE.search(text("crates/noticed/src/main.rt")).group(1)
-    for command in re.split(r" \| (?=[a-z])", usage):
+    """The usage lines: the arguments of each command are in noticed(8), and the options that its help has in its page."""
+    lines = USAGE.findall(text("crates/noticed/src/usage.rt"))
+    for command in [it for line in lines for it in re.split(r" \| (?=[a-z])", line)]:
         name = command.split()[0]
-        called = f"{name} {command.split(']')[-1].removeprefix(name).strip()}"
+        called = f"{name} {command.split(']')[-1].removeprefix(name).strip()}".strip()
         checks.true(f"noticed(8) has '{called}'", re.search(rf"^{called}(?:\t|\nT}})", manual("noticed.8"), re.M))
         page = MANUAL.get(name, "noticed.8")
-        lacking = set(OPTION.findall(command)) - set(OPTION.findall(manual(page)))
-        checks.equal(f"options of {name} that {page} lacks", lacking, set())
+        options = set(OPTION.findall(run(["help", name]).outbox.decode())) - {"--help"}
+        checks.equal(f"options of {name} that {page} lacks", options - set(OPTION.findall(manual(page))), set())
 
 
 def check_endings(checks: Checks):
@@ -233,6 +235,19 @@ def check_faults(checks: Checks):
             checks.true(f"{page.name}: fault {number}: {said}", re.fullmatch(pattern, words().get(int(number), "")))
 
 
+def check_kit(checks: Checks):
+    """The logic that README.md and docs/contributing.md name is the kit's: its name says less, as one logic has several."""
+    rt = shutil.which(os.environ.get("RT") or "rt") or "/opt/rattle/bin/rt"
+    if not os.access(rt, os.X_OK):
+        checks.skip("the kit that pages name (needs rt)")
+        return
+    ran = subprocess.run([rt, "version"], capture_output=True, text=True, check=False, timeout=60)
+    logic = re.search(r"logic (\w+)", ran.stdout)[1]
+    for name in ("README.md", "docs/contributing.md"):
+        checks.true(f"{name} names the logic {logic}", f"logic `{logic}`" in text(name))
+        checks.equal(f"kits that {name} names", re.findall(r"rattle-kit-\w+", text(name)), [])
+
+
 def check_features(checks: Checks):
     """The features of bounce(8): the counts of the rows, and the settings. A setting in a row that
     says `same` is read by the script, unless another program of Postfix has it. The script warns of a setting in use
@@ -269,6 +284,7 @@ def main():
     check_faults(checks)
     check_paths(checks)
     check_features(checks)
+    check_kit(checks)
     checks.done()
 
 

@@ -36,7 +36,7 @@ from tests.support.postfix_folder import (
     notice,
     reported,
 )
-from tests.support.faults import fault_line
+from tests.support.faults import worded
 from tests.support.running import HOST, Checks, Ran, run
 
 ONE = "090B8A85C9C"  # the queue id of the message `one`
@@ -218,7 +218,7 @@ def check_hashing_at_start(checks: Checks):
             checks.equal(
                 f"{place}, with {options}",
                 run(["postfix", *options, str(it.folder), HOST, it.server.address], timeout=SECONDS_AT_MOST),
-                Ran(b"", fault_line(61) + f"{it.folder}/{line}\n".encode(), 1),
+                Ran(b"", worded(61) + f"{it.folder}/{line}\n".encode(), 1),
             )
             checks.equal(f"{place}: nothing is made", [*it.at("private").iterdir()], [])
     # what other settings leave behind, what is as it should be, and what is no file or folder of Postfix's
@@ -1198,10 +1198,10 @@ def check_inherited(checks: Checks):
                 os.dup2(high[place], 3 + number)
 
         words = ["postfix", "--inherited", str(it.folder), HOST, it.server.address]
-        checks.equal("without sockets", run(words).notes.splitlines(keepends=True)[:1], [fault_line(61)])
+        checks.equal("without sockets", run(words).notes.splitlines(keepends=True)[:1], [worded(61)])
         order[:] = [1, 0, 2]
         ended = run(words, preexec_fn=give, close_fds=False)
-        checks.equal("in another order", (ended.status, ended.notes.splitlines(keepends=True)[0]), (1, fault_line(61)))
+        checks.equal("in another order", (ended.status, ended.notes.splitlines(keepends=True)[0]), (1, worded(61)))
         order[:] = [0, 1, 2]
         it.limits, it.close_fds = give, False
         for number in range(3):
@@ -1231,7 +1231,7 @@ def check_start(checks: Checks):
         checks.equal(
             "a second process",
             second,
-            Ran(b"", fault_line(61) + f"{it.folder}/private: operation would block\n".encode(), 1),
+            Ran(b"", worded(61) + f"{it.folder}/private: operation would block\n".encode(), 1),
         )
         checks.equal("the first one serves", it.ask("bounce", append(ONE)), 0)
         it.kill()
@@ -1246,7 +1246,7 @@ def check_start(checks: Checks):
         checks.equal(
             "a folder in the way",
             run(["postfix", str(it.folder), HOST, it.server.address]),
-            Ran(b"", fault_line(61) + f"{it.folder}/private: Is a directory (os error 21)\n".encode(), 1),
+            Ran(b"", worded(61) + f"{it.folder}/private: Is a directory (os error 21)\n".encode(), 1),
         )
     for closed in ("0<&-", "1>&-", "2>&-", "0<&- 1>&- 2>&-"):
         with Postfix(start=False) as it:
@@ -1266,7 +1266,7 @@ def check_start(checks: Checks):
         checks.equal(
             "no private/",
             run(["postfix", room, HOST, "127.0.0.1:25"]),
-            Ran(b"", fault_line(61) + f"{room}/private: No such file or directory (os error 2)\n".encode(), 1),
+            Ran(b"", worded(61) + f"{room}/private: No such file or directory (os error 2)\n".encode(), 1),
         )
 
 
@@ -1284,7 +1284,7 @@ def check_account(checks: Checks):
             checks.equal(
                 f"root on nobody's folder, with {options}",
                 run(["postfix", *options, str(it.folder), HOST, it.server.address], timeout=SECONDS_AT_MOST),
-                Ran(b"", fault_line(61) + f"{it.folder}/private: {words}\n".encode(), 1),
+                Ran(b"", worded(61) + f"{it.folder}/private: {words}\n".encode(), 1),
             )
             checks.equal("nothing is made or removed", [*it.at("private").iterdir()], [at_socket])
             checks.equal("no folder of logs is touched", [*it.at("defer").iterdir()], [])

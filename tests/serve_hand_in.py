@@ -224,7 +224,7 @@ def check_away(checks: Checks):
 
 
 def check_gone(checks: Checks):
-    """A server that took a notice and is gone: the line of the next has no reply of before."""
+    """A server that took a notice and is gone: the line of the next says why, and has no reply of before."""
     server = MailServer(hangs_up_after=1)
     with journal_for(server.address) as journal, journal.daemon("--log") as daemon:
         sealed(checks, "gone", daemon, range(1))
@@ -234,7 +234,7 @@ def check_gone(checks: Checks):
         sealed(checks, "gone", daemon, range(1, 2))
         line = b"notice B.K1.1 to <%s> not taken now: " % sender(1)
         checks.true("gone: its line", comes_to(lambda: int(line in daemon.said(0)), 1))
-        checks.true("gone: no reply", line + b"no reply\n" in daemon.said(0))
+        checks.true("gone: why", line + b"Connection refused (os error 111)\n" in daemon.said(0))
 
 
 class LateServer(MailServer):

@@ -3,6 +3,7 @@ and its open logs have their ages. Beside it nothing changes: who reads the stat
 import os
 import re
 import socket
+import stat
 import tempfile
 import threading
 import time
@@ -10,7 +11,7 @@ from collections import Counter
 from pathlib import Path
 
 from tests.support.daemon_and_clients import OUTBOX, Daemon, append, asked, flush, frames, until
-from tests.support.faults import fault_line
+from tests.support.faults import worded
 from tests.support.running import Checks, run
 
 CLIENTS, MESSAGES = 4, 150
@@ -26,6 +27,7 @@ REPLIES = {
     7: "sealed",
     8: "discarded",
     9: "goodbyes",
+    10: "refused",
     11: "forgotten",
     12: "not_closed",
     13: "differs",
@@ -56,6 +58,7 @@ def requests_of(name: bytes) -> list:
         lambda number: append(number, name + b"R"),
         lambda number: flush(number, name + b"R", return_path=b""),
         lambda number: append(number, name + b"O"),
+        lambda number: append(number, name + b"-"),
     ]
 
 
@@ -98,6 +101,7 @@ def load(checks: Checks):
         checks.equal("notices", (told["notices_sealed"], told["notices_written"]), (str(many), str(many)))
         checks.equal("connections", told["connections"], str(CLIENTS))
         checks.equal("agents", told["agents"], str(CLIENTS))
+        checks.equal("state", told["state"], "serving")
         checks.true("nothing failed", "last_fault" not in told)
         logs = status(daemon, "--open").splitlines()
         checks.equal("open logs", len(logs), many)
@@ -109,12 +113,11 @@ def held_agents(checks: Checks):
     with Daemon(8, 10) as daemon:
         daemon.listens()
         clients = [daemon.connect() for _ in range(9)]
-        until(lambda: counts(daemon).get("agents_busy") == "8")
+        waiting = {"agents": "8", "agents_busy": "8", "clients_waiting": "1"}
+        checks.true("all agents are busy, and a client waits", until(lambda: waiting.items() <= counts(daemon).items()))
         began = time.monotonic()
-        told = counts(daemon)
+        counts(daemon)
         checks.true("it answers within a second", time.monotonic() - began < SECOND)
-        checks.equal("all agents are busy", (told["agents"], told["agents_busy"]), ("8", "8"))
-        checks.equal("a client waits", told.get("clients_waiting"), "1")
         for it in clients:
             it.close()
 
@@ -165,11 +168,13 @@ def metrics(checks: Checks):
 
 
 def socket_files(checks: Checks):
-    """The socket's file is made in place of another socket, not of another file, and goes at the end."""
-    with Daemon(1, 1) as daemon:
+    """The socket's file is its owner's alone, whatever the mask of the process. It is made in place of another socket,
+    not of another file, and goes at the end."""
+    with Daemon(1, 1, preexec_fn=lambda: os.umask(0)) as daemon:
         daemon.listens()
         path = Path(daemon.path + ".status")
         checks.true("it is there", until(path.is_socket))
+        checks.true("its mode", until(lambda: stat.S_IMODE(path.stat().st_mode) == 0o700))
         daemon.send()
         checks.equal("nothing changes", daemon.end().outbox, OUTBOX)
         checks.true("it is gone", not path.exists())
@@ -187,7 +192,7 @@ def socket_files(checks: Checks):
             checks.equal("not of a file: it serves all the same", third.end().status, 0)
         checks.equal("the file", path.read_text(), "kept")
     gone = run(["status", daemon.path])
-    checks.equal("without a daemon", (gone.status, gone.notes.splitlines()[0]), (1, fault_line(61).strip()))
+    checks.equal("without a daemon", (gone.status, gone.notes.splitlines()[0]), (1, worded(61).strip()))
 
 
 def slow_reader(checks: Checks):

@@ -28,6 +28,7 @@ from tests.support.daemon_and_clients import (
     heard,
     is_ended,
     line,
+    logged_fault,
     socket_fault,
     until,
 )
@@ -321,19 +322,19 @@ def killed(checks: Checks):
             first.running.wait()
         with Daemon(1, 1000, path) as second:
             checks.equal("after a killed run", asked(second.connect(), append(0)), answer(1))
-            taken = Ran(b"", socket_fault(path, "another daemon has this socket"), 1)
-            with Daemon(1, 1000, path) as third:
+            taken = Ran(b"", logged_fault(path, "another daemon has this socket"), 1)
+            with Daemon(1, 1000, path, options=["--log"]) as third:
                 checks.equal("beside a daemon", third.end(), taken)
             checks.equal("it goes on", stop(second), STOPPED)
         with socket.socket(socket.AF_UNIX) as other:
             other.bind(path)
             other.listen()
-            with Daemon(1, 1000, path) as daemon:
-                checks.equal("beside another program", daemon.end().notes, socket_fault(path, "somebody listens there"))
+            with Daemon(1, 1000, path, options=["--log"]) as daemon:
+                checks.equal("beside another program", daemon.end().notes, logged_fault(path, "somebody listens there"))
         os.unlink(path)
         Path(path).write_text("mine")
-        with Daemon(1, 1000, path) as daemon:
-            wanted = Ran(b"", socket_fault(path, "is no socket, and is left alone"), 1)
+        with Daemon(1, 1000, path, options=["--log"]) as daemon:
+            wanted = Ran(b"", logged_fault(path, "is no socket, and is left alone"), 1)
             checks.equal("a file in its place", daemon.end(), wanted)
         checks.equal("and is left as it is", Path(path).read_text(), "mine")
 

@@ -85,9 +85,11 @@ def growths_of_many(checks: Checks, agents: int, ends: list):
 
 def logged(checks: Checks, library: Path):
     """A daemon of three agents, of which one has no thread: a line at once, if lines are wanted. The others serve, and
-    the run ends with 42. (The first two threads are those of the status and of the poster.)"""
-    for number in (3, 4, 5):
+    the run ends with 42. (Before theirs come the threads of the status and of the poster, and with --log first that of
+    the lines.)"""
+    for agent in range(3):
         for options in ((), ("--log",)):
+            number = 3 + len(options) + agent
             about = f"{' '.join(options)} thread {number} of a daemon refused"
             with Daemon(3, 1, options=options, env=preloading(library, REFUSE_THREAD=number)) as daemon:
                 said = f"listening on {daemon.path} for {HOST}: 3 agents, 1 connections each\n"
@@ -99,6 +101,8 @@ def logged(checks: Checks, library: Path):
                     with daemon.connect() as client:
                         checks.equal(f"{about}: an answer", len(asked(client, append(0))), len(answer(0)))
                 checks.equal(f"{about}: the end", daemon.end(), Ran(empty_outbox(), said + fault_line(42), 1))
+    with Daemon(1, 1, options=("--log",), env=preloading(library, REFUSE_THREAD=1)) as daemon:
+        checks.equal("without a thread for the lines", daemon.end(), Ran(b"", fault_line(42), 1))
     with Daemon(1, 1, env=preloading(library, REFUSE_THREAD=1)) as daemon:
         daemon.send()
         checks.equal("without a thread for the status", daemon.end().status, 0)

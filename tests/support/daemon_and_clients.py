@@ -9,7 +9,7 @@ import tempfile
 import time
 from pathlib import Path
 
-from tests.support.faults import fault_line
+from tests.support.faults import fault_line, worded
 from tests.support.running import HOST, VECTORS, Ran, program, run
 from vectors import frames
 
@@ -62,22 +62,30 @@ def is_listened_on(path) -> bool:
 
 
 def socket_fault(path: str, why: str) -> bytes:
-    """What standard error has where a socket can't be had: the fault, the path, and what the system said."""
+    """What standard error of a command has where a socket can't be had: the fault in words, the path, and what the
+    system said."""
+    return worded(61) + f"{path}: {why}\n".encode()
+
+
+def logged_fault(path: str, why: str) -> bytes:
+    """The same of `serve --log`, whose fault has its number alone. Without --log, and of `send`, it is that line."""
     return fault_line(61) + f"{path}: {why}\n".encode()
 
 
 class Daemon:
     """`noticed serve` with so many agents and connections, on a socket in a folder that is removed at the end. Its
     outputs go to files, unless `stdout` or `stderr` say otherwise; a daemon that is still there at the end is killed.
+    With `under` it runs below another program, as valgrind.
     """
 
-    def __init__(self, agents: int, uses: int, path=None, options=(), host=HOST, **how):
+    def __init__(self, agents: int, uses: int, path=None, options=(), host=HOST, under=(), **how):
         self.room = tempfile.TemporaryDirectory(prefix="noticed-")
         self.path = str(path or Path(self.room.name) / "socket")
         self.files = {it: open(Path(self.room.name) / it, "w+b") for it in ("stdout", "stderr")}
         streams = {"stdin": subprocess.DEVNULL, **self.files, **how}
-        words = [program(), "serve", *options, self.path, host, str(agents), str(uses)]
+        words = [*under, program(), "serve", *options, self.path, host, str(agents), str(uses)]
         self.running = subprocess.Popen(words, **streams)
+        self.earlier = 2 if "--log" in options else 1  # threads before the daemon knows its socket's file
 
     def __enter__(self):
         return self
@@ -106,9 +114,9 @@ class Daemon:
                 time.sleep(MOMENT)
 
     def has_begun(self) -> bool:
-        """Whether the socket is listened on and a second thread runs: by then the daemon knows its socket's file."""
+        """Whether the socket is listened on and its threads run: by then the daemon knows its socket's file."""
         try:
-            return is_listened_on(self.path) and len(os.listdir(f"/proc/{self.running.pid}/task")) > 1
+            return is_listened_on(self.path) and len(os.listdir(f"/proc/{self.running.pid}/task")) > self.earlier
         except FileNotFoundError:
             return False
 

@@ -11,7 +11,13 @@ def words() -> dict:
     return {int(number): text for number, text in (line.split(maxsplit=1) for line in lines)}
 
 
-def fault_line(number: int, reason: str = "") -> bytes:
-    """The line of a fault: its number and words, and the system's reason if the line has one."""
+def fault_line(number: int) -> bytes:
+    """The line of a fault of `batch`, `serve` or `send`, whose bytes noticed-protocol(5) gives: its number alone."""
+    return b"fault %d\n" % number
+
+
+def worded(number: int, reason: str = "") -> bytes:
+    """The line of a fault in the event log or of another command: its number and words, and the system's reason if the
+    line has one."""
     parts = [f"fault {number}", words()[number], *([reason] if reason else [])]
     return ": ".join(parts).encode() + b"\n"

@@ -35,8 +35,10 @@ def messages_of(outbox: bytes) -> list:
 
 class MailServer:
     """A mail server that takes connections until it is closed: it refuses each recipient of a set, or each one's first
-    tries (450), hangs up after so many messages, in place of its first replies to them or not, or gives up the
+    tries (450, or `put_off`), hangs up after so many messages, in place of its first replies to them or not, or gives up the
     connection (421), and keeps what it was told and given."""
+
+    put_off = b"450 4.2.0 try again"
 
     def __init__(self, refused=(), hangs_up_after=None, closes_after=None, greylists=0, lost_replies=0, port=0):
         self.refused, self.hangs_up_after, self.closes_after = refused, hangs_up_after, closes_after
@@ -92,7 +94,7 @@ class MailServer:
         self.tries[recipient] += 1
         if recipient in self.refused:
             return b"550 5.1.1 no such user"
-        return b"450 4.2.0 try again" if self.tries[recipient] <= self.greylists else b"250 ok"
+        return self.put_off if self.tries[recipient] <= self.greylists else b"250 ok"
 
     @staticmethod
     def message(stream) -> bytes:

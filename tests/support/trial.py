@@ -62,10 +62,11 @@ class Client(threading.Thread):
             stream.connect(str(self.socket))
             for frame in frames.frames_in(self.lines):
                 stream.sendall(frame)
-                answer = heard(stream, 14)
-                if len(answer) < 14:
+                size = int.from_bytes(heard(stream, 4), "big")  # that of version 3 has the notice's serial, too
+                answer = heard(stream, size)
+                if size < 10 or len(answer) < size:
                     raise ConnectionError("the connection ended")
-                reply, _, value = struct.unpack(">BII", answer[5:])
+                reply, _, value = struct.unpack(">BII", answer[1:10])
                 words = WORDS[reply].decode()
                 self.answers.append(words % value if "%" in words else words)
 

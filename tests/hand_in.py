@@ -223,6 +223,27 @@ def check_done(checks: Checks, outbox: bytes, room: Path):
     checks.equal("a malformed mark", run(["hand-in", "--done", str(done), server.address], outbox).status, 1)
 
 
+def check_done_behind(checks: Checks, outbox: bytes, room: Path):
+    """What is taken behind one that is put off isn't submitted by the next run with the same file of --done."""
+    done = room / "done_behind"
+    server = MailServer(greylists=100)
+    server.reply_to = lambda path: b"450 4.2.0 try again" if path == PATHS[0] else b"250 ok"
+    ran = run(["hand-in", "--done", str(done), server.address], outbox)
+    checks.equal("behind one: status", ran.status, 75)
+    checks.equal("behind one: messages", taken_by(server), wanted_of(outbox)[1:])
+    checks.equal("behind one: the file", done.read_text(), "0 1 3\n")
+    del server.reply_to
+    server.greylists = 0
+    again = run(["hand-in", "--done", str(done), server.address], outbox)
+    checks.equal("behind one: the next run", (again.status, lines_of(again)), (0, accepted(1)))
+    checks.equal("behind one: each once", taken_by(server), [*wanted_of(outbox)[1:], wanted_of(outbox)[0]])
+    checks.equal("behind one: the file then", done.read_text(), "3\n")
+    for text in ("0 1\n", "0 2 1\n", "0  1 3\n", "0 1 3", "1 1 3\n"):
+        done.write_text(text)
+        ran = run(["hand-in", "--done", str(done), server.address], outbox)
+        checks.equal(f"a malformed file: {text!r}", (ran.status, len(server.taken)), (1, NUMBER))
+
+
 def transaction(path: bytes, message: bytes, body=None) -> bytes:
     """A mail transaction with a message that has no line of a dot (RFC 5321 section 3.3). MAIL says BODY=8BITMIME if the
     message has a byte above 127 (RFC 6152), or has these words."""
@@ -303,6 +324,8 @@ def check_malformed(checks: Checks, outbox: bytes):
 def main():
     checks = Checks("hand-in: an outbox's notices reach a mail server, or are kept")
     outbox = outbox_of(NUMBER)
+    with tempfile.TemporaryDirectory(prefix="noticed-") as room:
+        check_done_behind(checks, outbox, Path(room))
     check_taken(checks, outbox)
     check_refused(checks, outbox)
     check_put_off(checks, outbox)

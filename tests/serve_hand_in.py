@@ -169,6 +169,31 @@ def check_many_put_off(checks: Checks):
         checks.equal("many are put off: each once", sorted(server.taken), sorted(wanted(many)))
 
 
+def check_behind_one(checks: Checks):
+    """What is taken behind one that is put off isn't submitted again, however often the daemon starts."""
+    many = 30
+    server = StrictServer()
+    server.refuses = {sender(0)}
+    with journal_for(server.address) as journal:
+        with journal.daemon() as daemon:
+            sealed(checks, "behind one", daemon, range(many))
+            checks.true("behind one: the others come", comes_to(lambda: len(server.taken), many - 1))
+            stopped(daemon)
+        for start in range(3):
+            with journal.daemon() as daemon:
+                tries = server.commands.count(b"RCPT TO:<%s>" % sender(0))
+                tried = lambda: int(server.commands.count(b"RCPT TO:<%s>" % sender(0)) > tries)
+                checks.true(f"behind one, start {start}: it is tried again", comes_to(tried, 1))
+                stopped(daemon)
+            checks.equal(f"behind one, start {start}: nothing comes twice", server.taken, wanted(many)[1:])
+        checks.equal("behind one: it alone waits", (journal.count(b"marked"), journal.count(b"unmarked")), (0, 1))
+        server.refuses = ()
+        with journal.daemon() as daemon:
+            checks.true("behind one: at last it comes", journal.is_settled(many))
+            stopped(daemon)
+    checks.equal("behind one: each once", server.taken, [*wanted(many)[1:], wanted(many)[0]])
+
+
 def check_strict(checks: Checks):
     """A server gets no command that it need not get."""
     server = StrictServer()
@@ -342,6 +367,7 @@ def check_arguments(checks: Checks):
 def main():
     checks = Checks("serve_hand_in: a daemon's notices reach a mail server, or are kept")
     for check in (
+        check_behind_one,
         check_arguments,
         check_taken,
         check_refused,

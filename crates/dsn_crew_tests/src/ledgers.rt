@@ -4,7 +4,7 @@ ghost use Rattle.dsn_ledger.specs.OpenLedger.{AwaitsRequests};
 
 use crate::open_logs::open_logs;
 use dsn_book::Limits;
-use dsn_journal::Disk;
+use dsn_journal::{Disk, SettledLetters};
 use dsn_ledger::{Ledger, open};
 use std::alloc::Global;
 
@@ -13,7 +13,8 @@ pub(crate) fn open_disk<D: Disk + Drop>(alloc: Global, disk: D) -> Option<Ledger
     ensures none { IfSome result (λ ledger. AwaitsRequests D.Disk ledger []) }
 {
     let limits = Limits::new(8, 8, 8)?;
-    match open(alloc, disk, limits, 0) {
+    let settled = SettledLetters::below(alloc, 0).ok()?;
+    match open(alloc, disk, limits, &settled) {
         Ok(opened) => Some(opened.ledger),
         Err(_left) => None,
     }

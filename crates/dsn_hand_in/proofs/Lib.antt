@@ -4,4 +4,5 @@ mod MailExamples
 pub mod PlacesLemmas
 pub mod SendLemmas
 pub mod SettledLemmas
+pub mod SettledQueue
 pub mod CourseLemmas

@@ -8,12 +8,13 @@ use Rattle.dsn_outcome.specs.Letter.{Letter}
 use Rattle.dsn_smtp.specs.declared.hand_in_fault.HandInFault.{HandInFault}
 use Rattle.dsn_submission.specs.Submitter.{Submitter, concluded, next_place}
 use Rattle.dsn_submission.specs.Waiting.{Queue, due_place, empty_queue, letter_at, taken}
-use Rattle.dsn_submission.specs.WaitingLaws.{Event, Comes, IsTaken, Settles, IsPutOff, FindsNoServer, HasEach, after_event, after_events, come, come_by}
+use Rattle.dsn_submission.specs.WaitingLaws.{Event, Comes, ComesSettled, IsTaken, Settles, IsPutOff, FindsNoServer, HasEach, after_event, after_events, come, come_by}
+use Rattle.dsn_submission.specs.declared.deeds.Marks.{Ghosts as MarkPlace}
 use Rattle.dsn_submission.specs.declared.verdict.Verdict.{Verdict}
 use Rattle.dsn_submission.specs.declared.verdict.Verdict.TheVariants.{Accepted, RefusedForGood, PutOff, ServerAway}
 use Rattle.dsn_submission.specs.declared.waiting.Waits.{Waits}
 use Rattle.dsn_hand_in.specs.MailLaws.{HavePlaces, BeginsEmpty}
-use Rattle.dsn_hand_in.specs.MailOutlet.{MailDeed, MailOutlet, Course, begins, comes, is_dropped, is_submitted, ends_session}
+use Rattle.dsn_hand_in.specs.MailOutlet.{MailDeed, MailOutlet, Course, begins, comes, comes_settled, is_dropped, is_submitted, ends_session}
 use Rattle.dsn_hand_in.specs.SitedLetter.{SitedLetter}
 use Rattle.dsn_report.specs.Site.{Site}
 
@@ -60,9 +61,9 @@ next_is_due submitter now letter at = if_some submitter.stopped (due_place submi
 
 module _ {S C K M : Type 0} (source : Source.Ghosts S) (drain : Drain.Ghosts S)
     (gives : C → C → Result S HandInFault → Type 0) (keeps : K → List ℕ → List ℕ → List ℕ → Bool → K → Type 0)
-    (tells : M → ℕ → Bool → M → Type 0) where
+    (marks : MarkPlace M) where
   -- the letters that wait after a deed
-  pub deed_does : (deed : MailDeed source drain gives keeps tells)
+  pub deed_does : (deed : MailDeed source drain gives keeps marks)
       → deed.new.submitter.waiting ≡ concluded (taken deed.old.submitter.waiting (due_place deed.old.submitter.waiting deed.now)) deed.now deed.verdict
   deed_does deed =
       deed.handled.concluded_is
@@ -94,8 +95,8 @@ module _ {S C K M : Type 0} (source : Source.Ghosts S) (drain : Drain.Ghosts S)
       same_site = site ∙ so_far.same_site;
     }
 
-    pub trail_keeps : (letters : List Letter) (deeds : List (MailDeed source drain gives keeps tells)) (now : MailOutlet S C K M)
-        → Course source drain gives keeps tells start letters deeds now → Keeps mark start now letters
+    pub trail_keeps : (letters : List Letter) (deeds : List (MailDeed source drain gives keeps marks)) (now : MailOutlet S C K M)
+        → Course source drain gives keeps marks start letters deeds now → Keeps mark start now letters
     trail_keeps letters deeds now begins = record {
       kept = [];
       dropped = [];
@@ -106,11 +107,29 @@ module _ {S C K M : Type 0} (source : Source.Ghosts S) (drain : Drain.Ghosts S)
       came = refl;
       same_site = refl;
     }
-    trail_keeps letters deeds now (comes ls ds old letter moment course enough) =
+    trail_keeps letters deeds now (comes ls ds old letter moment course enough new) =
         let so_far = trail_keeps ls ds old course in
         let none = so_far.all_kept enough in
         let item : SitedLetter = record { site = old.site; letter = letter } in
         let event : List (Event SitedLetter) = Comes item moment ∷ [] in record {
+          kept = so_far.kept ++ letter ∷ [];
+          dropped = [];
+          split = ap (λ (all : List Letter). all ++ letter ∷ []) (so_far.split ∙ (ap (λ (d : List Letter). so_far.kept ++ d) none ∙ append-nil so_far.kept)) ∙ sym (append-nil (so_far.kept ++ letter ∷ []));
+          all_kept = λ still. refl;
+          events = so_far.events ++ event;
+          waiting = ap (λ (q : Queue SitedLetter). after_events q event) so_far.waiting ∙ sym (after_more (empty_queue mark) so_far.events event);
+          came =
+              come_more so_far.events event
+              ∙ (ap (λ (all : List SitedLetter). all ++ item ∷ []) so_far.came
+              ∙ (ap (λ (h : Site). map (λ l. record { site = start.site; letter = l }) so_far.kept ++ record { site = h; letter = letter } ∷ []) so_far.same_site
+              ∙ sym (map-append (λ (l : Letter). record { site = start.site; letter = l }) so_far.kept (letter ∷ []))));
+          same_site = so_far.same_site;
+        }
+    trail_keeps letters deeds now (comes_settled ls ds old letter course enough before) =
+        let so_far = trail_keeps ls ds old course in
+        let none = so_far.all_kept enough in
+        let item : SitedLetter = record { site = old.site; letter = letter } in
+        let event : List (Event SitedLetter) = ComesSettled item ∷ [] in record {
           kept = so_far.kept ++ letter ∷ [];
           dropped = [];
           split = ap (λ (all : List Letter). all ++ letter ∷ []) (so_far.split ∙ (ap (λ (d : List Letter). so_far.kept ++ d) none ∙ append-nil so_far.kept)) ∙ sym (append-nil (so_far.kept ++ letter ∷ []));
@@ -148,8 +167,8 @@ module _ {S C K M : Type 0} (source : Source.Ghosts S) (drain : Drain.Ghosts S)
 
     -- so each letter has its place, by the law of letters that wait
     pub have_places : ((n : ℕ) (events : List (Event SitedLetter)) → HasEach n (after_events (empty_queue n) events) (come events))
-        → (letters : List Letter) (deeds : List (MailDeed source drain gives keeps tells)) (now : MailOutlet S C K M)
-        → Course source drain gives keeps tells start letters deeds now → HavePlaces mark start now letters
+        → (letters : List Letter) (deeds : List (MailDeed source drain gives keeps marks)) (now : MailOutlet S C K M)
+        → Course source drain gives keeps marks start letters deeds now → HavePlaces mark start now letters
     have_places law letters deeds now course =
         let all = trail_keeps letters deeds now course in record {
           kept = all.kept;

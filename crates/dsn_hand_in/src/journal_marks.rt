@@ -1,12 +1,9 @@
-//! The mark of settled letters, kept in a journal of marks.
-//! A journal's marks rise by one at a time, each with a sync of its own, so a crash while the mark
-//! rises by more leaves a mark between the old one and the new one. Letters behind that mark are
-//! submitted again, although they were settled.
+//! The letters that are settled, kept in a journal of marks.
 ghost use Rattle.std.specs.Prelude.{◌≡◌, is_ok, IfOk};
-ghost use Rattle.dsn_hand_in.specs.JournalMarks.{RaisesMark};
+ghost use Rattle.dsn_hand_in.specs.JournalMarks.{KeepsSettled};
 
 use dsn_device::Broken;
-use dsn_journal::{MarkCount, MarkedLetters, Marks, Noted, Replaceable, mark_in_turn};
+use dsn_journal::{MarkCount, MarkedLetters, Marks, Noted, Replaceable, settle};
 use std::alloc::Global;
 use std::marker::Model;
 
@@ -62,16 +59,20 @@ impl<D: Replaceable, C: Drop> JournalMarks<D, C> {
 }
 
 impl<D: Replaceable, C: MarkCount> dsn_submission::Marks for JournalMarks<D, C> {
-    ghost use Rattle.dsn_hand_in.specs.JournalMarks.{RaisesMark};
+    ghost use Rattle.dsn_hand_in.specs.JournalMarks.{KeepsSettled, has_settled_in, keeps_others_settled};
 
-    ghost tells = { RaisesMark D.Disk };
+    ghost settles = { KeepsSettled D.Disk };
 
-    /// Raises the mark to this one, and notifies the count. Returns `Broken` if the marks aren't
-    /// settled or are above it, if memory or room for a mark is refused, or if the disk fails. Then
-    /// the count is notified that no further letter will be marked. The marks tell which it was:
-    /// they are no longer settled only if the disk failed, which counts that.
-    fn settled_to(&mut self, mark: u64) -> Result<(), Broken> {
-        match raise(self.alloc, &mut self.marks, &self.count, mark) {
+    ghost has_settled = { has_settled_in };
+
+    ghost keeps_others = { keeps_others_settled D.Disk };
+
+    /// Keeps that the letter with this serial is settled, and notifies the count of the mark. Returns
+    /// `Broken` if the marks aren't settled, if memory or room is refused, or if the disk fails. Then
+    /// the count is notified that no further letter will be marked. The marks tell which it was: they
+    /// are no longer settled only if the disk failed, which counts that.
+    fn settle(&mut self, serial: u64) -> Result<(), Broken> {
+        match settle_and_note(self.alloc, &mut self.marks, &self.count, serial) {
             Ok(_) => Ok(()),
             Err(broken) => {
                 self.count.stop();
@@ -79,24 +80,22 @@ impl<D: Replaceable, C: MarkCount> dsn_submission::Marks for JournalMarks<D, C> 
             }
         }
     }
+
+    fn has_settled(&self, serial: u64) -> bool {
+        self.marks.letters().is_settled(serial)
+    }
 }
 
-/// Raises marks to this one, one after another, and notifies a count of it. Returns `Broken` if the
-/// marks aren't settled or are above it, or if one can't be kept.
-fn raise<D: Replaceable, C: MarkCount>(
+/// Keeps that a letter is settled, as [`settle`] does, and notifies a count of the mark.
+fn settle_and_note<D: Replaceable, C: MarkCount>(
     alloc: Global,
     marks: &mut Marks<D>,
     count: &C,
-    mark: u64,
+    serial: u64,
 ) -> Result<Noted, Broken>
-    ensures raised { RaisesMark D.Disk marks.old mark (is_ok result) marks.new }
-    ensures noted { IfOk result (λ noted. noted ≡ mark) }
+    ensures kept { KeepsSettled D.Disk marks.old serial (is_ok result) marks.new }
+    ensures noted { IfOk result (λ noted. noted ≡ marks.new.mark) }
 {
-    if !marks.is_settled() || marks.mark() > mark {
-        return Err(Broken);
-    }
-    for serial in marks.mark()..mark {
-        mark_in_turn(alloc, marks, serial)?;
-    }
+    settle(alloc, marks, serial)?;
     Ok(count.note(MarkedLetters::of(marks)))
 }

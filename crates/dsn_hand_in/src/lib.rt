@@ -1,5 +1,5 @@
-//! An outlet of a crew's letters that submits them to a mail server, and keeps the mark of those
-//! that are settled in a journal.
+//! An outlet of a crew's letters that submits them to a mail server, and keeps those that are settled
+//! in a journal.
 #![tactic(auto)]
 
 mod journal_marks;

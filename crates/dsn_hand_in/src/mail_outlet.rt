@@ -2,8 +2,9 @@
 //! each letter and submits while no letter waits in its lane, so a server that is away delays no
 //! request. A letter that waits is also in the journal of requests, and the next start submits it
 //! again.
-ghost use Rattle.std.specs.Prelude.{◌≡◌, ◌≤◌, ◌+◌, ◌&&◌, None, List, [], ◌∷◌, ◌++◌, false, not};
+ghost use Rattle.std.specs.Prelude.{◌≡◌, ◌≤◌, ◌+◌, ◌&&◌, None, List, [], ◌∷◌, ◌++◌, false, true, not};
 ghost use Rattle.dsn_hand_in.specs.MailOutlet.{EndsAfter, Passes, AddsToWaiting};
+ghost use Rattle.dsn_submission.specs.Waiting.{next_serial};
 
 use crate::mail_parts::MailParts;
 use crate::run_clock::RunClock;
@@ -92,15 +93,46 @@ impl<
         }
     }
 
-    /// Takes a letter. It waits for its submission from now on, unless memory was refused for it or
-    /// for an earlier one.
+    /// Takes a letter. It waits for its submission from now on, unless an earlier run settled it, or
+    /// memory was refused for it or for an earlier one.
     fn take(&mut self, letter: Letter)
-        ensures { AddsToWaiting self.old letter self.new }
+        ensures { AddsToWaiting M.Marks self.old letter self.new }
     {
         if self.is_short {
             self.watcher.dropped(&letter);
             return;
         }
+        let serial = self.parts.submitter.waiting().next_serial();
+        if self.parts.marks.has_settled(serial) {
+            self.take_settled(&letter);
+        } else {
+            self.take_unsettled(letter);
+        }
+    }
+
+    /// Takes a letter that an earlier run settled.
+    fn take_settled(&mut self, letter: &Letter)
+        requires short { self.old.short ≡ false }
+        requires known { M.has_settled self.old.parts.marks
+            (next_serial self.old.parts.submitter.waiting) ≡ true }
+        ensures { AddsToWaiting M.Marks self.old letter.now self.new }
+    {
+        match self.parts.submitter.push_settled() {
+            Ok(()) => {}
+            Err(_) => {
+                self.watcher.dropped(letter);
+                self.is_short = true;
+            }
+        }
+    }
+
+    /// Takes a letter that no run settled.
+    fn take_unsettled(&mut self, letter: Letter)
+        requires short { self.old.short ≡ false }
+        requires unknown { M.has_settled self.old.parts.marks
+            (next_serial self.old.parts.submitter.waiting) ≡ false }
+        ensures { AddsToWaiting M.Marks self.old letter self.new }
+    {
         let now = self.clock.moment();
         match self
             .parts
@@ -121,7 +153,7 @@ impl<
     /// Submits the letter that is due at `now`, and returns whether one was. Returns `NoMemory` if
     /// its message couldn't be written; then it is still due.
     fn submit_due(&mut self, now: u64) -> Result<bool, NoMemory>
-        ensures { Passes S.Source S.Drain C.gives K.keeps M.tells self.old [] self.new }
+        ensures { Passes S.Source S.Drain C.gives K.keeps M.Marks self.old [] self.new }
     {
         let Some(next) = self.parts.submitter.next_letter(now) else {
             return Ok(false);
@@ -159,7 +191,7 @@ impl<
 
     /// Ends the session, if one is kept.
     fn end_session(&mut self)
-        ensures passed { Passes S.Source S.Drain C.gives K.keeps M.tells self.old [] self.new }
+        ensures passed { Passes S.Source S.Drain C.gives K.keeps M.Marks self.old [] self.new }
         ensures closed { self.new.parts.submitter.session ≡ None }
         ensures stopped { self.new.parts.submitter.stopped ≡ self.old.parts.submitter.stopped }
         ensures short { self.new.short ≡ self.old.short }
@@ -170,7 +202,7 @@ impl<
 
     /// Pauses while no letter is due, and ends a session that wasn't used for a while.
     fn pause(&mut self, now: u64)
-        ensures { Passes S.Source S.Drain C.gives K.keeps M.tells self.old [] self.new }
+        ensures { Passes S.Source S.Drain C.gives K.keeps M.Marks self.old [] self.new }
     {
         match self.used {
             Some(used) if now.saturating_sub(used) >= LONGEST_IDLE => self.end_session(),
@@ -190,7 +222,7 @@ impl<
 
     /// Submits the letters that are due, until none is or the clock reaches `until`.
     fn submit_until(&mut self, until: u64)
-        ensures { Passes S.Source S.Drain C.gives K.keeps M.tells self.old [] self.new }
+        ensures { Passes S.Source S.Drain C.gives K.keeps M.Marks self.old [] self.new }
     {
         for _ in 0..u64::MAX {
             let now = self.clock.moment();
@@ -206,7 +238,7 @@ impl<
 
     /// Submits the letters that are due, and ends the session.
     fn end(&mut self)
-        ensures passed { Passes S.Source S.Drain C.gives K.keeps M.tells self.old [] self.new }
+        ensures passed { Passes S.Source S.Drain C.gives K.keeps M.Marks self.old [] self.new }
         ensures closed { self.new.parts.submitter.session ≡ None }
     {
         let until = self.clock.moment().saturating_add(LONGEST_END);
@@ -214,8 +246,8 @@ impl<
         self.end_session();
     }
 
-    /// Whether every letter that was passed to it waited for its submission, and the mark could be
-    /// kept.
+    /// Whether every letter that was passed to it waited for its submission or was settled, and each
+    /// that was settled could be kept so.
     fn is_whole(&self) -> bool
         ensures { result ≡ (not self.now.parts.submitter.stopped && not self.now.short) }
     {
@@ -247,11 +279,11 @@ impl<
 
     type Left = MailParts<'s, S, C, K, M>;
 
-    ghost posted = { Passes S.Source S.Drain C.gives K.keeps M.tells };
+    ghost posted = { Passes S.Source S.Drain C.gives K.keeps M.Marks };
 
-    ghost ended = { EndsAfter S.Source S.Drain C.gives K.keeps M.tells };
+    ghost ended = { EndsAfter S.Source S.Drain C.gives K.keeps M.Marks };
 
-    ghost untouched = { IsLeftOf S.Source S.Drain C.gives K.keeps M.tells };
+    ghost untouched = { IsLeftOf S.Source S.Drain C.gives K.keeps M.Marks };
 
     ghost room = { λ _. most_waiting };
 
@@ -263,10 +295,10 @@ impl<
 
     fn hand(&mut self, letter: Letter)
         ensures posted { (start : _) (letters : List _)
-            → Passes S.Source S.Drain C.gives K.keeps M.tells start letters self.old
-            → Passes S.Source S.Drain C.gives K.keeps M.tells start (letters ++ letter ∷ []) self.new }
+            → Passes S.Source S.Drain C.gives K.keeps M.Marks start letters self.old
+            → Passes S.Source S.Drain C.gives K.keeps M.Marks start (letters ++ letter ∷ []) self.new }
         ensures unsent { 0 ≤ 0 + 1 }
-        ensures unasked { AddsToWaiting self.old letter self.new }
+        ensures unasked { AddsToWaiting M.Marks self.old letter self.new }
     {
         self.take(letter);
     }

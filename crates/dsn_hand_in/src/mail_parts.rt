@@ -3,8 +3,8 @@ use crate::sited_letter::SitedLetter;
 use dsn_device::Stream;
 use dsn_submission::Submitter;
 
-/// The letters that wait for a mail server, the server, and the places where refused letters and
-/// the mark are kept.
+/// The letters that wait for a mail server, the server, and the places where refused letters are
+/// kept, and which ones are settled.
 #[derive(Drop)]
 pub struct MailParts<'s, S: Stream, C, K, M> {
     /// The letters that wait.
@@ -13,6 +13,6 @@ pub struct MailParts<'s, S: Stream, C, K, M> {
     pub server: C,
     /// The place where letters that are refused for good are kept.
     pub refused: K,
-    /// The place where the mark is kept.
+    /// The place where it is kept which letters are settled.
     pub marks: M,
 }

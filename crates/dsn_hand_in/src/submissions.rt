@@ -13,7 +13,7 @@ pub trait Submissions {
     /// So many letters wait now.
     fn waits(&self, letters: usize);
 
-    /// No further letter is submitted, since the mark couldn't be kept.
+    /// No further letter is submitted, since one couldn't be kept as settled.
     fn stopped(&self);
 
     /// A letter isn't submitted in this run, since memory was refused for it or for an earlier one.

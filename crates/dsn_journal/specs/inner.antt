@@ -2,3 +2,4 @@ pub mod Disk
 pub mod Failures
 pub mod Marks
 pub mod Meaning
+pub mod SettledLetters

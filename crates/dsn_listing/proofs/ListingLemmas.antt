@@ -13,7 +13,8 @@ use Rattle.dsn_listing.specs.declared.listing_fault.ListingFault.{ListingFault}
 use Rattle.dsn_listing.specs.declared.listing_fault.ListingFault.TheVariants.{NotWritten}
 use Rattle.dsn_listing.specs.CopiedDisk.{copied_seen}
 use Rattle.dsn_listing.specs.inner.CopiedFolder.{IsOpenedCopy}
-use Rattle.dsn_ledger.specs.JournalFolder.{HaveMark}
+use Rattle.dsn_journal.specs.SettledLetters.{first_edge}
+use Rattle.dsn_ledger.specs.JournalFolder.{HaveEdges}
 use Rattle.dsn_listing.specs.Listing.{AreClosedKeys, IsListed, IsListing, not_written, whole}
 use Rattle.dsn_listing.specs.ListingLines.{last_lines, listing_lines}
 use Rattle.dsn_notes.specs.OpenLogs.{AreOpenLines}
@@ -31,12 +32,12 @@ module _ {W : Type 0} (drain : Drain W) where
   taken-is true b old new text good all written = absurd (let no : true ≡ false = good in cc)
 
 -- the lines of an opened copy of a journal are a listing of it
-pub listing_is : (limits : Limits) (mark : ℕ) (journal marks : List ℕ) (opened : Opened CopiedDisk) (logs logs_told : List OpenLine) (closed closed_told : List Key)
-    → (is : IsOpenedCopy limits mark journal opened) → HaveMark marks mark → AreOpenLines is.history (Some logs) → AreClosedKeys is.history closed → logs_told ≡ logs → closed_told ≡ closed
+pub listing_is : (limits : Limits) (edges journal marks : List ℕ) (opened : Opened CopiedDisk) (logs logs_told : List OpenLine) (closed closed_told : List Key)
+    → (is : IsOpenedCopy limits edges journal opened) → HaveEdges marks edges → AreOpenLines is.history (Some logs) → AreClosedKeys is.history closed → logs_told ≡ logs → closed_told ≡ closed
     → IsListing limits journal marks
-    (listing_lines logs_told closed_told opened.letters.items (last_lines mark (opened.ledger.base + opened.ledger.book.book.sealed) opened.ledger.journal.used (length (copied_seen opened.ledger.journal.disk))))
-listing_is limits mark journal marks opened logs logs_told closed closed_told is marked logs_are closed_are logs_is closed_is = record {
-  mark = mark;
+    (listing_lines logs_told closed_told edges opened.letters.items (last_lines (first_edge edges) (opened.ledger.base + opened.ledger.book.book.sealed) opened.ledger.journal.used (length (copied_seen opened.ledger.journal.disk))))
+listing_is limits edges journal marks opened logs logs_told closed closed_told is marked logs_are closed_are logs_is closed_is = record {
+  edges = edges;
   marked = marked;
   base = opened.ledger.base;
   history = is.history;
@@ -46,7 +47,7 @@ listing_is limits mark journal marks opened logs logs_told closed closed_told is
     logs_are = logs_are;
     closed = closed;
     closed_are = closed_are;
-    is = λ i. listing_lines (logs_is i) (closed_is i) (is.letters_are i) (last_lines mark (opened.ledger.base + is.stands.sealed i) (is.used_is i) (is.size_is i));
+    is = λ i. listing_lines (logs_is i) (closed_is i) edges (is.letters_are i) (last_lines (first_edge edges) (opened.ledger.base + is.stands.sealed i) (is.used_is i) (is.size_is i));
   };
 }
 

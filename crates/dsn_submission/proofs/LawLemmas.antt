@@ -7,9 +7,9 @@ use Rattle.std.proofs.lemmas.List.Elements.{All-append, All-drop, All-get_or, Al
 use Rattle.std.proofs.lemmas.Option.{get_or_from_slice_get, slice_get_within}
 use Rattle.dsn_device.specs.Failures.{counted}
 use Rattle.dsn_submission.specs.Waiting.{Queue, due_place, empty_queue, is_due, letter_at, new_letter, put_off_at, put_off_letter, server_away, settled_at, settled_front, taken}
-use Rattle.dsn_submission.specs.WaitingLaws.{AreAt, Event, Comes, IsTaken, Settles, IsPutOff, FindsNoServer, HasEach, IsDueIfNew, IsOrderly, OnlySettlingSettles, TakesInOrder, after_event, after_events, come, come_by, settled_flags}
+use Rattle.dsn_submission.specs.WaitingLaws.{AreAt, Event, Comes, ComesSettled, IsTaken, Settles, IsPutOff, FindsNoServer, HasEach, IsDueIfNew, IsOrderly, OnlySettlingSettles, TakesInOrder, after_event, after_events, come, come_by, settled_flags}
 use Rattle.dsn_submission.specs.declared.waiting.Waits.{Waits}
-use Rattle.dsn_submission.proofs.WaitingLemmas.{drop_one_more, due_is_first, due_place_position, due_place_waits, first_waits_dropped, first_waits_put_off, first_waits_pushed, hand_waits_pushed}
+use Rattle.dsn_submission.proofs.WaitingLemmas.{drop_one_more, due_is_first, due_place_position, due_place_waits, first_waits_dropped, first_waits_put_off, first_waits_pushed, hand_waits_come, hand_waits_pushed}
 
 AreAt-append : {T : Type 0} (items : List T) (letters : List (Option (Waits T))) (item : T) (now : ℕ)
     → AreAt items letters → AreAt (items ++ item ∷ []) (letters ++ Some (new_letter item now) ∷ [])
@@ -18,6 +18,15 @@ AreAt-append [] (letter ∷ letters) item now at = absurd at
 AreAt-append (first ∷ items) [] item now at = absurd at
 AreAt-append (first ∷ items) (None ∷ letters) item now at = AreAt-append items letters item now at
 AreAt-append (first ∷ items) (Some letter ∷ letters) item now at = (at.0, AreAt-append items letters item now at.1)
+
+-- a letter that is settled already
+AreAt-settled_last : {T : Type 0} (items : List T) (letters : List (Option (Waits T))) (item : T)
+    → AreAt items letters → AreAt (items ++ item ∷ []) (letters ++ None ∷ [])
+AreAt-settled_last [] [] item at = tt
+AreAt-settled_last [] (letter ∷ letters) item at = absurd at
+AreAt-settled_last (first ∷ items) [] item at = absurd at
+AreAt-settled_last (first ∷ items) (None ∷ letters) item at = AreAt-settled_last items letters item at
+AreAt-settled_last (first ∷ items) (Some letter ∷ letters) item at = (at.0, AreAt-settled_last items letters item at.1)
 
 -- a letter that is put off is the same letter
 AreAt-put_off : {T : Type 0} (items : List T) (letters : List (Option (Waits T))) (place now : ℕ)
@@ -101,6 +110,15 @@ HasEach-event mark queue items (Comes item now) has = record {
   mark_is = has.mark_is;
   held_at = AreAt-append has.held queue.letters item now has.held_at;
 }
+HasEach-event mark queue items (ComesSettled item) has =
+    let letters = queue.letters ++ None ∷ [] in
+    let marks = AreAt-marked mark has.gone (has.held ++ item ∷ []) letters (AreAt-settled_last has.held queue.letters item has.held_at) in record {
+      gone = marks.0;
+      held = marks.1;
+      split = ap (λ (all : List _). all ++ item ∷ []) has.split ∙ (append_assoc has.gone has.held (item ∷ []) ∙ marks.2);
+      mark_is = ap (λ (n : ℕ). n + settled_front letters) has.mark_is ∙ marks.3;
+      held_at = marks.4;
+    }
 HasEach-event mark queue items (IsTaken now) has =
     let same = taken_same queue (due_place queue now) in
     HasEach-same mark queue (taken queue (due_place queue now)) items same.1
@@ -148,6 +166,10 @@ IsOrderly-put_off queue now (Some place) is = record {
   new_due = All-set IsDueIfNew queue.letters place _ (put_off_is_old now (letter_at queue.letters (Some place))) is.new_due;
 }
 
+none_due : {T : Type 0} → All (IsDueIfNew {T = T}) (None ∷ [])
+none_due zero d within = tt
+none_due (suc k) d within = absurd (omega arith)
+
 one_new_due : {T : Type 0} (item : T) (now : ℕ) → All IsDueIfNew (Some (new_letter item now) ∷ [])
 one_new_due item now zero d within = λ new. refl
 one_new_due item now (suc k) d within = absurd (omega arith)
@@ -157,6 +179,11 @@ IsOrderly-event queue (Comes item now) is = record {
   first_waits = first_waits_pushed queue.letters (new_letter item now) is.first_waits;
   hand_waits = hand_waits_pushed queue.letters _ queue.in_hand is.hand_waits;
   new_due = All-append IsDueIfNew queue.letters _ is.new_due (one_new_due item now);
+}
+IsOrderly-event queue (ComesSettled item) is = record {
+  first_waits = first_waits_dropped (queue.letters ++ None ∷ []);
+  hand_waits = hand_waits_come queue.letters queue.in_hand is.first_waits is.hand_waits;
+  new_due = All-drop IsDueIfNew _ (queue.letters ++ None ∷ []) (All-append IsDueIfNew queue.letters _ is.new_due none_due);
 }
 IsOrderly-event queue (IsTaken now) is = IsOrderly-taken queue now (due_place queue now) refl is
 IsOrderly-event queue Settles is = IsOrderly-settled queue queue.in_hand is
@@ -197,6 +224,7 @@ put_off_flags queue now (Some place) = (refl, flags_put_off queue.letters place 
 
 pub only_settling : {T : Type 0} (queue : Queue T) (event : Event T) → OnlySettlingSettles queue event
 only_settling queue (Comes item now) other = (refl, map-append is_none queue.letters (Some (new_letter item now) ∷ []))
+only_settling queue (ComesSettled item) other = cc
 only_settling queue (IsTaken now) other =
     let same = taken_same queue (due_place queue now) in (same.1, ap (map is_none) same.0 ∙ sym (append-nil _))
 only_settling queue Settles other = cc

@@ -1,10 +1,10 @@
--- What a submitter does with refused letters and with the mark.
+-- What a submitter does with refused letters, and with settled ones.
 use Rattle.std.proofs.Common.{◌≡◌, ℕ, Bool, true, List, Option, Some, None, is_some, refl, Result, Ok, Err, is_ok, is_err, sym, ap, subst, ◌∙◌}
 use Rattle.std.specs.Option.{option_map}
-use Rattle.dsn_submission.specs.Waiting.{Queue, item_of, letter_at, letter_in_hand}
+use Rattle.dsn_submission.specs.Waiting.{Queue, item_of, letter_at, letter_in_hand, serial_in_hand}
 use Rattle.dsn_submission.specs.Verdict.{reason_of}
 use Rattle.dsn_submission.specs.declared.waiting.Waits.{Waits}
-use Rattle.dsn_submission.specs.Submitter.{AsksOnce, Handles, KeepsRefused, Submitter, TellsMark, concluded, lost, next_place, with_next_taken, told_on, verdict_in}
+use Rattle.dsn_submission.specs.Submitter.{AsksOnce, Handles, KeepsRefused, Submitter, TellsSettled, concluded, is_settled_by, lost, next_place, told, verdict_in, with_next_taken}
 use Rattle.dsn_device.specs.declared.drain.Drain
 use Rattle.dsn_device.specs.declared.source.Source
 use Rattle.dsn_smtp.specs.Session.{OpenSession}
@@ -12,11 +12,11 @@ use Rattle.dsn_smtp.specs.declared.hand_in_fault.HandInFault.{HandInFault}
 use Rattle.dsn_submission.proofs.WaitingLemmas.{due_place_waits, some_if_else}
 use Rattle.dsn_submission.specs.declared.verdict.Verdict.{Verdict}
 
--- a mark that rose was kept if the call returned Ok
-pub tells_risen : {M U E : Type 0} (tells : M → ℕ → Bool → M → Type 0) (result : Result U E) (old new : M) (before mark : ℕ) → (mark ≡ before → ⊥)
-    → tells old mark (is_ok result) new → TellsMark tells old new before mark (is_err result)
-tells_risen tells (Ok done) old new before mark rose is = told_on rose is
-tells_risen tells (Err why) old new before mark rose is = lost rose is
+-- a letter that its verdict settles was kept as settled if the call returned Ok
+pub tells_settled : {M U E : Type 0} (settles : M → ℕ → Bool → M → Type 0) (result : Result U E) (old new : M) (serial : ℕ) (verdict : Verdict) → is_settled_by verdict ≡ true
+    → settles old serial (is_ok result) new → TellsSettled settles old new (Some serial) verdict (is_err result)
+tells_settled settles (Ok done) old new serial verdict by is = told verdict serial by refl is
+tells_settled settles (Err why) old new serial verdict by is = lost verdict serial by refl is
 
 -- the letter that `in_hand` gives is the one in hand
 pub item_in_hand : {T : Type 0} (hand : Option (Waits T)) (item : T) (letter : Waits T)
@@ -26,18 +26,18 @@ item_in_hand hand item letter gives here =
 
 -- the states of one submission: with the letter in hand, after the server was asked, after the verdict, and at the end
 pub handled_by : {T S C K M : Type 0} (source : Source.Ghosts S) (drain : Drain.Ghosts S) (gives : C → C → Result S HandInFault → Type 0)
-    (keeps : K → List ℕ → List ℕ → List ℕ → Bool → K → Type 0) (tells : M → ℕ → Bool → M → Type 0)
+    (keeps : K → List ℕ → List ℕ → List ℕ → Bool → K → Type 0) (settles : M → ℕ → Bool → M → Type 0)
     (start asked ended final : Submitter T S) (server_old server_new : C) (refused_old refused_new : K) (marks_old marks_new : M)
-    (path message : List ℕ) (now before : ℕ) (fault : Option HandInFault) (verdict : Verdict)
+    (path message : List ℕ) (now : ℕ) (serial : Option ℕ) (fault : Option HandInFault) (verdict : Verdict)
     → asked ≡ record start { session = asked.session; reply = asked.reply }
     → ended ≡ record asked { waiting = concluded asked.waiting now verdict }
     → final ≡ record ended { stopped = final.stopped }
-    → before ≡ start.waiting.mark
+    → serial ≡ serial_in_hand start.waiting
     → AsksOnce source drain gives server_old server_new start.session asked.session start.host path message start.reply asked.reply fault
     → KeepsRefused keeps refused_old refused_new path message (reason_of fault asked.reply) (verdict_in asked.waiting now asked.give_up fault) verdict
-    → TellsMark tells marks_old marks_new before ended.waiting.mark final.stopped
-    → Handles source drain gives keeps tells start final server_old server_new refused_old refused_new marks_old marks_new path message now fault verdict
-handled_by {T} {S} {C} {K} {M} source drain gives keeps tells start asked ended final server_old server_new refused_old refused_new marks_old marks_new path message now before fault verdict first second third mark asks keeps_one tells_one =
+    → TellsSettled settles marks_old marks_new serial verdict final.stopped
+    → Handles source drain gives keeps settles start final server_old server_new refused_old refused_new marks_old marks_new path message now fault verdict
+handled_by {T} {S} {C} {K} {M} source drain gives keeps settles start asked ended final server_old server_new refused_old refused_new marks_old marks_new path message now serial fault verdict first second third its_serial asks keeps_one tells_one =
     let session : asked.session ≡ final.session = sym (ap (λ (s : Submitter T S). s.session) third ∙ ap (λ (s : Submitter T S). s.session) second) in
     let reply : asked.reply ≡ final.reply = sym (ap (λ (s : Submitter T S). s.reply) third ∙ ap (λ (s : Submitter T S). s.reply) second) in
     let waiting : asked.waiting ≡ start.waiting = ap (λ (s : Submitter T S). s.waiting) first in
@@ -53,9 +53,7 @@ handled_by {T} {S} {C} {K} {M} source drain gives keeps tells start asked ended 
       concluded_is =
           ap (λ (s : Submitter T S). s.waiting) third
           ∙ (ap (λ (s : Submitter T S). s.waiting) second ∙ ap (λ (q : Queue T). concluded q now verdict) waiting);
-      mark =
-          subst (λ (n : ℕ). TellsMark tells marks_old marks_new start.waiting.mark n final.stopped) (sym (ap (λ (s : Submitter T S). s.waiting.mark) third))
-          (subst (λ (n : ℕ). TellsMark tells marks_old marks_new n ended.waiting.mark final.stopped) mark tells_one);
+      settled_is = subst (λ (it : Option ℕ). TellsSettled settles marks_old marks_new it verdict final.stopped) its_serial tells_one;
       same_host = ap (λ (s : Submitter T S). s.host) third ∙ (ap (λ (s : Submitter T S). s.host) second ∙ ap (λ (s : Submitter T S). s.host) first);
       same_limit = ap (λ (s : Submitter T S). s.give_up) third ∙ (ap (λ (s : Submitter T S). s.give_up) second ∙ limit);
     }

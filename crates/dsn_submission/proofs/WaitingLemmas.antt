@@ -9,7 +9,7 @@ use Rattle.std.proofs.lemmas.Option.{cond_some, slice_get-get_or}
 use Rattle.std.proofs.Math.Nat.{le_of_lt, min-eq_left}
 use Rattle.std.proofs.lemmas.Bool.{cases_lt}
 use Rattle.std.proofs.Math.Pow.{pow_mono}
-use Rattle.dsn_submission.specs.Waiting.{IsQueue, Queue, delay, due_place, is_due, letter_at, new_letter, put_off_at, put_off_letter, settled_at, settled_front}
+use Rattle.dsn_submission.specs.Waiting.{IsQueue, Queue, delay, due_place, is_due, letter_at, new_letter, pushed_settled, put_off_at, put_off_letter, settled_at, settled_front}
 use Rattle.dsn_submission.specs.declared.waiting.Waits.{Waits}
 
 -- more than 31 doublings of a second are more than any 32-bit number of milliseconds
@@ -111,6 +111,19 @@ settled_front-le letters place =
     let few = prefix_len-le-length is_none (slice_set letters place None) in
     let same = length-set letters place None in omega arith
 
+-- a letter that comes settled changes no place before it: none, if there is no letter, and otherwise the first one waits
+pub front_come : {T : Type 0} (letter : Option (Waits T)) (letters : List (Option (Waits T))) → settled_front (letter ∷ letters) ≡ 0 → settled_front (letter ∷ letters ++ None ∷ []) ≡ 0
+front_come None letters waits = grind arith
+front_come (Some letter) letters waits = refl
+
+pub hand_waits_come : {T : Type 0} (letters : List (Option (Waits T))) (hand : Option ℕ) → settled_front letters ≡ 0
+    → is_some (letter_at letters hand) ≡ is_some hand
+    → is_some (letter_at (drop (settled_front (letters ++ None ∷ [])) (letters ++ None ∷ [])) hand) ≡ is_some hand
+hand_waits_come letters None first waits = refl
+hand_waits_come [] (Some place) first waits = cc
+hand_waits_come (letter ∷ letters) (Some place) first waits =
+    rw (front_come letter letters first) (hand_waits_pushed (letter ∷ letters) (None ∷ []) (Some place) waits)
+
 -- each call leaves a queue
 pub IsQueue-pushed : {T : Type 0} (queue : Queue T) (item : T) (now : ℕ) (letters : List (Option (Waits T))) (result : Result (Unit {0}) T)
     → IsQueue queue → queue.mark + length queue.letters < 2 ^ 64 - 1
@@ -151,3 +164,15 @@ pub hand_within : {T : Type 0} (letters : List (Option (Waits T))) (place : ℕ)
 hand_within [] place waits = cc
 hand_within (letter ∷ rest) zero waits = omega arith
 hand_within (letter ∷ rest) (suc place) waits = let less = hand_within rest place waits in omega arith
+
+pub IsQueue-come : {T : Type 0} (queue : Queue T) → IsQueue queue → queue.mark + length queue.letters < 2 ^ 64 - 1 → IsQueue (pushed_settled queue)
+IsQueue-come queue is room = record {
+  numbered = (
+      let long = length-append queue.letters (None ∷ []) in
+      let few = prefix_len-le-length is_none (queue.letters ++ None ∷ []) in
+      let left = length-drop (settled_front (queue.letters ++ None ∷ [])) (queue.letters ++ None ∷ []) in
+      omega arith
+      );
+  first_waits = first_waits_dropped (queue.letters ++ None ∷ []);
+  hand_waits = hand_waits_come queue.letters queue.in_hand is.first_waits is.hand_waits;
+}

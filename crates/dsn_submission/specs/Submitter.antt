@@ -5,7 +5,7 @@ use Rattle.dsn_device.specs.declared.source.Source
 use Rattle.dsn_smtp.specs.Session.{AsksOver, Ends, OpenSession}
 use Rattle.dsn_smtp.specs.declared.hand_in_fault.HandInFault.{HandInFault}
 use Rattle.dsn_submission.specs.Verdict.{reason_of, verdict_of}
-use Rattle.dsn_submission.specs.Waiting.{Queue, due_place, is_given_up, put_off, server_away, settled, taken}
+use Rattle.dsn_submission.specs.Waiting.{Queue, due_place, is_given_up, put_off, serial_in_hand, server_away, settled, taken}
 use Rattle.dsn_submission.specs.declared.verdict.Verdict.{Verdict}
 use Rattle.dsn_submission.specs.declared.verdict.Verdict.TheVariants.{Accepted, RefusedForGood, PutOff, ServerAway}
 
@@ -65,21 +65,29 @@ concluded queue now RefusedForGood = settled queue
 concluded queue now PutOff = put_off queue now
 concluded queue now ServerAway = server_away queue now
 
--- a mark that rose was kept, or else nothing is submitted any more; no other mark is kept
-pub data TellsMark {M : Type 0} (tells : M → ℕ → Bool → M → Type 0) (old new : M) (before mark : ℕ) : Bool → Type 0 where
-  same : mark ≡ before → new ≡ old → TellsMark tells old new before mark false
-  told_on : (mark ≡ before → ⊥) → tells old mark true new → TellsMark tells old new before mark false
-  lost : (mark ≡ before → ⊥) → tells old mark false new → TellsMark tells old new before mark true
+-- whether a verdict settles its letter
+abbrev pub is_settled_by : Verdict → Bool
+is_settled_by Accepted = true
+is_settled_by RefusedForGood = true
+is_settled_by PutOff = false
+is_settled_by ServerAway = false
+
+-- A letter with this serial that its verdict settles was kept as settled, or else nothing is submitted any more. Nothing
+-- is kept of another letter.
+pub data TellsSettled {M : Type 0} (settles : M → ℕ → Bool → M → Type 0) (old new : M) (serial : Option ℕ) : Verdict → Bool → Type 0 where
+  same : (verdict : Verdict) → is_settled_by verdict ≡ false → new ≡ old → TellsSettled settles old new serial verdict false
+  told : (verdict : Verdict) (it : ℕ) → is_settled_by verdict ≡ true → serial ≡ Some it → settles old it true new → TellsSettled settles old new serial verdict false
+  lost : (verdict : Verdict) (it : ℕ) → is_settled_by verdict ≡ true → serial ≡ Some it → settles old it false new → TellsSettled settles old new serial verdict true
 
 -- A letter was submitted: asked of the server once, kept if it is refused for good, and concluded as the verdict says;
--- the mark was kept if it rose. `taken` is the submitter once the letter was in hand.
+-- it was kept as settled if the verdict settles it. `taken` is the submitter once the letter was in hand.
 pub record Handles {T S C K M : Type 0} (source : Source.Ghosts S) (drain : Drain.Ghosts S) (gives : C → C → Result S HandInFault → Type 0)
-    (keeps : K → List ℕ → List ℕ → List ℕ → Bool → K → Type 0) (tells : M → ℕ → Bool → M → Type 0)
+    (keeps : K → List ℕ → List ℕ → List ℕ → Bool → K → Type 0) (settles : M → ℕ → Bool → M → Type 0)
     (taken new : Submitter T S) (server_old server_new : C) (refused_old refused_new : K) (marks_old marks_new : M)
     (path message : List ℕ) (now : ℕ) (fault : Option HandInFault) (verdict : Verdict) : Type 0 where
   pub asked : AsksOnce source drain gives server_old server_new taken.session new.session taken.host path message taken.reply new.reply fault
   pub refusal : KeepsRefused keeps refused_old refused_new path message (reason_of fault new.reply) (verdict_in taken.waiting now taken.give_up fault) verdict
   pub concluded_is : new.waiting ≡ concluded taken.waiting now verdict
-  pub mark : TellsMark tells marks_old marks_new taken.waiting.mark new.waiting.mark new.stopped
+  pub settled_is : TellsSettled settles marks_old marks_new (serial_in_hand taken.waiting) verdict new.stopped
   pub same_host : new.host ≡ taken.host
   pub same_limit : new.give_up ≡ taken.give_up

@@ -1,6 +1,6 @@
 -- Letters that wait for a mail server: their states, and what each call makes of them. Moments and waits are in
 -- milliseconds, moments from the beginning of the run.
-use Rattle.std.specs.Prelude.{◌≡◌, ℕ, ◌+◌, ◌-◌, ◌*◌, ◌^◌, ◌<◌, min, Bool, true, false, ◌&&◌, ◌||◌, nat_lt, nat_le, List, [], ◌∷◌, ◌++◌, length, drop, Option, Some, None, is_some, is_none, option_and_then, option_map, slice_get, slice_set, if◌then◌else◌}
+use Rattle.std.specs.Prelude.{◌≡◌, ◌⊎◌, ℕ, ◌+◌, ◌-◌, ◌*◌, ◌^◌, ◌<◌, ◌≤◌, min, Bool, true, false, ◌&&◌, ◌||◌, nat_lt, nat_le, List, [], ◌∷◌, ◌++◌, length, drop, Option, Some, None, is_some, is_none, option_and_then, option_map, slice_get, slice_set, if◌then◌else◌}
 use Rattle.std.specs.List.{position, prefix_len}
 use Rattle.dsn_device.specs.Failures.{counted}
 use Rattle.dsn_submission.specs.declared.waiting.Waits.{Waits}
@@ -42,6 +42,10 @@ new_letter item now = record { item = item; tries = 0; since = now; due = 0 }
 abbrev pub pushed : {T : Type 0} → Queue T → T → ℕ → Queue T
 pushed queue item now = record queue { letters = queue.letters ++ Some (new_letter item now) ∷ [] }
 
+-- the serial of the letter that comes next
+abbrev pub next_serial : {T : Type 0} → Queue T → ℕ
+next_serial queue = queue.mark + length queue.letters
+
 -- whether a letter waits that is due
 abbrev pub is_due : {T : Type 0} → ℕ → Option (Waits T) → Bool
 is_due now None = false
@@ -70,12 +74,21 @@ letter_in_hand queue = letter_at queue.letters queue.in_hand
 abbrev pub settled_front : {T : Type 0} → List (Option (Waits T)) → ℕ
 settled_front letters = prefix_len is_none letters
 
+-- the letter with this serial is settled: it is below the mark, or nothing is held of it
+abbrev pub IsSettledIn : {T : Type 0} → Queue T → ℕ → Type 0
+IsSettledIn queue serial =
+    (serial < queue.mark) ⊎ ((queue.mark ≤ serial) × (slice_get queue.letters (serial - queue.mark) ≡ Some None))
+
 -- the mark rises past the letters that are settled, from the first on
 abbrev pub marked : {T : Type 0} → Queue T → Queue T
 marked queue = record queue {
   mark = queue.mark + settled_front queue.letters;
   letters = drop (settled_front queue.letters) queue.letters;
 }
+
+-- a letter comes, last, that is settled already
+abbrev pub pushed_settled : {T : Type 0} → Queue T → Queue T
+pushed_settled queue = marked (record queue { letters = queue.letters ++ None ∷ [] })
 
 -- the letter at this place is settled; the server answered
 abbrev pub settled_at : {T : Type 0} → Queue T → Option ℕ → Queue T

@@ -1,12 +1,13 @@
 -- What holds of letters that wait, after every list of events.
 use Rattle.std.specs.Prelude.{◌≡◌, ◌≢◌, ℕ, ◌+◌, ◌<◌, Bool, true, false, List, [], ◌∷◌, ◌++◌, length, map, All, Option, Some, None, is_some, is_none, slice_get}
-use Rattle.dsn_submission.specs.Waiting.{Queue, due_place, letter_in_hand, put_off, pushed, server_away, settled, settled_front, taken}
+use Rattle.dsn_submission.specs.Waiting.{Queue, due_place, letter_in_hand, put_off, pushed, pushed_settled, server_away, settled, settled_front, taken}
 use Rattle.dsn_submission.specs.declared.waiting.Waits.{Waits}
 
--- what happens to a queue: a letter comes, the first that is due is taken in hand, and the letter in hand is settled, is
+-- what happens to a queue: a letter comes, that is settled already or not, the first that is due is taken in hand, and the letter in hand is settled, is
 -- put off, or goes back since the server doesn't answer; at a moment
 pub data Event (T : Type 0) : Type 0 where
   Comes : T → ℕ → Event T
+  ComesSettled : T → Event T
   IsTaken : ℕ → Event T
   Settles : Event T
   IsPutOff : ℕ → Event T
@@ -15,6 +16,7 @@ pub data Event (T : Type 0) : Type 0 where
 -- the queue after an event
 abbrev pub after_event : {T : Type 0} → Queue T → Event T → Queue T
 after_event queue (Comes item now) = pushed queue item now
+after_event queue (ComesSettled item) = pushed_settled queue
 after_event queue (IsTaken now) = taken queue (due_place queue now)
 after_event queue Settles = settled queue
 after_event queue (IsPutOff now) = put_off queue now
@@ -28,6 +30,7 @@ after_events queue (event ∷ events) = after_events (after_event queue event) e
 -- the letters that came, in their order
 abbrev pub come_by : {T : Type 0} → Event T → List T
 come_by (Comes item now) = item ∷ []
+come_by (ComesSettled item) = item ∷ []
 come_by (IsTaken now) = []
 come_by Settles = []
 come_by (IsPutOff now) = []
@@ -79,12 +82,13 @@ settled_flags queue = map is_none queue.letters
 
 abbrev pub is_settling : {T : Type 0} → Event T → Bool
 is_settling (Comes item now) = false
+is_settling (ComesSettled item) = true
 is_settling (IsTaken now) = false
 is_settling Settles = true
 is_settling (IsPutOff now) = false
 is_settling (FindsNoServer now) = false
 
--- no other event settles a letter
+-- no other event settles a letter: only the one that settles that in hand, and one by which a letter comes that is settled
 abbrev pub OnlySettlingSettles : {T : Type 0} → Queue T → Event T → Type 0
 OnlySettlingSettles queue event =
     is_settling event ≡ false

@@ -1,5 +1,5 @@
-//! What lies behind a submitter: where refused letters are kept, and where the mark is.
-ghost use Rattle.std.specs.Prelude.{is_ok};
+//! What lies behind a submitter: where refused letters are kept, and which ones are settled.
+ghost use Rattle.std.specs.Prelude.{◌≡◌, is_ok};
 
 use crate::mail::Mail;
 use dsn_device::Broken;
@@ -21,16 +21,26 @@ pub trait RefusedLetters {
             (is_ok result) self.new };
 }
 
-/// A place where the mark is kept.
+/// A place where it is kept which letters are settled.
 pub trait Marks {
-    ghost use Rattle.std.specs.Prelude.{ℕ, Bool};
+    ghost use Rattle.std.specs.Prelude.{◌≡◌, ◌≢◌, ℕ, Bool};
 
-    // What the place becomes when a mark is to be kept, and whether that succeeds. Each
-    // implementation defines it, since no contract can describe a file.
-    ghost tells: { Self → ℕ → Bool → Self → Type 0 };
+    // What the place becomes when it is to keep that the letter with a serial is settled, and whether
+    // that succeeds. Each implementation defines it, since no contract can describe a file.
+    ghost settles: { Self → ℕ → Bool → Self → Type 0 };
 
-    /// Keeps the mark: all letters with a smaller serial are settled. Returns `Broken` if a crash
-    /// may lose it.
-    fn settled_to(&mut self, mark: u64) -> Result<(), Broken>
-        ensures { tells self.old mark (is_ok result) self.new };
+    // Whether the place has the letter with a serial as settled.
+    ghost has_settled: { Self → ℕ → Bool };
+
+    // No other letter becomes settled by that, or isn't any more.
+    ghost keeps_others: { (old : Self) (serial : ℕ) (ok : Bool) (new : Self) (other : ℕ)
+        → settles old serial ok new → other ≢ serial → has_settled new other ≡ has_settled old other };
+
+    /// Keeps that the letter with this serial is settled. Returns `Broken` if a crash may lose it.
+    fn settle(&mut self, serial: u64) -> Result<(), Broken>
+        ensures { settles self.old serial (is_ok result) self.new };
+
+    /// Whether the letter with this serial was settled, also by an earlier run.
+    fn has_settled(&self, serial: u64) -> bool
+        ensures { result ≡ has_settled self.now serial };
 }

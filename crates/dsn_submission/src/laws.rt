@@ -15,7 +15,7 @@ pub fn letters_keep_their_places<T>()
         → TakesInOrder (after_events (empty_queue mark) events) }
 {}
 
-/// No letter is settled but by the event that settles the one in hand.
+/// No letter is settled but by the event that settles the one in hand, or before it comes.
 pub fn only_settling_settles<T>()
     ensures { (queue : Queue T) (event : Event T) → OnlySettlingSettles queue event }
 {}

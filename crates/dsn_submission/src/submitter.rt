@@ -1,10 +1,10 @@
 //! Submits the letters that wait, one at a time, and does with each what the server's reply says.
 //! Implements RFC 5321 sections 3.3 and 4.5.4.1.
-ghost use Rattle.std.specs.Prelude.{◌≡◌, false, true, Some, None, [], is_some, IfErr, IfNone, IfOk, IfSome, OnErr};
+ghost use Rattle.std.specs.Prelude.{◌≡◌, false, true, Some, None, [], is_some, IfErr, IfNone, IfOk, IfSome, OnErr, OnOk};
 ghost use Rattle.std.specs.Option.{option_copied, option_map};
-ghost use Rattle.dsn_submission.specs.Submitter.{AsksOnce, Handles, KeepsRefused, LeavesSession, TellsMark, concluded, next_place, with_next_taken, verdict_in};
+ghost use Rattle.dsn_submission.specs.Submitter.{AsksOnce, Handles, KeepsRefused, LeavesSession, TellsSettled, concluded, is_settled_by, next_place, with_next_taken, verdict_in};
 ghost use Rattle.dsn_submission.specs.Verdict.{reason_of};
-ghost use Rattle.dsn_submission.specs.Waiting.{empty_queue, item_of, letter_at, letter_in_hand, pushed, serial_in_hand, taken};
+ghost use Rattle.dsn_submission.specs.Waiting.{empty_queue, item_of, letter_at, letter_in_hand, pushed, pushed_settled, serial_in_hand, taken};
 ghost use Rattle.dsn_submission.specs.declared.verdict.Verdict.TheVariants.{RefusedForGood};
 ghost use Rattle.dsn_submission.specs.declared.waiting.Waits.{Waits};
 
@@ -30,8 +30,8 @@ pub struct Submitter<T, S: Stream> {
     host: MtaName,
     /// After how many milliseconds a letter is given up.
     give_up: u64,
-    /// Whether a mark couldn't be kept. Nothing is submitted from then on: after a restart, all
-    /// letters from the last mark that was kept are submitted again.
+    /// Whether a letter couldn't be kept as settled. Nothing is submitted from then on: after a
+    /// restart, that letter is submitted again.
     is_stopped: bool,
 }
 
@@ -92,7 +92,7 @@ impl<T: Mail + Drop, S: Stream + Drop> Submitter<T, S> {
         &self.waiting
     }
 
-    /// Whether nothing is submitted any more, since a mark couldn't be kept.
+    /// Whether nothing is submitted any more, since a letter couldn't be kept as settled.
     pub fn is_stopped(&self) -> bool
         ensures { result ≡ self.now.stopped }
     {
@@ -125,6 +125,15 @@ impl<T: Mail + Drop, S: Stream + Drop> Submitter<T, S> {
         ensures unchanged { OnErr result (self.new ≡ self.old) }
     {
         self.waiting.push(letter, now)
+    }
+
+    /// Adds a letter that is settled already, as [`Waiting::push_settled`] does.
+    pub fn push_settled(&mut self) -> Result<(), NoMemory>
+        ensures ok { OnOk result
+            (self.new ≡ record self.old { waiting = pushed_settled self.old.waiting }) }
+        ensures unchanged { OnErr result (self.new ≡ self.old) }
+    {
+        self.waiting.push_settled()
     }
 
     /// Ends the session with QUIT, if one is kept.
@@ -246,16 +255,16 @@ impl<T: Mail + Drop, S: Stream + Drop> Submitter<T, S> {
         verdict
     }
 
-    /// Has the mark kept if it rose from `before`, and submits nothing any more if that fails.
-    fn tell<M: Marks>(&mut self, before: u64, marks: &mut M)
+    /// Has the letter with this serial kept as settled if the verdict settles it, and submits nothing
+    /// any more if that fails.
+    fn tell<M: Marks>(&mut self, serial: u64, verdict: Verdict, marks: &mut M)
         requires { self.old.stopped ≡ false }
-        ensures told { TellsMark M.tells marks.old marks.new before self.old.waiting.mark
+        ensures told { TellsSettled M.settles marks.old marks.new (Some serial) verdict
             self.new.stopped }
         ensures same { self.new ≡ record self.old { stopped = self.new.stopped } }
     {
-        let mark = self.waiting.mark();
-        if mark != before {
-            self.is_stopped = marks.settled_to(mark).is_err();
+        if is_settled_by(verdict) {
+            self.is_stopped = marks.settle(serial).is_err();
         }
     }
 
@@ -271,7 +280,7 @@ impl<T: Mail + Drop, S: Stream + Drop> Submitter<T, S> {
         requires going { self.old.stopped ≡ false }
         ensures handled { IfOk result (λ handled. (letter : Waits T)
             → letter_in_hand self.old.waiting ≡ Some letter
-            → Handles S.Source S.Drain C.gives K.keeps M.tells self.old self.new server.old
+            → Handles S.Source S.Drain C.gives K.keeps M.settles self.old self.new server.old
             server.new refused.old refused.new marks.old marks.new
             (T.path_of letter.item) (T.message_of letter.item) now
             handled.fault handled.verdict) }
@@ -280,7 +289,6 @@ impl<T: Mail + Drop, S: Stream + Drop> Submitter<T, S> {
         ensures unasked { OnErr result ((self.new ≡ self.old) × (server.new ≡ server.old)) }
         ensures unkept { OnErr result ((refused.new ≡ refused.old) × (marks.new ≡ marks.old)) }
     {
-        let before = self.waiting().mark();
         let Some(serial) = self.waiting().serial_in_hand() else {
             unreachable!()
         };
@@ -289,7 +297,7 @@ impl<T: Mail + Drop, S: Stream + Drop> Submitter<T, S> {
             Err(no_memory) => return Err(no_memory),
         };
         let verdict = self.conclude(&fault, refused, now);
-        self.tell(before, marks);
+        self.tell(serial, verdict, marks);
         Ok(Handled {
             serial,
             fault,
@@ -298,13 +306,13 @@ impl<T: Mail + Drop, S: Stream + Drop> Submitter<T, S> {
     }
 
     /// Submits the letter that is to be submitted next, if there is one: the first that is due at
-    /// `now`, unless the server isn't to be asked or a mark couldn't be kept. Returns `None` if no
+    /// `now`, unless the server isn't to be asked or a letter couldn't be kept as settled. Returns `None` if no
     /// letter is.
     ///
     /// An accepted letter is settled. One that the server puts off waits by itself, unless it is
     /// given up. If the server takes no letters, all wait. One that is refused for good, or given
-    /// up, is settled once `refused` kept it, and is put off if that fails. If the mark rises,
-    /// `marks` keeps it; if that fails, nothing is submitted any more. Returns `NoMemory` if the
+    /// up, is settled once `refused` kept it, and is put off if that fails. `marks` keeps each letter
+    /// that is settled; if that fails, nothing is submitted any more. Returns `NoMemory` if the
     /// message couldn't be written; then nothing was asked and nothing changes.
     pub fn step<C: Connect<S>, K: RefusedLetters, M: Marks>(
         &mut self,
@@ -316,7 +324,7 @@ impl<T: Mail + Drop, S: Stream + Drop> Submitter<T, S> {
         ensures some { IfOk result (λ done. is_some done ≡ is_some (next_place self.old now)) }
         ensures handled { IfOk result (λ done. IfSome done (λ handled. (letter : Waits T)
             → letter_at self.old.waiting.letters (next_place self.old now) ≡ Some letter
-            → Handles S.Source S.Drain C.gives K.keeps M.tells
+            → Handles S.Source S.Drain C.gives K.keeps M.settles
             (with_next_taken self.old (next_place self.old now)) self.new server.old server.new refused.old
             refused.new marks.old marks.new
             (T.path_of letter.item) (T.message_of letter.item) now
@@ -341,6 +349,13 @@ impl<T: Mail + Drop, S: Stream + Drop> Submitter<T, S> {
             }
         }
     }
+}
+
+/// Whether a verdict settles its letter.
+fn is_settled_by(verdict: Verdict) -> bool
+    ensures { result ≡ is_settled_by verdict }
+{
+    matches!(verdict, Verdict::Accepted | Verdict::RefusedForGood)
 }
 
 /// Does with the letter in hand what the verdict says.

@@ -1,13 +1,14 @@
 //! Letters that wait for a mail server: which one is submitted next, when it is tried again, and
 //! up to which one all are settled.
 //! Implements RFC 5321 section 4.5.4.1, with this project's intervals.
-ghost use Rattle.std.specs.Prelude.{◌≡◌, ℕ, ◌<◌, ◌≤◌, Some, [], ◌∷◌, ◌++◌, ◌==◌, length, drop, is_some, slice_set, IfErr, OnOk};
+ghost use Rattle.std.specs.Prelude.{◌≡◌, ℕ, ◌<◌, ◌≤◌, None, Some, [], ◌∷◌, ◌++◌, ◌==◌, length, drop, is_some, slice_set, IfErr, OnErr, OnOk};
 ghost use Rattle.std.specs.List.{position};
 ghost use Rattle.std.specs.Option.{option_copied, option_map};
 ghost use Rattle.dsn_submission.specs.inner.Waiting.{earlier_due, least_due};
-ghost use Rattle.dsn_submission.specs.Waiting.{IsQueue, due_place, empty_queue, given_back, serial_in_hand, is_due, is_given_up, is_reached, item_of, letter_at, letter_in_hand, new_letter, put_off, put_off_letter, pushed, server_away, settled, settled_front, taken};
+ghost use Rattle.dsn_submission.specs.Waiting.{IsQueue, due_place, empty_queue, given_back, serial_in_hand, is_due, is_given_up, is_reached, item_of, letter_at, letter_in_hand, new_letter, next_serial, put_off, put_off_letter, pushed, pushed_settled, server_away, settled, settled_front, taken};
 
 use crate::delay::{delay, later};
+use dsn_text::NoMemory;
 use std::alloc::Global;
 use std::collections::VecDeque;
 use std::marker::Model;
@@ -99,6 +100,32 @@ impl<T: Drop> Waiting<T> {
             return Err(item);
         }
         push_letter(&mut self.letters, item, now)
+    }
+
+    /// The serial of the letter that comes next.
+    pub fn next_serial(&self) -> u64
+        ensures serial { result ≡ next_serial self.now }
+        ensures sound { IsQueue self.now }
+    {
+        self.mark + self.letters.len() as u64
+    }
+
+    /// Adds a letter that is settled already, of which nothing is held. Returns `NoMemory` if memory
+    /// was refused, or if its serial would be above 18,446,744,073,709,551,614; then nothing changes.
+    pub fn push_settled(&mut self) -> Result<(), NoMemory>
+        ensures ok { OnOk result (self.new ≡ pushed_settled self.old) }
+        ensures unchanged { OnErr result (self.new ≡ self.old) }
+    {
+        if self.letters.len() as u64 >= u64::MAX - self.mark {
+            return Err(NoMemory);
+        }
+        match push_settled(&mut self.letters) {
+            Ok(()) => {
+                self.mark += drop_settled(&mut self.letters);
+                Ok(())
+            }
+            Err(no_memory) => Err(no_memory),
+        }
     }
 
     /// Takes the first letter that is due in hand, and returns whether one is due. None is due
@@ -288,6 +315,17 @@ fn push_letter<T: Drop>(
             Some(letter) => Err(letter.item),
             None => unreachable!(),
         },
+    }
+}
+
+/// Adds a letter that is settled, last.
+fn push_settled<T: Drop>(letters: &mut VecDeque<Option<Waits<T>>>) -> Result<(), NoMemory>
+    ensures ok { OnOk result (letters.new.items ≡ letters.old.items ++ None ∷ []) }
+    ensures unchanged { OnErr result (letters.new.items ≡ letters.old.items) }
+{
+    match letters.push_back(None) {
+        Ok(()) => Ok(()),
+        Err(_) => Err(NoMemory),
     }
 }
 

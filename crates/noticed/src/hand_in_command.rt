@@ -3,13 +3,13 @@ ghost use Rattle.std.specs.Prelude.{◌≡◌, ◌*◌};
 
 use crate::arguments::{number_of, owned, text_of};
 use crate::done_file::DoneFile;
-use crate::outbox_text::{OutboxPart, greeting_of, part_of};
+use crate::outbox_text::{OutboxPart, OutboxTransaction, greeting_of, part_of};
 use crate::postfix_values::server_of;
 use crate::refused_file::RefusedPlace;
 use crate::start_error::StartError;
 use clap::ArgMatches;
 use dsn_smtp::{HandInFault, MailConnection, MailServer, ServerAddress};
-use dsn_submission::{Handled, Submitter, Transaction, Verdict, reason_of};
+use dsn_submission::{Handled, Marks, Submitter, Transaction, Verdict, reason_of};
 use dsn_text::{Address, Clean, MtaName};
 use std::alloc::Global;
 use std::io::Read;
@@ -59,7 +59,7 @@ impl HandInTerms {
 #[derive(Drop)]
 pub(crate) struct HandInArguments {
     terms: HandInTerms,
-    /// The file that keeps the mark, if there is one.
+    /// The file that keeps which notices are settled, if there is one.
     done: Option<String>,
 }
 
@@ -122,31 +122,28 @@ fn hand_in_outbox(
     host: MtaName,
     text: &[u8],
 ) -> Result<u8, StartError> {
-    let done = DoneFile {
-        rt,
-        path: arguments.done.as_deref(),
-    };
-    let first = match done.mark() {
-        Ok(first) => first,
+    let path = arguments.done.as_deref();
+    let done = match DoneFile::open(rt, path) {
+        Ok(done) => done,
         Err(error) => return Ok(print_fault(rt, "the file of --done", &error)),
     };
-    match refused_place(rt, done.path) {
-        Ok(refused) => submit_outbox(rt, &arguments.terms, host, first, done, refused, text),
+    match refused_place(rt, path) {
+        Ok(refused) => submit_outbox(rt, &arguments.terms, host, done, refused, text),
         Err(error) => Ok(print_fault(rt, "the file of refused notices", &error)),
     }
 }
 
-/// Submits the notices of a text on these terms, as the host of this name, from the first on whose
-/// serial is `first`. The mark goes to `done`, and refused notices to `refused`. Returns the status.
+/// Submits the notices of a text on these terms, as the host of this name, but for those that `done`
+/// has as settled. Refused ones go to `refused`. Returns the status.
 pub(crate) fn submit_outbox(
     rt: &HostRuntime,
     terms: &HandInTerms,
     host: MtaName,
-    first: u64,
     done: DoneFile<'_>,
     refused: RefusedPlace<'_>,
     text: &[u8],
 ) -> Result<u8, StartError> {
+    let first = done.letters().mark();
     let Ok(began) = Instant::now(rt) else {
         return Err(StartError::NoMemory);
     };
@@ -190,9 +187,7 @@ impl<'a> HandIn<'a> {
             match part_of(rest) {
                 OutboxPart::Transaction(transaction) => {
                     rest = transaction.rest;
-                    if serial >= self.first
-                        && !self.take_notice(transaction.path, transaction.message)?
-                    {
+                    if serial >= self.first && !self.take_next(&transaction)? {
                         return Ok(false);
                     }
                 }
@@ -204,6 +199,23 @@ impl<'a> HandIn<'a> {
             }
         }
         Ok(false)
+    }
+
+    /// Takes the next notice, which may be settled. Returns whether its path is an address.
+    fn take_next(&mut self, transaction: &OutboxTransaction<'a>) -> Result<bool, StartError> {
+        if !self
+            .done
+            .has_settled(self.submitter.waiting().next_serial())
+        {
+            return self.take_notice(transaction.path, transaction.message);
+        }
+        self.paths
+            .push(transaction.path)
+            .map_err(|_| StartError::NoMemory)?;
+        match self.submitter.push_settled() {
+            Ok(()) => Ok(true),
+            Err(_) => Err(StartError::NoMemory),
+        }
     }
 
     /// Takes a notice. Returns whether its path is an address.
@@ -283,7 +295,9 @@ impl<'a> HandIn<'a> {
     /// The status at the end.
     fn status(&self) -> u8 {
         if self.submitter.is_stopped() {
-            let _ = eprintln!(self.rt; "the mark can't be kept, so nothing more is submitted");
+            let _ = eprintln!(self.rt;
+                "it can't be kept that a notice is settled, so nothing more is submitted"
+            );
             return FAULT;
         }
         let settled = self.submitter.waiting().mark().saturating_sub(self.first);

@@ -22,7 +22,7 @@ pub(crate) const MOST_MAX_JOURNAL: u32 = 4_096;
 const PIECE: usize = 65_536;
 
 /// The size of the file of new marks, in bytes.
-const MARKS_SIZE: usize = 4_096;
+const MARKS_SIZE: usize = 65_536;
 
 /// The exit status of a run that couldn't have its journal.
 const FAULT: u8 = 1;

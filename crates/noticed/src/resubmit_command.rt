@@ -91,10 +91,9 @@ fn resubmit(
     };
     let mut text = fs::read(rt, &files.taken)?;
     text.extend_from_slice(b"QUIT\r\n")?;
-    let done = DoneFile::at(rt, &files.done);
-    let first = done.mark()?;
+    let done = DoneFile::open(rt, Some(files.done.as_str()))?;
     let refused = RefusedPlace::open(rt, &files.refused)?;
-    let submitted = submit_outbox(rt, terms, host, first, done, refused, &text);
+    let submitted = submit_outbox(rt, terms, host, done, refused, &text);
     if matches!(submitted, Ok(0)) {
         fs::remove_file(rt, &files.taken)?;
         remove_if_there(rt, &files.done)?;

@@ -8,7 +8,7 @@ mod taking;
 use asking::Asking;
 use dsn_book::{Limits, Step};
 use dsn_frame::{Spoken, encode_answer};
-use dsn_journal::{FileDisk, Replaceable, create_file};
+use dsn_journal::{FileDisk, Replaceable, SettledLetters, create_file};
 use dsn_ledger::{Opened, open};
 use std::alloc::Global;
 use std::io::Write;
@@ -42,10 +42,11 @@ pub(crate) fn keep(rt: &HostRuntime, keeping: &Keeping, given: &[u8]) -> Option<
             return None;
         }
     };
+    let settled = SettledLetters::below(rt.alloc(), keeping.mark).ok()?;
     let Opened {
         ledger,
         letters: _posted,
-    } = match open(rt.alloc(), disk, keeping.limits, keeping.mark) {
+    } = match open(rt.alloc(), disk, keeping.limits, &settled) {
         Ok(opened) => opened,
         Err(left) => {
             println!(rt; "not opened: {}", left.cause).ok()?;

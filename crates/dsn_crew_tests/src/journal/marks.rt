@@ -2,7 +2,7 @@
 use crate::assert_same::same;
 use dsn_device::{Broken, Drain, Plain};
 use dsn_fakes::MemoryDisk;
-use dsn_journal::{MarkedOutbox, Marks, MarksError};
+use dsn_journal::{MarkedOutbox, Marks, MarksError, settle};
 use std::alloc::Global;
 use std::test::Fail;
 
@@ -49,6 +49,19 @@ const FILES: &[(&[u8], Result<u64, MarksError>)] = &[
         b"12345678\x02\x01\x01\x01\x01\x01\x01\x01\x01\x01\x01\x01\x01\x01\x03\x01\x02Y\x06\x01\x02g\x02\0",
         Ok(513),
     ),
+    // The mark 2, and 4 and 5 settled above it; two numbers, and three that don't rise.
+    (
+        b"\x01\x01\x01\x01\x01\x01\x01\x01\x01\x01\x01\x01\x01\x01\x01\x03\x01\x01\x01\x01\x01\x01\x01\x01\x01\x01\x01\x01\x01\x01\x04\x01\x01\x01\x01\x01\x01\x01\x01\x01\x01\x01\x01\x01\x01\x06\xc3\x5cq\x8b\x02\0\0",
+        Ok(2),
+    ),
+    (
+        b"\x01\x01\x01\x01\x01\x01\x01\x01\x01\x01\x01\x01\x01\x01\x01\x03\x01\x01\x01\x01\x01\x01\x01\x01\x01\x01\x01\x01\x01\x01\x04h{\xd7\x94\x02\0\0",
+        Err(MarksError::Damaged),
+    ),
+    (
+        b"\x01\x01\x01\x01\x01\x01\x01\x01\x01\x01\x01\x01\x01\x01\x01\x03\x01\x01\x01\x01\x01\x01\x01\x01\x01\x01\x01\x01\x01\x01\x06\x01\x01\x01\x01\x01\x01\x01\x01\x01\x01\x01\x01\x01\x01\x04\xcf\xf6\xdb\x1d\x02\0\0",
+        Err(MarksError::Damaged),
+    ),
     // Files without a record that are foreign.
     (
         b"\x01\x01\x01\x01\x01\x01\x01\x01\x01\x01\x01\x01\x01\x01\x01\x03m\0\0\0\0\0\0\0\0\0",
@@ -89,6 +102,30 @@ fn mark_first(alloc: Global, serial: u64) -> Result<(Result<(), Broken>, u64), F
     let answer = outbox.mark_letter(serial);
     let (_, marks) = outbox.into_parts();
     Ok((answer, marks.mark()))
+}
+
+/// Settles the letters with these serials over new marks, and opens what a crash leaves: the edges.
+fn settled(alloc: Global, serials: &[u64]) -> Result<Vec<u64>, Fail> {
+    let mut marks = open_marks(alloc, &[0; 90]).ok().ok_or("marks")?;
+    for serial in serials {
+        settle(alloc, &mut marks, *serial)?;
+    }
+    let disk = marks.into_disk();
+    let bytes = disk.crashed(disk.moment(), u64::MAX)?;
+    let again = open_marks(alloc, &bytes).ok().ok_or("marks again")?;
+    Ok(again.letters().edges().to_vec(alloc)?)
+}
+
+#[test]
+fn letters_are_settled_in_any_order(rt: HostRuntime) -> Result<(), Fail> {
+    let alloc = rt.alloc();
+    let found = settled(alloc, &[2, 5, 2])?;
+    same(&rt, found.as_slice(), [0, 2, 3, 5, 6].as_slice());
+    // Three gaps have no room here.
+    same(&rt, settled(alloc, &[2, 4, 6]).is_err(), true);
+    let found = settled(alloc, &[1, 2, 0])?;
+    same(&rt, found.as_slice(), [3].as_slice());
+    Ok(())
 }
 
 #[test]

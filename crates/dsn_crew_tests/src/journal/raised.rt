@@ -3,6 +3,7 @@ use crate::assert_same::same;
 use crate::bodies::{Kind, body};
 use dsn_book::Limits;
 use dsn_fakes::MemoryDisk;
+use dsn_journal::SettledLetters;
 use dsn_ledger::{Ledger, LedgerError, Opened, open, open_to_raise};
 use dsn_outcome::{Letter, Request};
 use std::alloc::Global;
@@ -44,7 +45,8 @@ fn three_letters_and_a_log(alloc: Global) -> Result<Vec<Request>, Fail> {
 /// The bytes of a journal that sealed three letters and holds an open log.
 fn journal_with_letters(alloc: Global) -> Result<Vec<u8>, Fail> {
     let disk = MemoryDisk::new(alloc, vec![in alloc; 0; SIZE]?);
-    let Ok(opened) = open(alloc, disk, limits_of(4)?, 0) else {
+    let settled = SettledLetters::below(alloc, 0)?;
+    let Ok(opened) = open(alloc, disk, limits_of(4)?, &settled) else {
         return Err(Fail::from("not opened"));
     };
     let mut ledger = opened.ledger;
@@ -65,7 +67,8 @@ fn left_of(ledger: Ledger<MemoryDisk>) -> Result<Vec<u8>, Fail> {
 /// Raises the limits of a journal to twice as many logs, and gives what a crash leaves of it.
 fn raised(alloc: Global, bytes: Vec<u8>) -> Result<Vec<u8>, Fail> {
     let higher = limits_of(8)?;
-    let Ok(opened) = open_to_raise(alloc, MemoryDisk::new(alloc, bytes), higher, MARK) else {
+    let settled = SettledLetters::below(alloc, MARK)?;
+    let Ok(opened) = open_to_raise(alloc, MemoryDisk::new(alloc, bytes), higher, &settled) else {
         return Err(Fail::from("not opened to raise"));
     };
     let Opened {
@@ -91,7 +94,13 @@ fn serials(alloc: Global, letters: &[Letter]) -> Result<Vec<u64>, Fail> {
 fn letters_outlive_raised_limits(rt: HostRuntime) -> Result<(), Fail> {
     let alloc = rt.alloc();
     let bytes = raised(alloc, journal_with_letters(alloc)?)?;
-    let Ok(opened) = open(alloc, MemoryDisk::new(alloc, bytes), limits_of(8)?, MARK) else {
+    let settled = SettledLetters::below(alloc, MARK)?;
+    let Ok(opened) = open(
+        alloc,
+        MemoryDisk::new(alloc, bytes),
+        limits_of(8)?,
+        &settled,
+    ) else {
         return Err(Fail::from("not opened again"));
     };
     let found = serials(alloc, opened.letters.as_slice())?;
@@ -107,7 +116,13 @@ fn letters_outlive_raised_limits(rt: HostRuntime) -> Result<(), Fail> {
 fn raised_limits_are_not_lowered(rt: HostRuntime) -> Result<(), Fail> {
     let alloc = rt.alloc();
     let bytes = raised(alloc, journal_with_letters(alloc)?)?;
-    let cause = match open(alloc, MemoryDisk::new(alloc, bytes), limits_of(4)?, MARK) {
+    let settled = SettledLetters::below(alloc, MARK)?;
+    let cause = match open(
+        alloc,
+        MemoryDisk::new(alloc, bytes),
+        limits_of(4)?,
+        &settled,
+    ) {
         Ok(_) => None,
         Err(left) => Some(left.cause),
     };

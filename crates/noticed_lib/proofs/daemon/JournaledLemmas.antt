@@ -24,7 +24,8 @@ use Rattle.dsn_journal.specs.MarkedOutbox.{MarkedOutbox}
 use Rattle.dsn_report.specs.Outgoing.{Delivered, Outgoing}
 use Rattle.dsn_report.specs.Site.{Site}
 use Rattle.dsn_device.specs.declared.drain.Drain.{Ghosts as Drain}
-use Rattle.dsn_journal.specs.Marks.{IsForeignToMarks, IsTooShortForMarks, LeavesTheMark, Marks, SayMark, SayNoMark}
+use Rattle.dsn_journal.specs.Marks.{AreMarks, IsForeignToMarks, IsTooShortForMarks, LeavesTheEdges, Marks, SayEdges, SayNoMark}
+use Rattle.dsn_journal.specs.SettledLetters.{first_edge, last_edge}
 use Rattle.dsn_ledger.specs.Posting.{AreToPost}
 use Rattle.dsn_ledger.specs.Staying.{MayGoOn, MayStay}
 use Rattle.dsn_journal.specs.Moments.{LeavesOnly}
@@ -138,7 +139,7 @@ handed None some = absurd (false≢true some)
 handed (Some left) some = (left, refl)
 
 -- what a run over a journal gets from its opened ledger
-module _ {D : Type 0} (disk : Disk.Ghosts D) (limits : Limits) (mark : ℕ) (journal : D) (opened : Opened D) (allowed : MayBeRaised limits limits) (is : IsOpenedToRaise disk limits mark journal opened) where
+module _ {D : Type 0} (disk : Disk.Ghosts D) (limits : Limits) (edges : List ℕ) (journal : D) (opened : Opened D) (allowed : MayBeRaised limits limits) (is : IsOpenedToRaise disk limits edges journal opened) where
   -- a history that the start begins with is one of the opened ledger
   begun_in : (long : List Exchange) → StartsWith limits (disk.seen journal) long → IsLedgerInPlaceOf opened.ledger.book opened.ledger.base (recovered (disk.seen opened.ledger.journal.disk)) long
   begun_in long starts =
@@ -155,22 +156,30 @@ module _ {D : Type 0} (disk : Disk.Ghosts D) (limits : Limits) (mark : ℕ) (jou
   at_opening = while_opened disk limits journal allowed opened.ledger.journal.disk is.any_moment
 
   -- the marks under which it was opened, and its letters
-  pub folder_is : {M : Type 0} (marks_disk : Disk.Ghosts M) (marks : M) (opened_marks : Marks M) → opened_marks.mark ≡ mark → SayMark (recovered (marks_disk.seen marks)) opened_marks.mark → LeavesTheMark marks_disk opened_marks → LeavesMarksOpened marks_disk marks opened_marks.journal.disk
+  pub folder_is : {M : Type 0} (marks_disk : Disk.Ghosts M) (marks : M) (opened_marks : Marks M) → edges ≡ opened_marks.edges → AreMarks marks_disk opened_marks → opened_marks.settled ≡ true
+      → SayEdges (recovered (marks_disk.seen marks)) opened_marks.edges → LeavesTheEdges marks_disk opened_marks → LeavesMarksOpened marks_disk marks opened_marks.journal.disk
       → IsFolderOpened disk marks_disk limits journal marks opened_marks opened.letters.items
-  folder_is marks_disk marks opened_marks same mark_is leaves crash =
+  folder_is marks_disk marks opened_marks same are going says leaves crash =
       let own = opened.ledger.book.book.limits in
-      let sealed : opened.ledger.book.book.sealed ≡ length (sealed_letters stands.history) = stands.stands.represents.sealed in record {
-        mark_is = mark_is;
+      let first : first_edge edges ≡ opened_marks.mark = ap first_edge same ∙ sym are.mark_is in
+      let sealed : opened.ledger.book.book.sealed ≡ length (sealed_letters stands.history) = stands.stands.represents.sealed in
+      let low : opened.ledger.base ≤ first_edge opened_marks.edges = subst (λ (es : List ℕ). opened.ledger.base ≤ first_edge es) same is.reached in
+      let high : last_edge opened_marks.edges ≤ opened.ledger.base + opened.ledger.book.book.sealed =
+      subst (λ (es : List ℕ). last_edge es ≤ opened.ledger.base + opened.ledger.book.book.sealed) same is.counted in
+      record {
+        edges_are = says;
+        mark_is = are.mark_is;
+        going = going;
         leaves = leaves;
         crash = crash;
         own = own;
         replayed = is.own;
         base = opened.ledger.base;
         history = stands.history;
-        of_journal_is = record { own = is.not_foreign; whole = is.whole; said = stands.said; reached = omega (arith, is.reached, same); sealed = omega (arith, is.counted, sealed, same) };
+        of_journal_is = record { own = is.not_foreign; whole = is.whole; said = stands.said; reached = low; sealed = omega (arith, high, sealed) };
         letters_are =
-            subst (λ (m : ℕ). AreToPost own m (with_header own (recovered (disk.seen journal))) opened.letters.items) (sym same)
-            (subst (λ (rs : List (List ℕ)). AreToPost own mark rs opened.letters.items) is.same is.letters);
+            subst (λ (m : ℕ). AreToPost own m (with_header own (recovered (disk.seen journal))) opened.letters.items) first
+            (subst (λ (rs : List (List ℕ)). AreToPost own (first_edge edges) rs opened.letters.items) is.same is.letters);
       }
 
   module _ (last : D)

@@ -22,7 +22,7 @@ use Rattle.dsn_crew.specs.declared.post.outlet.Outlet.{Ghosts as Outlet}
 use Rattle.dsn_crew.specs.post.Outlet.{outbox_outlet}
 use Rattle.dsn_device.specs.declared.drain.Drain.{Ghosts as Drain}
 use Rattle.dsn_device.specs.declared.source.Source.{Ghosts as Source}
-use Rattle.dsn_hand_in.specs.JournalMarks.{RaisesMark}
+use Rattle.dsn_hand_in.specs.JournalMarks.{journal_marks}
 use Rattle.dsn_hand_in.specs.MailOutlet.{mail_outlet}
 use Rattle.dsn_smtp.specs.declared.hand_in_fault.HandInFault.{HandInFault}
 use Rattle.dsn_ledger.specs.OpenLedger.{Ledger, rules_of}
@@ -164,7 +164,7 @@ module _ {P S : Type 0} (port : Port P S) (untold : (one : P) → port.conns one
     rule = started.rule;
     passed = started.passed;
     left = started.left;
-    run = run-uses disk (mail_outlet source drain gives keeps (RaisesMark marks_disk)) notes_device ports fit started.ledger started.given notes later started.left end.journal started.run;
+    run = run-uses disk (mail_outlet source drain gives keeps (journal_marks marks_disk)) notes_device ports fit started.ledger started.given notes later started.left end.journal started.run;
     left_is = started.left_is;
     status_is = started.status_is;
   }

@@ -25,9 +25,10 @@ use Rattle.dsn_ledger.specs.KeptBook.{HasKept, keeper_of_ledger, ledger_keeper}
 use Rattle.dsn_ledger.specs.Ledger.{records_of}
 use Rattle.dsn_ledger.specs.LedgerError.{ledger_error_code}
 use Rattle.dsn_journal.specs.MarkedOutbox.{MarkedOutbox}
-use Rattle.dsn_journal.specs.Marks.{IsLeftByOpeningMarks, LeavesTheMark, Marks, SayMark}
+use Rattle.dsn_journal.specs.Marks.{IsLeftByOpeningMarks, LeavesTheEdges, Marks, SayEdges, SayMark}
 use Rattle.dsn_journal.specs.MarksError.{is_of_disk, marks_error_code}
 use Rattle.dsn_journal.specs.Moments.{LeavesOnly}
+use Rattle.dsn_journal.specs.SettledLetters.{first_edge}
 use Rattle.dsn_ledger.specs.OpenLedger.{Ledger, rules_of}
 use Rattle.dsn_ledger.specs.Opening.{IsLeftByOpening}
 use Rattle.dsn_ledger.specs.Posting.{AreToPost}
@@ -46,7 +47,7 @@ use Rattle.dsn_report.specs.Outgoing.{Delivered, Outgoing}
 use Rattle.dsn_report.specs.Site.{Site}
 use Rattle.noticed_lib.specs.daemon.SocketUses.{socket_port}
 use Rattle.noticed_lib.specs.daemon.Serve.{WritesAccount, WritesFault, WritesNumber}
-use Rattle.dsn_ledger.specs.JournalFolder.{AreMarksRefusedFor, HasHistory, HaveMark, IsNotOpenedToRaise, IsOnlyRead}
+use Rattle.dsn_ledger.specs.JournalFolder.{AreMarksRefusedFor, HasHistory, HaveEdges, IsNotOpenedToRaise, IsOnlyRead}
 use Rattle.noticed_lib.specs.declared.daemon.serve_end.ServeEnd.{ServeEnd}
 
 -- a history of earlier runs that a start over this file begins with: that of the records, under the
@@ -81,20 +82,21 @@ LeavesMarksOpened marks_disk marks last =
     (λ left. marks_disk.may_leave marks left ⊎ IsLeftByOpeningMarks (marks_disk.seen marks) left)
 
 -- the opened marks of a folder, and the letters that its ledger was opened with: all letters of the
--- journal's records that the mark doesn't count, and no other. The mark is one of this journal: it
--- counts no fewer letters than the journal's base, and no more than were sealed. A crash leaves
--- that mark
+-- journal's records from the mark on, and no other. The marks are those of this journal: the letters
+-- of its base are settled, and none that wasn't sealed. A crash leaves these marks
 pub record IsFolderOpened {D M : Type 0} (disk : Disk.Ghosts D) (marks_disk : Disk.Ghosts M)
     (limits : Limits) (journal : D) (marks : M) (opened : Marks M) (letters : List Letter)
     : Type 0 where
-  pub mark_is : SayMark (recovered (marks_disk.seen marks)) opened.mark
-  pub leaves : LeavesTheMark marks_disk opened
+  pub edges_are : SayEdges (recovered (marks_disk.seen marks)) opened.edges
+  pub mark_is : opened.mark ≡ first_edge opened.edges
+  pub going : opened.settled ≡ true
+  pub leaves : LeavesTheEdges marks_disk opened
   pub crash : LeavesMarksOpened marks_disk marks opened.journal.disk
   pub own : Limits
   pub replayed : AreReplayedUnder limits (recovered (disk.seen journal)) own
   pub base : ℕ
   pub history : List Exchange
-  pub of_journal_is : HasHistory own opened.mark (disk.seen journal) base history
+  pub of_journal_is : HasHistory own opened.edges (disk.seen journal) base history
   pub letters_are : AreToPost own opened.mark
       (with_header own (recovered (disk.seen journal))) letters
 
@@ -110,9 +112,9 @@ pub data IsNotOpened {D M : Type 0} (disk : Disk.Ghosts D) (marks_disk : Disk.Gh
       → LeavesMarksOpened marks_disk marks last_marks
       → marks_disk.failures last_marks ≡ counted (is_of_disk cause) (marks_disk.failures marks)
       → IsNotOpened disk marks_disk limits journal last marks last_marks code
-  no_ledger : (cause : LedgerError) (mark : ℕ) → code ≡ ledger_error_code cause
-      → HaveMark (marks_disk.seen marks) mark
-      → IsNotOpenedToRaise disk limits mark journal last cause
+  no_ledger : (cause : LedgerError) (edges : List ℕ) → code ≡ ledger_error_code cause
+      → HaveEdges (marks_disk.seen marks) edges
+      → IsNotOpenedToRaise disk limits edges journal last cause
       → LeavesMarksOpened marks_disk marks last_marks
       → IsNotOpened disk marks_disk limits journal last marks last_marks code
 

@@ -6,7 +6,7 @@ use Rattle.dsn_device.specs.declared.drain.Drain
 use Rattle.dsn_device.specs.declared.source.Source
 use Rattle.dsn_crew.specs.declared.agents.port.Port.{Ghosts as Port}
 use Rattle.dsn_crew.specs.declared.crew_cause.CrewCause.{CrewCause}
-use Rattle.dsn_hand_in.specs.JournalMarks.{RaisesMark}
+use Rattle.dsn_hand_in.specs.JournalMarks.{journal_marks}
 use Rattle.dsn_hand_in.specs.MailOutlet.{MailOutlet, Passes, mail_outlet, mail_start}
 use Rattle.dsn_hand_in.specs.SitedLetter.{SitedLetter}
 use Rattle.dsn_hand_in.specs.declared.mail_parts.MailParts.{MailParts}
@@ -64,12 +64,12 @@ module _ {D M P Q S C K N : Type 0} (disk : Disk.Ghosts D) (marks_disk : Disk.Gh
     pub folder : IsFolderOpened disk marks_disk rules.limits journal marks opened first
     pub begun : IsLedgerBegun disk rules.limits journal ledger
     pub rule : ledger.releases ≡ rules.releases
-    pub passed : Passes source drain gives keeps (RaisesMark marks_disk)
+    pub passed : Passes source drain gives keeps (journal_marks marks_disk)
         (mail_start site terms.name terms.give_up opened.mark terms.server terms.refused opened)
         first given
     pub left : ServeEnd (MailParts S C K (Marks M))
     pub run : IsRunOver disk (λ _. Unit {0}) port
-        (mail_outlet source drain gives keeps (RaisesMark marks_disk)) notes_device ports ledger
+        (mail_outlet source drain gives keeps (journal_marks marks_disk)) notes_device ports ledger
         given notes later left end.journal
     pub left_is : end.left ≡ with_disk left.outbox
     pub status_is : end.status ≡ left.status

@@ -36,9 +36,9 @@ pub record BeginsAnew {D : Type 0} (disk : Disk.Ghosts D) (ledger : Ledger D) : 
 -- a ledger that was opened from this journal, for a run under these limits
 pub record IsOpenedFrom {D : Type 0} (disk : Disk.Ghosts D) (limits : Limits) (journal : D)
     (ledger : Ledger D) : Type 0 where
-  pub mark : ℕ
+  pub edges : List ℕ
   pub opened : Opened D
-  pub is : IsOpenedToRaise disk limits mark journal (record opened { ledger = ledger })
+  pub is : IsOpenedToRaise disk limits edges journal (record opened { ledger = ledger })
   pub allowed : MayBeRaised limits limits
 
 -- a ledger whose file has no room for the shorter records, under these limits and with these letters that wait

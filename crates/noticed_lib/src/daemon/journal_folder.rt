@@ -16,13 +16,13 @@ use std::alloc::Global;
 pub struct JournalFolder<D, M> {
     /// The journal: what was asked, in order.
     pub journal: D,
-    /// The marks: how many letters reached the outbox.
+    /// The marks: which letters are settled, or reached the outbox.
     pub marks: M,
 }
 
 impl<D: Replaceable, M: Replaceable> JournalFolder<D, M> {
     /// Opens the marks, and then the ledger for a run under these limits. Returns the marks, and the
-    /// ledger with the letters that they don't count.
+    /// ledger with the letters from their mark on.
     ///
     /// A journal that was made under lower limits is replayed under them.
     ///
@@ -35,7 +35,7 @@ impl<D: Replaceable, M: Replaceable> JournalFolder<D, M> {
         ensures folder { IfOk result (λ it. IsFolderOpened D.Disk M.Disk limits self.journal
             self.marks it.0 it.1.letters.items) }
         ensures ledger { IfOk result
-            (λ it. IsOpenedToRaise D.Disk limits it.0.mark self.journal it.1) }
+            (λ it. IsOpenedToRaise D.Disk limits it.0.edges self.journal it.1) }
         ensures allowed { IfOk result (λ _. MayBeRaised limits limits) }
         ensures refused { IfErr result (λ not. IsNotOpened D.Disk M.Disk limits self.journal
             not.left.journal self.marks not.left.marks not.code) }
@@ -55,7 +55,7 @@ impl<D: Replaceable, M: Replaceable> JournalFolder<D, M> {
                 });
             }
         };
-        match open_to_raise(alloc, journal, limits, marks.mark()) {
+        match open_to_raise(alloc, journal, limits, marks.letters()) {
             Ok(opened) => Ok((marks, opened)),
             Err(left) => Err(NotBegun {
                 code: left.cause.code(),

@@ -59,14 +59,14 @@ pub struct Submitted<'s, S: Stream, C, K, D, M> {
 }
 
 /// Serves these ports as `serve_ports_over` does, but submits the letters to a mail server. A letter
-/// is marked once the server accepted it, or once it was refused for good and kept. It begins with the
-/// letters that no mark counts, which stay in the journal; nothing is submitted before the journal is
-/// opened. No answer waits for the server.
+/// is kept as settled once the server accepted it, or once it was refused for good and kept. It begins
+/// with the letters from the mark on, which stay in the journal, and submits those that aren't
+/// settled; nothing is submitted before the journal is opened. No answer waits for the server.
 ///
 /// Returns what is left of a run that began; otherwise the terms and both disks, and nothing was
 /// submitted.
 ///
-/// Of the marks a crash leaves at each moment a count of letters that are settled: see
+/// Of the marks a crash leaves at each moment only letters that are settled: see
 /// [`crashes_count_only_settled`](dsn_hand_in::crashes_count_only_settled) and
 /// [`only_deeds_settle`](dsn_hand_in::only_deeds_settle).
 pub(crate) fn serve_ports_to_server<
@@ -169,9 +169,9 @@ fn run_mail<
     requires begins { (before : List Exchange)
         × BeginsWith (ledger_keeper D.Disk) start.keeper before }
     ensures { (given : Mailing S C K M)
-        × (Passes S.Source S.Drain C.gives K.keeps M.tells start.entry.outlet first.items given
+        × (Passes S.Source S.Drain C.gives K.keeps M.Marks start.entry.outlet first.items given
         × IsRunOver D.Disk T.may_reach P.Port
-        (mail_outlet S.Source S.Drain C.gives K.keeps M.tells) N.Drain ports.items
+        (mail_outlet S.Source S.Drain C.gives K.keeps M.Marks) N.Drain ports.items
         start.entry.keeper given notes.old notes.new result.0 result.1) }
 {
     let JournalStart { outlet, keeper } = start;

@@ -53,7 +53,7 @@ impl<H: Watch> Submissions for WatchedSubmissions<'_, H> {
 
     fn stopped(&self) {
         self.watch
-            .submission_stopped("the mark of submitted notices could not be kept");
+            .submission_stopped("it could not be kept that a notice is settled");
     }
 
     fn dropped(&self, _letter: &Letter) {

@@ -9,7 +9,7 @@ unfolding listing_lines
 returns-then-writing-clause-written g c =
     lost-is g.N.Drain _ _ _ _ _ c.new-writing.ensures c.if-writing.true
     (written-flushed
-    (writes-then c.write_open_lines.ensures (writes-then c.write_closed_lines.ensures (writes-then (writes-as (ap unmarked_lines c.as_slice.ensures.value) c.write_unmarked_lines.ensures) c.write_counts.ensures)))
+    (writes-then c.write_open_lines.ensures (writes-then c.write_closed_lines.ensures (writes-then (writes-as (ap (unmarked_lines c.args.settled.now) c.as_slice.ensures.value) c.write_unmarked_lines.ensures) (rw c.mark.ensures.mark at c.write_counts.ensures))))
     c.flush.ensures)
 
 pub returns-clause-written : goal.returns-clause-written
@@ -17,5 +17,5 @@ unfolding listing_lines
 returns-clause-written g c =
     taken-is g.N.Drain _ _ _ _ _ c.new-writing.ensures c.if-writing.false
     (written-flushed
-    (writes-then c.write_open_lines.ensures (writes-then c.write_closed_lines.ensures (writes-then (writes-as (ap unmarked_lines c.as_slice.ensures.value) c.write_unmarked_lines.ensures) c.write_counts.ensures)))
+    (writes-then c.write_open_lines.ensures (writes-then c.write_closed_lines.ensures (writes-then (writes-as (ap (unmarked_lines c.args.settled.now) c.as_slice.ensures.value) c.write_unmarked_lines.ensures) (rw c.mark.ensures.mark at c.write_counts.ensures))))
     c.flush.ensures)

@@ -11,5 +11,5 @@ loop-letter-init g c = writes-none _ _
 pub loop-letter-preserved : goal.loop-letter-preserved
 unfolding unmarked_lines
 loop-letter-preserved g c =
-    rw (sym (flat_map-take-more unmarked_line c.args.letters.now c.loop-letter.letter-index c.letter-item.result c.loop-letter-test.true), ← c.letter-item.is)
+    rw (sym (flat_map-take-more (unmarked_line c.args.settled.now) c.args.letters.now c.loop-letter.letter-index c.letter-item.result c.loop-letter-test.true), ← c.letter-item.is)
     (writes-then c.loop-letter.invariant c.write_unmarked_line.ensures)

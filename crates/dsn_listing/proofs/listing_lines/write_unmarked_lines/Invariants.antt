@@ -5,4 +5,4 @@ use Rattle.dsn_listing.proofs.listing_lines.write_unmarked_lines.Given as goal
 
 abbrev pub invariant-loop-letter : goal.invariant-loop-letter
 invariant-loop-letter g l =
-    WritesUntilFailure g.N.Drain l.initial.writing.failed l.writing.failed l.initial.lines l.lines (unmarked_lines (take l.letter-index l.letters))
+    WritesUntilFailure g.N.Drain l.initial.writing.failed l.writing.failed l.initial.lines l.lines (unmarked_lines l.settled (take l.letter-index l.letters))

@@ -5,7 +5,7 @@ pub returns-clause-ended : goal.returns-clause-ended
 returns-clause-ended g c start letters passed = record {
   last = c.end.new.self;
   passed =
-      goes_on g.S.Source g.S.Drain g.C.Connect.gives g.K.RefusedLetters.keeps g.M.Marks.tells
+      goes_on g.S.Source g.S.Drain g.C.Connect.gives g.K.RefusedLetters.keeps g.M.Marks
       start c.args.self c.end.new.self letters passed c.end.ensures.passed;
   parts = c.into_parts.ensures;
   closed = c.end.ensures.closed;

@@ -2,13 +2,13 @@ use Rattle.std.proofs.Common.{inl, inr, ◌∙◌}
 use Rattle.noticed_lib.proofs.daemon.serve_to_server.serve_ports_to_server.Goals as goal
 
 pub begin_ledger-requires-clause-opened : goal.begin_ledger-requires-clause-opened
-begin_ledger-requires-clause-opened g c = (c.args.folder.journal, record { mark = c.in-Ok.opened.0.mark; opened = c.in-Ok.opened.1; is = c.in-Ok.ensures.ledger; allowed = c.in-Ok.ensures.allowed })
+begin_ledger-requires-clause-opened g c = (c.args.folder.journal, record { edges = c.in-Ok.opened.0.edges; opened = c.in-Ok.opened.1; is = c.in-Ok.ensures.ledger; allowed = c.in-Ok.ensures.allowed })
 
 pub run_mail-end-requires-clause-few : goal.run_mail-end-requires-clause-few
-run_mail-end-requires-clause-few g c κs within = (c.in-Ok-begin_ledger.ensures.begun c.args.folder.journal (record { mark = c.in-Ok.opened.0.mark; opened = c.in-Ok.opened.1; is = c.in-Ok.ensures.ledger; allowed = c.in-Ok.ensures.allowed })).few
+run_mail-end-requires-clause-few g c κs within = (c.in-Ok-begin_ledger.ensures.begun c.args.folder.journal (record { edges = c.in-Ok.opened.0.edges; opened = c.in-Ok.opened.1; is = c.in-Ok.ensures.ledger; allowed = c.in-Ok.ensures.allowed })).few
 
 pub run_mail-end-requires-clause-begins : goal.run_mail-end-requires-clause-begins
-run_mail-end-requires-clause-begins g c κs within = (c.in-Ok-begin_ledger.ensures.begun c.args.folder.journal (record { mark = c.in-Ok.opened.0.mark; opened = c.in-Ok.opened.1; is = c.in-Ok.ensures.ledger; allowed = c.in-Ok.ensures.allowed })).begins
+run_mail-end-requires-clause-begins g c κs within = (c.in-Ok-begin_ledger.ensures.begun c.args.folder.journal (record { edges = c.in-Ok.opened.0.edges; opened = c.in-Ok.opened.1; is = c.in-Ok.ensures.ledger; allowed = c.in-Ok.ensures.allowed })).begins
 
 pub returns-in-Err : goal.returns-in-Err
 returns-in-Err g c = record {
@@ -21,9 +21,9 @@ returns-in-Err g c = record {
 pub returns-in-Err-begin_ledger : goal.returns-in-Err-begin_ledger
 returns-in-Err-begin_ledger g c = record {
   code = _;
-  why = inr (c.in-Ok.opened.0, (c.in-Ok.opened.1.letters.items, (c.in-Ok.ensures.folder, (rw c.deref.ensures.value at (c.in-Err-begin_ledger.ensures.refused c.args.folder.journal (record { mark = c.in-Ok.opened.0.mark; opened = c.in-Ok.opened.1; is = c.in-Ok.ensures.ledger; allowed = c.in-Ok.ensures.allowed })), c.write_not_started-in-Err-begin_ledger.ensures.marks ∙ c.into_disk.ensures.disk))));
+  why = inr (c.in-Ok.opened.0, (c.in-Ok.opened.1.letters.items, (c.in-Ok.ensures.folder, (rw c.deref.ensures.value at (c.in-Err-begin_ledger.ensures.refused c.args.folder.journal (record { edges = c.in-Ok.opened.0.edges; opened = c.in-Ok.opened.1; is = c.in-Ok.ensures.ledger; allowed = c.in-Ok.ensures.allowed })), c.write_not_started-in-Err-begin_ledger.ensures.marks ∙ c.into_disk.ensures.disk))));
   noted = c.write_not_started-in-Err-begin_ledger.ensures.notes;
-  crash = rw c.write_not_started-in-Err-begin_ledger.ensures.journal (c.in-Err-begin_ledger.ensures.crash c.args.folder.journal (record { mark = c.in-Ok.opened.0.mark; opened = c.in-Ok.opened.1; is = c.in-Ok.ensures.ledger; allowed = c.in-Ok.ensures.allowed }));
+  crash = rw c.write_not_started-in-Err-begin_ledger.ensures.journal (c.in-Err-begin_ledger.ensures.crash c.args.folder.journal (record { edges = c.in-Ok.opened.0.edges; opened = c.in-Ok.opened.1; is = c.in-Ok.ensures.ledger; allowed = c.in-Ok.ensures.allowed }));
 }
 
 pub returns : goal.returns
@@ -33,7 +33,7 @@ returns g c = record {
   first = c.in-Ok.opened.1.letters.items;
   given = c.run_mail-end.ensures.0;
   folder = c.in-Ok.ensures.folder;
-  begun = c.in-Ok-begin_ledger.ensures.begun c.args.folder.journal (record { mark = c.in-Ok.opened.0.mark; opened = c.in-Ok.opened.1; is = c.in-Ok.ensures.ledger; allowed = c.in-Ok.ensures.allowed });
+  begun = c.in-Ok-begin_ledger.ensures.begun c.args.folder.journal (record { edges = c.in-Ok.opened.0.edges; opened = c.in-Ok.opened.1; is = c.in-Ok.ensures.ledger; allowed = c.in-Ok.ensures.allowed });
   rule = c.in-Ok-begin_ledger.ensures.rule;
   passed = rw c.new_outlet-outlet.ensures at c.run_mail-end.ensures.1.0;
   left = c.run_mail-end.result.0;

@@ -1,5 +1,6 @@
 use Rattle.std.proofs.Common.{refl, sym, subst}
-use Rattle.dsn_journal.specs.Marks.{SayMark}
+use Rattle.dsn_journal.specs.Marks.{SayEdges}
+use Rattle.dsn_journal.specs.SettledLetters.{AreEdges}
 use Rattle.dsn_journal.specs.Records.{recovered}
 use Rattle.noticed_lib.specs.daemon.Journaled.{LeavesMarksOpened, no_ledger, no_marks}
 use Rattle.noticed_lib.proofs.daemon.JournaledLemmas.{folder_is, marks_refused, only_read, untouched, while_opened}
@@ -7,11 +8,11 @@ use Rattle.noticed_lib.proofs.daemon.journal_folder.JournalFolder.open.Goals as 
 
 pub returns-in-Ok-open_to_raise-clause-folder : goal.returns-in-Ok-open_to_raise-clause-folder
 returns-in-Ok-open_to_raise-clause-folder g c =
-    folder_is g.D.Disk c.args.limits c.mark.result c.args.self.journal c.in-Ok-open_to_raise.opened c.in-Ok-open_to_raise.ensures.allowed c.in-Ok-open_to_raise.ensures.opened g.M.Disk c.args.self.marks c.in-Ok.marks
-    (sym c.mark.ensures.mark) c.in-Ok.ensures.mark c.in-Ok.ensures.leaves c.in-Ok.ensures.any_moment
+    folder_is g.D.Disk c.args.limits c.letters.result.now c.args.self.journal c.in-Ok-open_to_raise.opened c.in-Ok-open_to_raise.ensures.allowed c.in-Ok-open_to_raise.ensures.opened g.M.Disk c.args.self.marks c.in-Ok.marks
+    c.letters.ensures.letters c.letters.ensures.marks c.in-Ok.ensures.settled c.in-Ok.ensures.edges c.in-Ok.ensures.leaves c.in-Ok.ensures.any_moment
 
 pub returns-in-Ok-open_to_raise-clause-ledger : goal.returns-in-Ok-open_to_raise-clause-ledger
-returns-in-Ok-open_to_raise-clause-ledger g c = rw (← c.mark.ensures.mark) c.in-Ok-open_to_raise.ensures.opened
+returns-in-Ok-open_to_raise-clause-ledger g c = rw (← c.letters.ensures.letters) c.in-Ok-open_to_raise.ensures.opened
 
 pub returns-in-Err-clause-refused : goal.returns-in-Err-clause-refused
 returns-in-Err-clause-refused g c =
@@ -21,9 +22,10 @@ returns-in-Err-clause-refused g c =
 
 pub returns-in-Err-open_to_raise-clause-refused : goal.returns-in-Err-open_to_raise-clause-refused
 returns-in-Err-open_to_raise-clause-refused g c =
-    let mark = subst (SayMark (recovered (g.M.Disk.seen c.args.self.marks))) (sym c.mark.ensures.mark) c.in-Ok.ensures.mark in
+    let says = subst (SayEdges (recovered (g.M.Disk.seen c.args.self.marks))) (sym c.letters.ensures.letters) c.in-Ok.ensures.edges in
+    let valid = subst AreEdges (sym c.letters.ensures.letters) c.letters.ensures.marks.valid in
     let marks_opened = subst (LeavesMarksOpened g.M.Disk c.args.self.marks) (sym c.into_disk.ensures.disk) c.in-Ok.ensures.any_moment in
-    no_ledger c.in-Err-open_to_raise.left.cause c.mark.result c.code-in-Err-open_to_raise.ensures (record { own = c.in-Ok.ensures.new; room = c.in-Ok.ensures.room; whole = c.in-Ok.ensures.whole; says = mark })
+    no_ledger c.in-Err-open_to_raise.left.cause c.letters.result.now c.code-in-Err-open_to_raise.ensures (record { own = c.in-Ok.ensures.new; room = c.in-Ok.ensures.room; whole = c.in-Ok.ensures.whole; says = says; valid = valid })
     c.in-Err-open_to_raise.ensures.refused marks_opened
 
 pub returns-in-Err-clause-crash : goal.returns-in-Err-clause-crash

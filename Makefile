@@ -152,7 +152,7 @@ install: $(BUILT)
 	to 755 $(BUILT) "$(PREFIX)/bin/noticed"
 	to 755 dist/noticed-postfix "$(PREFIX)/sbin/noticed-postfix"
 	for it in docs/noticed*.[58]; do naming "$$it" "$(PREFIX)/share/man/man$${it##*.}/$${it##*/}"; done
-	for it in dist/noticed*.{service,socket}; do naming "$$it" "$(PREFIX)/lib/systemd/system/$${it##*/}"; done
+	for it in dist/noticed*.{service,socket,timer}; do naming "$$it" "$(PREFIX)/lib/systemd/system/$${it##*/}"; done
 	for it in sysusers tmpfiles; do to 644 "dist/noticed.$$it" "$(PREFIX)/lib/$$it.d/noticed.conf"; done
 	[ -e "$(DESTDIR)/etc/noticed/noticed.conf" ] || to 644 dist/noticed.conf /etc/noticed/noticed.conf
 	naming dist/noticed.apparmor /etc/apparmor.d/noticed

@@ -1,7 +1,7 @@
 """Boots a real systemd in a container with Debian's Postfix, and runs there each command of docs/postfix.md, and those
 of README.md, to put `noticed postfix` in front of it: the first notice arrives, what can't be said comes from
-bounce(8), nothing is lost over a kill, a stop and a reboot, a main.cf that refuses everything keeps no notice out, and
-bounce(8) goes on with the logs that wait.
+bounce(8), nothing is lost over a kill, a stop and a reboot, a service that can't begin holds up no good mail, a main.cf
+that refuses everything keeps no notice out, and bounce(8) goes on with the logs that wait.
 
     NOTICED=/path/to/noticed python3 -m tests.boot_postfix FOLDER
 
@@ -11,6 +11,7 @@ import re
 import signal
 import subprocess
 import sys
+import time
 from pathlib import Path
 
 from tests.support.page import Page
@@ -20,6 +21,31 @@ from tests.support.system import Container, base_system, installed, lacking, unt
 TOOLS = {"systemd-nspawn": "systemd-container", "debootstrap": "debootstrap", "nsenter": "util-linux", "make": "make"}
 ANSWERS = f"postfix postfix/main_mailer_type select Internet Site\npostfix postfix/mailname string {HOST}\n"
 QUEUE = "/var/spool/postfix"
+DROP_IN = "/run/systemd/system/noticed-postfix.service.d/hindered.conf"
+# What keeps the service from its start, each with how it is undone.
+HINDERED = {
+    "no postconf": ("mv /usr/sbin/postconf /root/postconf", "mv /root/postconf /usr/sbin/postconf"),
+    "no python3": ("mv /usr/bin/python3 /root/python3", "mv /root/python3 /usr/bin/python3"),
+    "a value that it doesn't take": (
+        "postconf -e maximal_queue_lifetime=200d",
+        "postconf -e maximal_queue_lifetime=5d",
+    ),
+    "a folder that isn't there": ("hinder ReadWritePaths=/nowhere", "unhinder"),
+    "no memory": ("hinder LimitAS=4M", "unhinder"),
+}
+HINDER = r"""
+hinder() { mkdir -p ${0%/*}; printf '[Service]\n%s\n' "$1" > $0; systemctl daemon-reload; }
+unhinder() { rm $0; systemctl daemon-reload; }
+"""
+# Two messages at once to this machine, whoever its recipients are, as to a relay: two that hang hold up all others.
+ONE_BY_ONE = (
+    "minimal_backoff_time=2s",
+    "maximal_backoff_time=2s",
+    "queue_run_delay=2s",
+    "local_destination_recipient_limit=2",
+    "local_destination_concurrency_limit=2",
+)
+HELD = 2  # seconds for which good mail may be held up
 # Settings of main.cf each of which would keep a notice out, or change it.
 AGAINST = (
     "smtpd_milters=inet:127.0.0.1:9",
@@ -201,6 +227,48 @@ def check_ends(checks: Checks, it: Machine):
     checks.true("nothing is left", until(it.is_empty, 10))
 
 
+def arrives(it: Machine, name: str) -> float:
+    """For how many seconds a message to root is on its way."""
+    began = time.monotonic()
+    it.shell(f"printf 'Subject: {name}\\n\\nx\\n' | sendmail -f root@{HOST} root@{HOST}").check_returncode()
+    until(lambda: f"Subject: {name}\n" in it.mailbox())
+    return time.monotonic() - began
+
+
+def refusals(it: Machine) -> int:
+    """How many lines of Postfix say that noticed can't be asked."""
+    said = it.said("journalctl", "--no-pager", "--output=cat")
+    return said.count("warning: connect to private/noticed-bounce: Connection refused")
+
+
+def check_hindered(checks: Checks, it: Machine):
+    """A service that can't begin holds no good mail up; what was refused meanwhile is told once it can."""
+    it.shell(f"postconf -e {' '.join(ONE_BY_ONE)}; postfix reload").check_returncode()
+    for at, (name, (hinder, mend)) in enumerate(HINDERED.items()):
+        before = refusals(it)
+        it.run("bash", "-c", f"{HINDER}{hinder}", DROP_IN).check_returncode()
+        it.run("systemctl", "kill", "--signal=KILL", "noticed-postfix")
+        for client in range(6):
+            it.shell(f"printf 'Subject: x\n\nx\n' | sendmail -f root@{HOST} hindered{at}{client}@{HOST}")
+        took = [arrives(it, f"good {at} {good}") for good in range(8)]
+        checks.true(f"{name}: good mail takes {max(took):.1f} s, at most {HELD}", max(took) <= HELD)
+        checks.true(f"{name}: Postfix says so", refusals(it) > before)
+        it.run("bash", "-c", f"{HINDER}{mend}", DROP_IN).check_returncode()
+        told = [f"Final-Recipient: rfc822; hindered{at}{client}@{HOST}" for client in range(6)]
+        checks.true(f"{name}: all are told", until(lambda: all(one in it.mailbox() for one in told)))
+    it.run("postconf", "-X", *(setting.partition("=")[0] for setting in ONE_BY_ONE)).check_returncode()
+    it.run("postfix", "reload")
+    checks.true("nothing is left", until(it.is_empty, 10))
+
+
+def check_lost_sockets(checks: Checks, it: Machine):
+    """Sockets whose files were removed are made anew."""
+    it.run("rm", *(f"{QUEUE}/private/noticed-{name}" for name in ("bounce", "defer", "trace"))).check_returncode()
+    it.run("systemctl", "restart", "noticed-postfix")
+    checks.true("lost sockets: they are made anew", until(lambda: not it.shell("noticed-postfix check").returncode))
+    checks.equal("lost sockets: a notice", it.bounces("lost")[0], it.main_process())
+
+
 def check_before_postfix(checks: Checks, it: Machine):
     """Before the first start of Postfix there is no folder for the sockets: the units make none, and are there once
     Postfix has made it."""
@@ -264,7 +332,7 @@ def main():
         subprocess.run(words, cwd=ROOT, stdout=subprocess.DEVNULL, check=True)
         checks.true("the container boots", it.boot())
         first = (check_readme, check_steps, check_passed_on, check_templates)
-        last = (check_before_postfix, check_against, check_back)
+        last = (check_hindered, check_lost_sockets, check_before_postfix, check_against, check_back)
         for check in (*first, check_ends, *last):
             failed = checks.failed
             check(checks, it)

@@ -28,6 +28,7 @@ from tests.support.running import DIST, HOST, ROOT, Checks, Ran, program
 UNIT, SOCKET = DIST / "noticed.service", DIST / "noticed.socket"
 INSTANCE, INSTANCE_SOCKET = DIST / "noticed@.service", DIST / "noticed@.socket"
 POSTFIX, SOCKETS = DIST / "noticed-postfix.service", DIST / "noticed-postfix.socket"
+AGAIN = DIST / "noticed-postfix.timer"
 QUEUE = "/var/spool/postfix"  # Postfix's folder, as Debian has it
 DAEMON, AGENT, STRANGER = 64801, 64802, 64803  # accounts that no machine has; the daemon's group has its number
 WANTED = {
@@ -64,7 +65,7 @@ WANTED_OF_POSTFIX = {
     "User": ["postfix"],
     "Group": ["postfix"],
     "Restart": ["always"],
-    "RestartSec": ["1s"],
+    "RestartSec": ["100ms"],
     "StandardError": ["journal"],
     "SyslogFacility": ["mail"],
     "LogRateLimitIntervalSec": ["0"],
@@ -76,6 +77,12 @@ WANTED_OF_POSTFIX = {
     "IPAddressDeny": ["any"],
 }
 
+# A service that can't begin gives its sockets up after three tries, and is tried again later.
+WANTED_OF_FAILED = {
+    "StartLimitIntervalSec": ["10s"],
+    "StartLimitBurst": ["3"],
+    "OnFailure": [AGAIN.name],
+}
 
 # Of the unit of its sockets: whose they are, and that systemd makes no folder for them, which would be root's.
 WANTED_OF_SOCKETS = {
@@ -386,7 +393,7 @@ def check_installed(checks: Checks, machine: Machine, *commands: str):
         [],
     )
     units, folder = machine.path("/usr/lib/systemd/system"), machine.path("/usr/share/doc/noticed")
-    wanted = {it.name for kind in ("service", "socket") for it in DIST.glob(f"noticed*.{kind}")}
+    wanted = {it.name for kind in ("service", "socket", "timer") for it in DIST.glob(f"noticed*.{kind}")}
     checks.equal("units that are installed", {it.name for it in units.iterdir()}, wanted)
     manual = machine.path("/usr/share/man")
     for name, section in {it for unit in units.iterdir() for it in MANUAL.findall(unit.read_text())}:
@@ -416,7 +423,11 @@ def check_postfix(checks: Checks, machine: Machine):
     checks.equal(
         "for Postfix: it is there before Postfix", given["Unit"].get("Before"), ["postfix.service postfix@-.service"]
     )
-    checks.equal("for Postfix: the count of starts has no limit", given["Unit"].get("StartLimitIntervalSec"), ["0"])
+    for key, value in WANTED_OF_FAILED.items():
+        checks.equal(f"for Postfix: {key}", given["Unit"].get(key), value)
+    again = sections_of(AGAIN.read_text())
+    checks.equal("for Postfix: it ends with the service", again["Unit"].get("PartOf"), [POSTFIX.name])
+    checks.equal("for Postfix: when it is tried again", again["Timer"].get("OnUnitInactiveSec"), ["15s"])
     checks.equal("for Postfix: its sockets are there first", given["Unit"].get("Requires"), [SOCKETS.name])
     if not shutil.which("postconf") or not os.access("/usr/bin/python3", os.X_OK):
         checks.skip("the command for Postfix (needs Postfix's postconf and /usr/bin/python3)")
@@ -430,7 +441,8 @@ def check_postfix(checks: Checks, machine: Machine):
     words = [*([] if os.geteuid() else drop), *machine.here(command, {})]
     words = ["env", "--ignore-environment", f"MAIL_CONFIG={queue}", "PATH=/usr/sbin:/usr/bin", *words]
     ended = subprocess.run(words, stdin=subprocess.DEVNULL, capture_output=True, check=False, timeout=PATIENCE)
-    checks.equal("for Postfix: without sockets", (ended.returncode, ended.stderr[:8]), (1, b"fault 61"))
+    why = b"noticed-postfix: nobody can reach the sockets that it was given: noticed-bounce, noticed-defer, noticed-trace\n"
+    checks.equal("for Postfix: without sockets", (ended.returncode, ended.stderr), (1, why))
     (queue / "private").mkdir()
     os.chown(queue / "private", account.pw_uid, account.pw_gid)
     check_inherits(checks, words, queue, [it.replace(QUEUE, str(queue)) for it in sockets["Socket"]["ListenStream"]])
@@ -442,6 +454,7 @@ def check_inherits(checks: Checks, words: list, folder: Path, paths: list):
         given = [kept.enter_context(socket.socket(socket.AF_UNIX)) for _ in paths]
         for it, path in zip(given, paths):
             it.bind(path)
+            os.chmod(path, int(WANTED_OF_SOCKETS["Socket"]["SocketMode"][0], 8))
             it.listen()
         descriptors = [it.fileno() for it in given]
         held = [sys.executable, "-c", HANDS_ON, ",".join(map(str, descriptors)), *words]

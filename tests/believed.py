@@ -25,6 +25,9 @@ DATA = re.compile(r"^ *(?:pub )?data ")
 GENERATED = re.compile(r"Rattle\.(\w+)\.specs\.(?:declared|contracts)\.(.*)$")
 # What holds of a lane at each moment of a run: the theorem is about that too, though nobody outside the crate names it.
 LANE_RULE = ("impl", "dsn_crew", "LaneRule")
+# Definitions that only private contracts name, and that move to specs/inner/ when their crate changes next: the move
+# alone has all crates above proved again.
+TO_MOVE = {f"dsn_journal/specs/Marks.antt: {it}" for it in ("IsLeftByMarking", "KeepsOrMarks")}
 # What the rows of the table are about: some words, and the public calls and types whose contracts they are.
 ROWS = [
     ("`run_crew`: the concurrency theorem", ["dsn_crew::run_crew", "dsn_crew::LaneRule"]),
@@ -271,7 +274,7 @@ def main():
         if module.split(".")[1] in graph.crates:
             is_inner = module.split(".")[3] == "inner"
             said = f"{shown(module)}: {name} is named by {'no' if is_inner else 'a'} public contract"
-            checks.true(said, (node in believed) != is_inner)
+            checks.equal(said, (node in believed) != is_inner, f"{shown(module)}: {name}" not in TO_MOVE)
     checks.done()
 
 

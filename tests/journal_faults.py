@@ -25,7 +25,7 @@ SIZE = 65_536  # bytes of a journal here: its start is soon over
 MARKS = 4_096
 EIO, ENOSPC = 5, 28
 NOBODY = 65_534  # a user who may write nowhere
-NEW = {"journal": 67_108_864, "marks": 4_096}  # bytes of the files that a daemon makes
+NEW = {"journal": 67_108_864, "marks": 65_536}  # bytes of the files that a daemon makes
 WRITES = 1  # calls that write the zeros of a new journal
 STOPPED = 77  # the status of a daemon whose machine stopped
 FAULT = re.compile(rb"^fault (\d+)", re.M)
@@ -410,8 +410,8 @@ def calls(checks: Checks, room: Path, library: Path):
     for name, most, how in (
         ("journal", 11, {"FAIL_WITH": EIO}),
         ("journal", 11, {"FAIL_WITH": ENOSPC, "FAIL_ALL": 1}),
-        ("marks", 7, {"FAIL_WITH": EIO}),
-        ("marks", 7, {"FAIL_WITH": ENOSPC, "FAIL_ALL": 1}),
+        ("marks", 6, {"FAIL_WITH": EIO}),
+        ("marks", 6, {"FAIL_WITH": ENOSPC, "FAIL_ALL": 1}),
         ("outbox", 4, {"FAIL_WITH": EIO}),
         ("outbox", 4, {"FAIL_WITH": ENOSPC, "FAIL_ALL": 1}),
     ):
